@@ -1,0 +1,11 @@
+//! What every crate of the executive speaks of: texts as lists of bytes, numbers and their types, and the tokens of
+//! scripts.
+#![tactic(auto)]
+
+mod bytes;
+mod items;
+mod token;
+
+pub use bytes::Bytes;
+pub use items::Items;
+pub use token::{LexKind, Lexeme, Place, SyntaxError, SyntaxKind};
