@@ -1,0 +1,5 @@
+pub mod Tokens
+pub mod Constants
+pub mod Calls
+pub mod Statements
+pub mod Words
