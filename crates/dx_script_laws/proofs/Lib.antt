@@ -3,3 +3,4 @@ pub mod Constants
 pub mod Calls
 pub mod Statements
 pub mod Words
+pub mod Script

@@ -17,7 +17,7 @@ use Rattle.dx_grammar.proofs.Many.{Past, Shrinks}
 use Rattle.dx_grammar.proofs.Compose as compose
 use Rattle.dx_grammar.proofs.Compose.{Fills, opens_one, looks_near}
 use Rattle.dx_grammar.proofs.Laws as laws
-pub use Rattle.dx_grammar.proofs.Laws.{done, check, refuses, next, after, either, loop, in_other_words, where_less, turn, less, first, second, both, nothing_more, ends, anything, not_so, twice, more_opens, fills, fills_first, fills_second, fills_both}
+pub use Rattle.dx_grammar.proofs.Laws.{done, check, refuses, next, after, either, loop, in_other_words, where_less, turn, less, first, second, both, nothing_more, ends, anything, not_so, opens_in_other_words, twice, more_opens, fills, fills_first, fills_second, fills_both}
 use Rattle.dx_ast.specs.declared.sequencing.FrameVar.{FrameVar}
 use Rattle.dx_ast.specs.declared.sequencing.FrameVar.TheVariants as frames
 use Rattle.dx_ast.specs.declared.sequencing.Word.{Word}

@@ -19,8 +19,8 @@ use Rattle.dx_ast.specs.Classes.{Text, is_reserved, is_key, name_text, name_in, 
 use Rattle.dx_ast.specs.Grammar as grammar
 use Rattle.dx_ast.specs.Grammar.{Rule}
 use Rattle.dx_script_grammar.specs.Reading as reading
-use Rattle.dx_script_grammar.specs.Reading.{sees}
-use Rattle.dx_script_laws.proofs.Tokens.{Reads, done, next, after, either, first, in_other_words, both, name, sign, state, sees_near, name_near, sign_has, sign_lacks, name_lacks, name_name, state_name, state_lacks}
+use Rattle.dx_script_grammar.specs.Reading.{Tokens, sees}
+use Rattle.dx_script_laws.proofs.Tokens.{Reads, done, next, after, either, first, in_other_words, opens_in_other_words, both, name, sign, state, sees_near, name_near, sign_has, sign_lacks, name_lacks, name_name, state_name, state_lacks}
 use Rattle.dx_script_laws.proofs.Calls.{call}
 use Rattle.dx_script_laws.proofs.Statements.{Called, Single, Several, several, several_lacks, several_name, after_name}
 
@@ -345,3 +345,7 @@ unfolding reading.named
 named = in_other_words named_as_read (next name (λ n.
     after_name {Rest = λ n. WordOrSeveral (word_named n) n} (λ n. word_or_several (word_named n) n)
     (λ n. word_lacks (codes "(") refl refl (word_named n) n) (λ n. word_lacks (codes "=") refl refl (word_named n) n) n.1))
+
+-- and what one begins with
+pub named_opens : {Q : Tokens → Type 0} → Opens grammar.name Any Q → Opens (grammar.word ∣ grammar.statement) Any Q
+named_opens x = opens_in_other_words named_as_read (first x)
