@@ -3,9 +3,11 @@
 #![tactic(auto)]
 
 mod bytes;
+mod elem;
 mod items;
 mod token;
 
 pub use bytes::Bytes;
+pub use elem::{ElemType, in_range};
 pub use items::Items;
 pub use token::{LexKind, Lexeme, Place, SyntaxError, SyntaxKind};

@@ -1,0 +1,51 @@
+-- Classes of bytes, and what a text begins with.
+use Rattle.std.specs.Prelude.{ℕ, Bool, false, List, [], ◌∷◌, ◌==◌, ◌||◌, ◌&&◌}
+use Rattle.std.specs.Char.{is_ascii_digit, is_ascii_alphabetic}
+
+-- space, tab, carriage return and newline
+abbrev pub is_white : ℕ → Bool
+is_white b = b == 32 || b == 9 || b == 13 || b == 10
+
+abbrev pub is_digit : ℕ → Bool
+is_digit b = is_ascii_digit b
+
+abbrev pub is_zero : ℕ → Bool
+is_zero b = b == 48
+
+-- '+' and '-'
+abbrev pub is_plus_or_minus : ℕ → Bool
+is_plus_or_minus b = b == 43 || b == 45
+
+-- a letter or '_'
+abbrev pub is_name_start : ℕ → Bool
+is_name_start b = is_ascii_alphabetic b || b == 95
+
+-- a letter, a digit or '_'
+abbrev pub is_name_byte : ℕ → Bool
+is_name_byte b = is_name_start b || is_digit b
+
+-- the byte behind a backslash in a string: a quote, a backslash or 'n'
+abbrev pub is_escape : ℕ → Bool
+is_escape b = b == 34 || b == 92 || b == 110
+
+abbrev pub begins : ℕ → List ℕ → Bool
+begins c [] = false
+begins c (b ∷ rest) = b == c
+
+abbrev pub begins_two : ℕ → List ℕ → Bool
+begins_two c [] = false
+begins_two c (b ∷ rest) = b == c && begins c rest
+
+abbrev pub begins_digit : List ℕ → Bool
+begins_digit [] = false
+begins_digit (b ∷ rest) = is_digit b
+
+-- a digit, behind a sign or not
+abbrev pub begins_signed : List ℕ → Bool
+begins_signed [] = false
+begins_signed (b ∷ rest) = is_digit b || is_plus_or_minus b && begins_digit rest
+
+-- 'e' or 'E', a sign or none, and a digit
+abbrev pub begins_exponent : List ℕ → Bool
+begins_exponent [] = false
+begins_exponent (b ∷ rest) = (b == 101 || b == 69) && begins_signed rest

@@ -1,0 +1,37 @@
+-- What a function answered beside what stands in the text: the same, unless memory ran out.
+use Rattle.std.specs.Prelude.{◌≡◌, ℕ, ◌≤◌, Result, Ok, Err}
+use Rattle.dx_base.specs.declared.token.Lexeme.{Lexeme}
+use Rattle.dx_base.specs.declared.token.LexKind.{LexKind}
+use Rattle.dx_base.specs.declared.token.SyntaxError.{SyntaxError}
+use Rattle.dx_base.specs.Tokens.Reading.{Front}
+use Rattle.dx_lexer.specs.declared.fail.LexFail.{LexFail}
+use Rattle.dx_lexer.specs.declared.fail.LexFail.TheVariants as fail
+use Rattle.dx_lexer.specs.declared.fail.Fault.{Fault}
+use Rattle.dx_lexer.specs.declared.fail.Fault.TheVariants as fault
+
+abbrev pub Misses : Front → Fault → Type 0
+Misses front (fault.Wrong kind before) = front ≡ Err (kind, before)
+Misses front fault.Memory = Unit {0}
+
+-- for what a text begins with
+abbrev pub Finds : Front → Result (LexKind × ℕ) Fault → Type 0
+Finds front (Ok found) = front ≡ Ok found
+Finds front (Err f) = Misses front f
+
+abbrev pub IsFaultWithin : ℕ → Fault → Type 0
+IsFaultWithin n (fault.Wrong kind before) = before ≤ n
+IsFaultWithin n fault.Memory = Unit {0}
+
+-- the bytes that it counts are among these many
+abbrev pub IsAmong : ℕ → Result (LexKind × ℕ) Fault → Type 0
+IsAmong n (Ok found) = found.1 ≤ n
+IsAmong n (Err f) = IsFaultWithin n f
+
+abbrev pub Refuses : Result Lexeme SyntaxError → LexFail → Type 0
+Refuses there (fail.Refused e) = there ≡ Err e
+Refuses there fail.Memory = Unit {0}
+
+-- for the token at a place
+abbrev pub Answers : Result Lexeme SyntaxError → Result Lexeme LexFail → Type 0
+Answers there (Ok found) = there ≡ Ok found
+Answers there (Err f) = Refuses there f
