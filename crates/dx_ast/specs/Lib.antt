@@ -1,3 +1,4 @@
 pub mod Classes
 pub mod Values
 pub mod Grammar
+pub mod Script

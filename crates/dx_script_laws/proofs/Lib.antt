@@ -4,3 +4,4 @@ pub mod Calls
 pub mod Statements
 pub mod Words
 pub mod Script
+pub mod Texts
