@@ -1,0 +1,9 @@
+//! The parser of scripts: the statements of a text, or its first error.
+#![tactic(auto)]
+
+mod cursor;
+mod fail;
+mod words;
+
+pub use cursor::Cursor;
+pub use fail::ParseFail;
