@@ -1,8 +1,10 @@
 //! The parser of scripts: the statements of a text, or its first error.
 #![tactic(auto)]
 
+mod constants;
 mod cursor;
 mod fail;
+mod lists;
 mod words;
 
 pub use cursor::Cursor;

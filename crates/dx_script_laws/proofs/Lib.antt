@@ -5,3 +5,5 @@ pub mod Statements
 pub mod Words
 pub mod Script
 pub mod Texts
+pub mod Loops
+pub mod Ranges
