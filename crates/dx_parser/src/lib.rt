@@ -1,6 +1,7 @@
 //! The parser of scripts: the statements of a text, or its first error.
 #![tactic(auto)]
 
+mod calls;
 mod constants;
 mod cursor;
 mod fail;
