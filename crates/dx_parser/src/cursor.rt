@@ -1,7 +1,6 @@
 //! The tokens that are left of a text, with one of them in hand.
 
-ghost use Rattle.std.specs.Prelude.{◌≡◌, IfOk, IsTrue, ◌↔◌, codes};
-ghost use Rattle.std.specs.Str.{bytes_eq};
+ghost use Rattle.std.specs.Prelude.{◌≡◌, IfOk, IfErr};
 ghost use Rattle.dx_base.specs.Tokens.Reading.{IsReached};
 ghost use Rattle.dx_ast.specs.Classes as class;
 ghost use Rattle.dx_ast.specs.Script.{tokens_of};
@@ -74,7 +73,8 @@ fn refusal(current: &Result<Lexeme, SyntaxError>) -> ParseFail
 impl<'a> Cursor<'a> {
     /// At the first token of a text.
     pub fn new(alloc: Global, text: &'a [u8]) -> Result<Cursor<'a>, ParseFail>
-        ensures { IfOk result (λ cursor. cursor ≡ tokens_of text.now) }
+        ensures tokens { IfOk result (λ cursor. cursor ≡ tokens_of text.now) }
+        ensures memory { IfErr result (λ f. f ≡ ParseFail.Memory) }
     {
         let start = Place {
             offset: 0,

@@ -6,7 +6,10 @@ mod constants;
 mod cursor;
 mod fail;
 mod lists;
+mod macros;
+mod script;
+mod statements;
 mod words;
 
-pub use cursor::Cursor;
 pub use fail::ParseFail;
+pub use script::parse;
