@@ -1,2 +1,3 @@
 pub mod Taken
 pub mod Reached
+pub mod NameTables
