@@ -11,3 +11,6 @@ mod tokens;
 mod values;
 
 pub use run::{one_outcome, run_dxi};
+
+#[cfg(test)]
+mod tests;
