@@ -49,3 +49,7 @@ begins_signed (b ∷ rest) = is_digit b || is_plus_or_minus b && begins_digit re
 abbrev pub begins_exponent : List ℕ → Bool
 begins_exponent [] = false
 begins_exponent (b ∷ rest) = (b == 101 || b == 69) && begins_signed rest
+
+-- what makes the digits before it a number that isn't whole: a further digit, or an exponent
+abbrev pub begins_float : List ℕ → Bool
+begins_float rest = begins_digit rest || begins_exponent rest

@@ -10,7 +10,7 @@ use Rattle.dx_base.specs.declared.token.SyntaxKind.{SyntaxKind}
 use Rattle.dx_base.specs.declared.token.SyntaxKind.TheVariants as fault
 use Rattle.dx_base.specs.declared.token.SyntaxError.{SyntaxError}
 use Rattle.dx_base.specs.Tokens.Places.{first, behind, along, error_at}
-use Rattle.dx_base.specs.Tokens.Classes.{is_white, is_digit, is_zero, is_plus_or_minus, is_name_start, is_name_byte, is_escape, begins, begins_two, begins_digit, begins_exponent}
+use Rattle.dx_base.specs.Tokens.Classes.{is_white, is_digit, is_zero, is_plus_or_minus, is_name_start, is_name_byte, is_escape, begins, begins_two, begins_digit, begins_float}
 
 -- A token and how many bytes it has, or the kind of the fault and how many bytes are before it.
 abbrev pub Front : Type 0
@@ -22,7 +22,7 @@ Front = Result (LexKind × ℕ) (SyntaxKind × ℕ)
 -- the line is passed over.
 unfoldable pub after_gap : Bool → Bool → Place → List ℕ → Place × List ℕ
 after_gap fresh passing at [] = (at, [])
-after_gap fresh true at (b ∷ rest) = after_gap (b == 10) (not (b == 10)) (behind at b) rest
+after_gap fresh true at (b ∷ rest) = if b == 10 then after_gap true false (behind at b) rest else after_gap fresh true (behind at b) rest
 after_gap fresh false at (b ∷ rest) =
     if is_white b then after_gap (fresh || b == 10) false (behind at b) rest
     else if fresh && b == 36 || b == 47 && begins 47 rest then after_gap fresh true (behind at b) rest
@@ -75,10 +75,6 @@ fraction_len text =
     else if begins 46 text then 1 + prefix_len is_zero (drop 1 text)
     else 0
 
--- whether what follows makes the number a fraction or gives it an exponent
-abbrev pub is_float_by : List ℕ → Bool
-is_float_by rest = begins_digit rest || begins_exponent rest
-
 abbrev pub int_of : Option ℤ → ℕ → Front
 int_of (Some value) n = Ok (kind.Int value, n)
 int_of None n = Err (fault.NumberRange, 0)
@@ -86,7 +82,7 @@ int_of None n = Err (fault.NumberRange, 0)
 -- the number of these digits, before of its bytes being before them, and this many of a fraction behind them
 abbrev pub number_of : Bool → ℕ → List ℕ → ℕ → List ℕ → Front
 number_of negative before digits n rest =
-    if is_float_by (drop n rest) then Err (fault.FloatNumber, 0)
+    if begins_float (drop n rest) then Err (fault.FloatNumber, 0)
     else int_of (int_value negative digits) (before + length digits + n)
 
 abbrev pub number_by : Bool → ℕ → List ℕ → List ℕ → Front
