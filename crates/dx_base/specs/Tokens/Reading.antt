@@ -10,7 +10,8 @@ use Rattle.dx_base.specs.declared.token.SyntaxKind.{SyntaxKind}
 use Rattle.dx_base.specs.declared.token.SyntaxKind.TheVariants as fault
 use Rattle.dx_base.specs.declared.token.SyntaxError.{SyntaxError}
 use Rattle.dx_base.specs.Tokens.Places.{first, behind, along, error_at}
-use Rattle.dx_base.specs.Tokens.Classes.{is_white, is_digit, is_zero, is_plus_or_minus, is_name_start, is_name_byte, is_escape, begins, begins_two, begins_digit, begins_float}
+use Rattle.dx_base.specs.Tokens.Spelling.{max_name, value_of, unescaped}
+use Rattle.dx_base.specs.Tokens.Classes.{is_white, is_digit, is_zero, is_plus_or_minus, is_name_start, is_name_byte, is_escape, is_sign, begins, begins_two, begins_digit, begins_float}
 
 -- A token and how many bytes it has, or the kind of the fault and how many bytes are before it.
 abbrev pub Front : Type 0
@@ -29,9 +30,6 @@ after_gap fresh false at (b ∷ rest) =
     else (at, b ∷ rest)
 
 -- ---- names and frames
-
-abbrev pub max_name : ℕ
-max_name = 255
 
 -- the longest name
 unfoldable pub name_front : List ℕ → Front
@@ -52,13 +50,6 @@ unfoldable pub frame_front : List ℕ → Front
 frame_front text = frame_of (take (prefix_len is_name_byte text) text)
 
 -- ---- integers
-
-abbrev pub add_digit : ℕ → ℕ → ℕ
-add_digit n b = 10 * n + (b - 48)
-
--- the number of the digits
-abbrev pub value_of : List ℕ → ℕ
-value_of digits = fold add_digit 0 digits
 
 abbrev pub int_limit : ℕ
 int_limit = 2147483648
@@ -104,10 +95,6 @@ closed_at n escape (b ∷ rest) =
     else if b == 34 && not escape then Some n
     else closed_at (n + 1) (b == 92 && not escape) rest
 
--- the byte that a backslash and this byte stand for
-abbrev pub unescaped : ℕ → ℕ
-unescaped b = if b == 110 then 10 else b
-
 -- The bytes that the inside of a string stands for, or how many are before the backslash that is bad. Found is what
 -- the n bytes before stand for, and the flag says that a backslash followed these.
 unfoldable pub text_from : List ℕ → ℕ → Bool → List ℕ → Result (List ℕ) ℕ
@@ -129,10 +116,6 @@ unfoldable pub string_front : List ℕ → Front
 string_front text = string_by (closed_at 0 false text) text
 
 -- ---- tokens
-
--- ';' '=' '(' ')' ',' '[' ']' '{' '}' ':'
-abbrev pub is_sign : ℕ → Bool
-is_sign b = b == 59 || b == 61 || b == 40 || b == 41 || b == 44 || b == 91 || b == 93 || b == 123 || b == 125 || b == 58
 
 -- how many bytes the sign has that a text begins with, '->' and '..' among them
 abbrev pub sign_len : List ℕ → ℕ
