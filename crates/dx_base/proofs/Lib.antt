@@ -5,3 +5,4 @@ pub mod GapLaw
 pub mod Fronts
 pub mod WordLaw
 pub mod NumberLaw
+pub mod StringLaw
