@@ -60,5 +60,5 @@ sign_other b rest e = record {
   no_signed = λ p. absurd (grind (arith, nat_tests, common_steps));
   no_point = λ p. absurd (grind (arith, nat_tests, common_steps));
   no_string = λ p. grind (arith, nat_tests, common_steps);
-  no_frame = λ p. grind (arith, nat_tests, common_steps)
+  no_frame = λ p. grind (arith, nat_tests, common_steps);
 }

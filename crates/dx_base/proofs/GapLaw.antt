@@ -82,7 +82,7 @@ white_gap fresh b text white h = record {
   gap = White b ∷ h.gap;
   rest = h.rest;
   parts = ap (λ (t : List ℕ). b ∷ t) h.parts;
-  between = (white, h.between)
+  between = (white, h.between);
 }
 
 skipped_gap : (b : ℕ) (text : List ℕ) → b ≡ 36 → HasLine true text → HasGap true (b ∷ text)
@@ -90,7 +90,7 @@ skipped_gap b text e h = record {
   gap = Skipped h.line ∷ h.gap;
   rest = h.rest;
   parts = rw append_assoc (let p = h.parts in cc);
-  between = (refl, h.is, h.between)
+  between = (refl, h.is, h.between);
 }
 
 comment_gap : (fresh : Bool) (b c : ℕ) (text : List ℕ) → b ≡ 47 → c ≡ 47 → (line : List ℕ) (gap : List Piece) (rest : List ℕ) → c ∷ text ≡ line ++ (gap_bytes gap ++ rest)
@@ -103,7 +103,7 @@ comment_gap fresh b c text e f (d ∷ line) gap rest parts is between = record {
   gap = Comment line ∷ gap;
   rest = rest;
   parts = rw append_assoc cc;
-  between = (record { inside = is.inside.1; end = is.end }, between)
+  between = (record { inside = is.inside.1; end = is.end }, between);
 }
 
 slash_gap : (fresh : Bool) (b : ℕ) (text : List ℕ) → b ≡ 47 → begins 47 text ≡ true → HasLine fresh text → HasGap fresh (b ∷ text)
@@ -137,7 +137,7 @@ line_step fresh b text h l = by_test (b == 10) refl
       rest = h.rest;
       parts = h.parts;
       is = record { inside = tt; end = let stops : Stops is_in_line (b ∷ text) = rw e refl in subst (Stops is_in_line) h.parts stops };
-      between = h.between
+      between = h.between;
     }
     by_test false e = record {
       line = b ∷ l.line;
@@ -145,7 +145,7 @@ line_step fresh b text h l = by_test (b == 10) refl
       rest = l.rest;
       parts = ap (λ (t : List ℕ). b ∷ t) l.parts;
       is = record { inside = (rw e refl, l.is.inside); end = l.is.end };
-      between = l.between
+      between = l.between;
     }
 
 record HasBoth (text : List ℕ) : Type 0 where
@@ -155,7 +155,7 @@ record HasBoth (text : List ℕ) : Type 0 where
 both : (text : List ℕ) → HasBoth text
 both [] = record {
   gap = λ fresh. record { gap = []; rest = []; parts = refl; between = tt };
-  line = λ fresh. record { line = []; gap = []; rest = []; parts = refl; is = record { inside = tt; end = tt }; between = tt }
+  line = λ fresh. record { line = []; gap = []; rest = []; parts = refl; is = record { inside = tt; end = tt }; between = tt };
 }
 both (b ∷ text) =
     let h = both text in

@@ -6,3 +6,6 @@ pub mod Fronts
 pub mod WordLaw
 pub mod NumberLaw
 pub mod StringLaw
+pub mod SignLaw
+pub mod FrontLaw
+pub mod StandingLaw

@@ -52,7 +52,7 @@ spanned p text = record {
   rest = drop (prefix_len p text) text;
   parts = sym (take-append-drop (prefix_len p text) text);
   each = each_taken p text;
-  stops = stops_behind p text
+  stops = stops_behind p text;
 }
 
 pub and_no : (x y : Bool) → (x ≡ true → y ≡ false) → (x && y) ≡ false

@@ -70,7 +70,7 @@ escape_closes text c = record {
   items = Escaped c.byte ∷ c.closes.items;
   rest = c.closes.rest;
   parts = let p = c.parts in let q = c.closes.parts in cc;
-  lawful = (c.in_line, c.closes.lawful)
+  lawful = (c.in_line, c.closes.lawful);
 }
 
 plain_closes : (b : ℕ) (text : List ℕ) → is_plain b ≡ true → Closes text → Closes (b ∷ text)
@@ -78,7 +78,7 @@ plain_closes b text plain c = record {
   items = Plain b ∷ c.items;
   rest = c.rest;
   parts = ap (λ (t : List ℕ). b ∷ t) c.parts;
-  lawful = (plain, c.lawful)
+  lawful = (plain, c.lawful);
 }
 
 at_newline : (n : ℕ) (escape : Bool) (b : ℕ) (rest : List ℕ) → (b == 10) ≡ true → closed_at n escape (b ∷ rest) ≡ None
@@ -168,7 +168,7 @@ bad_behind first more good is = record {
   back = is.back;
   parts = ap (λ (items : List Item). first ∷ items) is.parts;
   good = good is.front is.good;
-  wrong = is.wrong
+  wrong = is.wrong;
 }
 
 pub items_decided : (items : List Item) → AreGood items ⊎ IsBad items
@@ -219,6 +219,6 @@ closes_or_open inside = by_answer (closed_at 0 false inside) refl
     by_answer None e = inr (record {
       inside = inside;
       parts = refl;
-      unclosed = λ items behind lawful parts. let closed : closed_at 0 false (item_bytes items ++ 34 ∷ behind) ≡ Some (0 + length (item_bytes items)) = closed_read 0 items behind lawful in absurd cc
+      unclosed = λ items behind lawful parts. let closed : closed_at 0 false (item_bytes items ++ 34 ∷ behind) ≡ Some (0 + length (item_bytes items)) = closed_read 0 items behind lawful in absurd cc;
     })
     by_answer (Some m) e = inl (closed_items 0 false inside m e)

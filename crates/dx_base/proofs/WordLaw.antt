@@ -39,7 +39,7 @@ long_read name rest is long stops =
 
 -- ---- frames
 
-frame_tested : (word : List ℕ) → IsFrame word → is_frame word ≡ true
+pub frame_tested : (word : List ℕ) → IsFrame word → is_frame word ≡ true
 frame_tested word startframe = refl
 frame_tested word endframe = refl
 frame_tested word deltaframe = refl
@@ -74,14 +74,14 @@ frame_known word e =
     let c = bytes_eq word (codes "deltaframe") in
     let d = bytes_eq word (codes "nextframe") in
     elim (either_true (((a || b) || c) || d) (bytes_eq word (codes "frame")) e) [
-      inr is ↦ is_word word (codes "frame") frame is
-    | inl e ↦ elim (either_true ((a || b) || c) d e) [
-        inr is ↦ is_word word (codes "nextframe") nextframe is
-      | inl e ↦ elim (either_true (a || b) c e) [
-          inr is ↦ is_word word (codes "deltaframe") deltaframe is
-        | inl e ↦ elim (either_true a b e) [
-            inr is ↦ is_word word (codes "endframe") endframe is
-          | inl is ↦ is_word word (codes "startframe") startframe is
+      | inr is ↦ is_word word (codes "frame") frame is
+      | inl e ↦ elim (either_true ((a || b) || c) d e) [
+        | inr is ↦ is_word word (codes "nextframe") nextframe is
+        | inl e ↦ elim (either_true (a || b) c e) [
+          | inr is ↦ is_word word (codes "deltaframe") deltaframe is
+          | inl e ↦ elim (either_true a b e) [
+            | inr is ↦ is_word word (codes "endframe") endframe is
+            | inl is ↦ is_word word (codes "startframe") startframe is
           ]
         ]
       ]
