@@ -1,4 +1,5 @@
 ghost use Rattle.std.specs.Prelude.{◌≡◌, ◌≤◌, ◌+◌, ◌<◌, ◌^◌, length, min};
+ghost use Rattle.dx_base.specs.Tokens.Spelling.{value_of};
 ghost use Rattle.dx_base.specs.Tokens.Reading as reading;
 ghost use Rattle.dx_lexer.specs.Answers.{Finds, IsAmong};
 
@@ -41,7 +42,7 @@ const BEYOND: u64 = 10_000_000_000;
 
 /// The number of the digits, or a bound that no int passes.
 fn value_of(digits: &[u8]) -> u64
-    ensures { result ≡ min (reading.value_of digits.now) 10000000000 }
+    ensures { result ≡ min (value_of digits.now) 10000000000 }
 {
     let mut n = 0;
     for b in digits {
