@@ -1,8 +1,10 @@
 -- What a function answered beside what stands in the text: the same, unless memory ran out.
-use Rattle.std.specs.Prelude.{◌≡◌, ℕ, ◌≤◌, Result, Ok, Err}
+use Rattle.std.specs.Prelude.{◌≡◌, ℕ, ◌≤◌, List, Result, Ok, Err}
+use Rattle.dx_base.specs.declared.token.Place.{Place}
 use Rattle.dx_base.specs.declared.token.Lexeme.{Lexeme}
 use Rattle.dx_base.specs.declared.token.LexKind.{LexKind}
 use Rattle.dx_base.specs.declared.token.SyntaxError.{SyntaxError}
+use Rattle.dx_base.specs.Tokens.Standing.{IsOnlyLexeme, IsOnlyError}
 use Rattle.dx_base.specs.Tokens.Reading.{Front}
 use Rattle.dx_lexer.specs.declared.fail.LexFail.{LexFail}
 use Rattle.dx_lexer.specs.declared.fail.LexFail.TheVariants as fail
@@ -35,3 +37,12 @@ Refuses there fail.Memory = Unit {0}
 abbrev pub Answers : Result Lexeme SyntaxError → Result Lexeme LexFail → Type 0
 Answers there (Ok found) = there ≡ Ok found
 Answers there (Err f) = Refuses there f
+
+abbrev pub StandsAsFail : List ℕ → Place → LexFail → Type 0
+StandsAsFail text at (fail.Refused e) = IsOnlyError text at e
+StandsAsFail text at fail.Memory = Unit {0}
+
+-- The token that was answered stands at the place, and nothing else does; or the error, and nothing else.
+abbrev pub Stands : List ℕ → Place → Result Lexeme LexFail → Type 0
+Stands text at (Ok found) = IsOnlyLexeme text at found
+Stands text at (Err f) = StandsAsFail text at f

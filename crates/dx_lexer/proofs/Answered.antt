@@ -1,0 +1,18 @@
+-- What was answered stands at the place, and the end of a token is reached again.
+use Rattle.std.proofs.Common.{◌≡◌, ℕ, List, Result, Ok, Err, IfOk}
+use Rattle.dx_base.specs.declared.token.Place.{Place}
+use Rattle.dx_base.specs.declared.token.Lexeme.{Lexeme}
+use Rattle.dx_base.specs.Tokens.Reading.{IsReached, behind_token, lexeme_at}
+use Rattle.dx_base.proofs.StandingLaw.{only_lexeme, only_error}
+use Rattle.dx_lexer.specs.declared.fail.LexFail.{LexFail}
+use Rattle.dx_lexer.specs.declared.fail.LexFail.TheVariants as fail
+use Rattle.dx_lexer.specs.Answers.{Answers, Stands}
+
+pub stands : (text : List ℕ) (at : Place) (result : Result Lexeme LexFail) → Answers (lexeme_at text at) result → Stands text at result
+stands text at (Ok found) e = only_lexeme text at found e
+stands text at (Err (fail.Refused error)) e = only_error text at error e
+stands text at (Err fail.Memory) e = tt
+
+pub reached : (text : List ℕ) (at : Place) (result : Result Lexeme LexFail) → IsReached text at → Answers (lexeme_at text at) result → IfOk result (λ found. IsReached text found.to)
+reached text at (Ok found) before e = behind_token at found before e
+reached text at (Err f) before e = tt
