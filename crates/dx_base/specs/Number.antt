@@ -2,7 +2,7 @@
 use Rattle.std.specs.Prelude.{ℕ, ℤ, pos, neg_ℤ, Bool, true, false, ◌==◌, ◌&&◌, List, [], ◌∷◌, take, drop, Option, Some, None, int_le, if◌then◌else◌}
 use Rattle.std.specs.List.{list_all, prefix_len}
 use Rattle.dx_base.specs.Tokens.Classes.{is_digit, is_zero, is_plus_or_minus}
-use Rattle.dx_base.specs.Tokens.Reading.{value_of}
+use Rattle.dx_base.specs.Tokens.Spelling.{value_of}
 
 -- nothing, or a point and any number of zeros
 abbrev pub is_fraction : List ℕ → Bool

@@ -2,7 +2,7 @@ ghost use Rattle.std.specs.Prelude.{◌≡◌, ◌≤◌, ◌-◌, ◌^◌, leng
 ghost use Rattle.std.specs.List.{list_all, prefix_len};
 ghost use Rattle.dx_base.specs.Number as spec;
 ghost use Rattle.dx_base.specs.Tokens.Classes.{is_digit, is_zero};
-ghost use Rattle.dx_base.specs.Tokens.Reading as reading;
+ghost use Rattle.dx_base.specs.Tokens.Spelling.{value_of as digits_value};
 
 /// The number that a word of a native file spells: a sign or none, digits, and behind them a point with any number of
 /// zeros, also none, or nothing. None where the word is no such number, or where the number is no `i64`.
@@ -60,7 +60,7 @@ fn are_zeros(s: &[u8]) -> bool
 
 /// The number of the digits, or the greatest `u64` where it is above that.
 fn value_of(digits: &[u8]) -> u64
-    ensures { result ≡ min (reading.value_of digits.now) (2 ^ 64 - 1) }
+    ensures { result ≡ min (digits_value digits.now) (2 ^ 64 - 1) }
 {
     let mut n = 0u64;
     for b in digits {
