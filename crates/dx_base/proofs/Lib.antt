@@ -9,3 +9,4 @@ pub mod StringLaw
 pub mod SignLaw
 pub mod FrontLaw
 pub mod StandingLaw
+pub mod PlaceLaw
