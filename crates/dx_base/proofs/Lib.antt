@@ -10,3 +10,4 @@ pub mod StringLaw
 pub mod SignLaw
 pub mod FrontLaw
 pub mod StandingLaw
+pub mod PlaceLaw

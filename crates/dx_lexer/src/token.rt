@@ -3,7 +3,7 @@ ghost use Rattle.dx_base.specs.Tokens.Places as place;
 ghost use Rattle.dx_base.specs.Tokens.Places.{IsWithin};
 ghost use Rattle.dx_base.specs.Tokens.Reading as reading;
 ghost use Rattle.dx_base.specs.Tokens.Reading.{IsReached, lexeme_at};
-ghost use Rattle.dx_lexer.specs.Answers.{Answers, Finds, IsAmong, Stands};
+ghost use Rattle.dx_lexer.specs.Answers.{Answers, Finds, IsAmong, LiesIn, Stands};
 
 use crate::bytes::{begins, begins_digit, is_name_start};
 use crate::fail::{Fault, LexFail};
@@ -29,6 +29,7 @@ pub fn next(alloc: Global, text: &[u8], at: Place) -> Result<Lexeme, LexFail>
     requires { IsReached text.now at }
     ensures reads { Answers (lexeme_at text.now at) result }
     ensures stands { Stands text.now at result }
+    ensures places { LiesIn text.now result }
     ensures reached { IfOk result (λ found. IsReached text.now found.to) }
 {
     read(alloc, text, at)
@@ -113,10 +114,8 @@ fn sign_len(text: &[u8]) -> usize
     ensures within { result ≤ length text.now }
 {
     match text {
-        [
-            b';' | b'=' | b'(' | b')' | b',' | b'[' | b']' | b'{' | b'}' | b':',
-            ..
-        ] => 1,
+        [b';' | b'=' | b',' | b':', ..] => 1,
+        [b'(' | b')' | b'[' | b']' | b'{' | b'}', ..] => 1,
         [b'-', b'>', ..] | [b'.', b'.', ..] => 2,
         _ => 0,
     }

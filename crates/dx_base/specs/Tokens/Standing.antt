@@ -4,7 +4,7 @@ use Rattle.dx_base.specs.declared.token.Place.{Place}
 use Rattle.dx_base.specs.declared.token.Lexeme.{Lexeme}
 use Rattle.dx_base.specs.declared.token.SyntaxKind.{SyntaxKind}
 use Rattle.dx_base.specs.declared.token.SyntaxError.{SyntaxError}
-use Rattle.dx_base.specs.Tokens.Places.{behind_all, error_at}
+use Rattle.dx_base.specs.Tokens.Places.{behind_all, error_at, IsPlaceOf}
 use Rattle.dx_base.specs.Tokens.Gaps.{Piece, gap_bytes, IsGap}
 use Rattle.dx_base.specs.Tokens.Spelling.{IsToken}
 use Rattle.dx_base.specs.Tokens.Refusals.{IsRefusal}
@@ -40,3 +40,14 @@ pub record IsOnlyError (text : List ℕ) (at : Place) (error : SyntaxError) : Ty
   pub stands : IsError text at error
   pub only : (other : SyntaxError) → IsError text at other → other ≡ error
   pub no_lexeme : (found : Lexeme) → IsLexeme text at found → ⊥
+
+-- both places of a token are places of the text
+pub record HasPlaces (text : List ℕ) (found : Lexeme) : Type 0 where
+  pub from : IsPlaceOf text found.from
+  pub to : IsPlaceOf text found.to
+
+-- the line and the column of an error are those of a place of the text
+pub record HasPlace (text : List ℕ) (error : SyntaxError) : Type 0 where
+  pub place : Place
+  pub in_text : IsPlaceOf text place
+  pub same : error ≡ error_at error.kind place
