@@ -1,6 +1,6 @@
 -- Places that a reading comes to lie in the text, each token but the end goes on, and the end is at the text's end.
 use Rattle.std.specs.Prelude.{◌==◌, ◌||◌, ◌&&◌}
-use Rattle.std.proofs.Common.{◌≡◌, ℕ, suc, zero, ◌+◌, ◌-◌, ◌<◌, ◌≤◌, List, [], ◌∷◌, length, drop, Option, Some, None, Result, Ok, Err, Bool, true, false, cond, not, refl, sym, ap, subst, ◌∙◌, arith, length-drop, add-zero}
+use Rattle.std.proofs.Common.{◌≡◌, ℕ, ◌+◌, ◌-◌, ◌<◌, ◌≤◌, List, [], ◌∷◌, length, drop, Ok, Err, Bool, true, false, cond, not, refl, sym, ap, subst, ◌∙◌, arith, length-drop, add-zero}
 use Rattle.dx_base.specs.declared.token.Place.{Place}
 use Rattle.dx_base.specs.declared.token.Lexeme.{Lexeme}
 use Rattle.dx_base.specs.declared.token.LexKind.{LexKind}
@@ -36,7 +36,12 @@ StandsAt low total g = Stands low total g.0 g.1
 pub gap_stands : (low total : ℕ) (fresh passing : Bool) (p : Place) (text : List ℕ) → Stands low total p text → StandsAt low total (after_gap fresh passing p text)
 unfolding after_gap
 gap_stands low total fresh passing p [] s = s
-gap_stands low total fresh true p (b ∷ rest) s = gap_stands low total (b == 10) (not (b == 10)) (behind p b) rest (step_stands low total p b rest s)
+gap_stands low total fresh true p (b ∷ rest) s = by_test (b == 10) (gap_stands low total true false (behind p b) rest (step_stands low total p b rest s)) (gap_stands low total fresh true (behind p b) rest (step_stands low total p b rest s))
+  where
+    by_test : (newline : Bool) → StandsAt low total (after_gap true false (behind p b) rest) → StandsAt low total (after_gap fresh true (behind p b) rest)
+        → StandsAt low total (cond newline (after_gap true false (behind p b) rest) (after_gap fresh true (behind p b) rest))
+    by_test true f g = f
+    by_test false f g = g
 gap_stands low total fresh false p (b ∷ rest) s = by_test (is_white b) (fresh && b == 36 || b == 47 && begins 47 rest) (gap_stands low total (fresh || b == 10) false (behind p b) rest (step_stands low total p b rest s)) (gap_stands low total fresh true (behind p b) rest (step_stands low total p b rest s))
   where
     by_test : (white passed : Bool) → StandsAt low total (after_gap (fresh || b == 10) false (behind p b) rest) → StandsAt low total (after_gap fresh true (behind p b) rest)

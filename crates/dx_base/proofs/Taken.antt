@@ -7,8 +7,8 @@ use Rattle.std.proofs.lemmas.List.Sums.{prefix_len-le-length}
 use Rattle.dx_base.specs.declared.token.LexKind.{LexKind}
 use Rattle.dx_base.specs.declared.token.LexKind.TheVariants as kind
 use Rattle.dx_base.specs.declared.token.SyntaxKind.TheVariants as fault
-use Rattle.dx_base.specs.Tokens.Classes.{is_digit, is_zero, is_plus_or_minus, is_name_start, is_name_byte, begins, begins_digit}
-use Rattle.dx_base.specs.Tokens.Reading.{Front, front, name_front, is_frame, frame_of, frame_front, int_value, fraction_len, is_float_by, int_of, number_front, closed_at, text_from, string_of, string_by, string_front, is_sign, sign_len, sign_of, sign_front}
+use Rattle.dx_base.specs.Tokens.Classes.{is_digit, is_zero, is_plus_or_minus, is_name_start, is_name_byte, is_sign, begins, begins_digit, begins_float}
+use Rattle.dx_base.specs.Tokens.Reading.{Front, front, name_front, is_frame, frame_of, frame_front, int_value, fraction_len, int_of, number_front, closed_at, text_from, string_of, string_by, string_front, sign_len, sign_of, sign_front}
 
 -- a token that isn't the end takes some of n bytes
 abbrev pub Takes : ℕ → Front → Type 0
@@ -58,7 +58,7 @@ takes_number negative before text n some le =
     let digits : length (take k text) ≡ k = length-take-le k text k_le in
     let f_le : fraction_len (drop k text) ≤ length (drop k text) = fraction_le (drop k text) in
     let rest : length (drop k text) ≡ length text - k = length-drop k text in
-    either (is_float_by (drop (fraction_len (drop k text)) (drop k text))) n _ _ (λ h. tt) (λ h. takes_int (int_value negative (take k text)) n (before + length (take k text) + fraction_len (drop k text)) (omega arith) (omega arith))
+    either (begins_float (drop (fraction_len (drop k text)) (drop k text))) n _ _ (λ h. tt) (λ h. takes_int (int_value negative (take k text)) n (before + length (take k text) + fraction_len (drop k text)) (omega arith) (omega arith))
 
 closed_within : (n : ℕ) (escape : Bool) (text : List ℕ) (m : ℕ) → closed_at n escape text ≡ Some m → m < n + length text
 unfolding closed_at

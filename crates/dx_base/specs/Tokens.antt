@@ -1,4 +1,8 @@
--- The tokens of scripts: places and bytes, and what stands at a place of a text.
+-- The tokens of scripts. Gaps, Spelling, Refusals and Standing say what stands at a place of a text; Reading computes it.
 pub mod Places
 pub mod Classes
+pub mod Gaps
+pub mod Spelling
+pub mod Refusals
+pub mod Standing
 pub mod Reading

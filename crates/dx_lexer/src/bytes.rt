@@ -59,13 +59,20 @@ fn begins_signed(text: &[u8]) -> bool
     }
 }
 
-pub fn begins_exponent(text: &[u8]) -> bool
+fn begins_exponent(text: &[u8]) -> bool
     ensures { result ≡ class.begins_exponent text.now }
 {
     match text {
         [] => false,
         [b, rest @ ..] => (*b == b'e' || *b == b'E') && begins_signed(rest),
     }
+}
+
+/// Whether the digits before are no whole number: by a further digit, or by an exponent.
+pub fn begins_float(rest: &[u8]) -> bool
+    ensures { result ≡ class.begins_float rest.now }
+{
+    begins_digit(rest) || begins_exponent(rest)
 }
 
 /// How many bytes of a name a text begins with.

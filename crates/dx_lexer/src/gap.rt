@@ -19,8 +19,8 @@ pub fn after_gap(at: Place, text: &[u8]) -> (Place, &[u8])
     while let [b, after @ ..] = rest {
         let b = *b;
         if passing {
-            fresh = b == b'\n';
-            passing = !fresh;
+            passing = b != b'\n';
+            fresh = fresh || !passing;
         } else if is_white(b) {
             fresh = fresh || b == b'\n';
         } else if fresh && b == b'$' || b == b'/' && begins(b'/', after) {

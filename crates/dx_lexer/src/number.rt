@@ -1,8 +1,9 @@
 ghost use Rattle.std.specs.Prelude.{◌≡◌, ◌≤◌, ◌+◌, ◌<◌, ◌^◌, length, min};
+ghost use Rattle.dx_base.specs.Tokens.Spelling.{value_of};
 ghost use Rattle.dx_base.specs.Tokens.Reading as reading;
 ghost use Rattle.dx_lexer.specs.Answers.{Finds, IsAmong};
 
-use crate::bytes::{begins, begins_digit, begins_exponent, begins_two, digit_len, zero_len};
+use crate::bytes::{begins, begins_float, begins_two, digit_len, zero_len};
 use crate::fail::Fault;
 use dx_base::{LexKind, SyntaxKind};
 
@@ -15,7 +16,7 @@ pub fn number(negative: bool, before: usize, text: &[u8]) -> Result<(LexKind, us
 {
     let (digits, rest) = text.split_at(digit_len(text));
     let fraction = fraction_len(rest);
-    if is_float_by(&rest[fraction..]) {
+    if begins_float(&rest[fraction..]) {
         return Err(Fault::Wrong(SyntaxKind::FloatNumber, 0));
     }
     match int_value(negative, digits) {
@@ -36,18 +37,12 @@ fn fraction_len(text: &[u8]) -> usize
     1 + zero_len(&text[1..])
 }
 
-fn is_float_by(rest: &[u8]) -> bool
-    ensures { result ≡ reading.is_float_by rest.now }
-{
-    begins_digit(rest) || begins_exponent(rest)
-}
-
 /// More than the distance of any int from zero.
 const BEYOND: u64 = 10_000_000_000;
 
 /// The number of the digits, or a bound that no int passes.
 fn value_of(digits: &[u8]) -> u64
-    ensures { result ≡ min (reading.value_of digits.now) 10000000000 }
+    ensures { result ≡ min (value_of digits.now) 10000000000 }
 {
     let mut n = 0;
     for b in digits {

@@ -1,5 +1,6 @@
 ghost use Rattle.std.specs.Prelude.{◌≡◌, ◌≤◌, ◌+◌, ◌<◌, length, IfSome, [], false};
 ghost use Rattle.dx_base.specs.Tokens.Classes as class;
+ghost use Rattle.dx_base.specs.Tokens.Spelling.{unescaped};
 ghost use Rattle.dx_base.specs.Tokens.Reading as reading;
 ghost use Rattle.dx_lexer.specs.Answers.{Finds, IsAmong};
 
@@ -83,7 +84,7 @@ fn is_escape(b: u8) -> bool
 }
 
 fn unescaped(b: u8) -> u8
-    ensures { result ≡ reading.unescaped b }
+    ensures { result ≡ unescaped b }
 {
     if b == b'n' { b'\n' } else { b }
 }

@@ -1,9 +1,9 @@
-ghost use Rattle.std.specs.Prelude.{◌≡◌, ◌≤◌, ◌+◌, ◌<◌, ◌^◌, length};
+ghost use Rattle.std.specs.Prelude.{◌≡◌, ◌≤◌, length, IfOk};
 ghost use Rattle.dx_base.specs.Tokens.Places as place;
 ghost use Rattle.dx_base.specs.Tokens.Places.{IsWithin};
 ghost use Rattle.dx_base.specs.Tokens.Reading as reading;
 ghost use Rattle.dx_base.specs.Tokens.Reading.{IsReached, lexeme_at};
-ghost use Rattle.dx_lexer.specs.Answers.{Answers, Finds, IsAmong};
+ghost use Rattle.dx_lexer.specs.Answers.{Answers, Finds, IsAmong, LiesIn, Stands};
 
 use crate::bytes::{begins, begins_digit, is_name_start};
 use crate::fail::{Fault, LexFail};
@@ -14,9 +14,29 @@ use crate::word::{frame, name};
 use dx_base::{Bytes, LexKind, Lexeme, Place, SyntaxError, SyntaxKind};
 use std::alloc::Global;
 
-/// The token at a place of a text, behind white space, comments and skipped lines.
-#[tactic(auto, unfolding(dx_base::specs::Tokens::Reading::lexeme_at))]
+/// The token at a place of a text, behind white space, comments and lines that begin with a dollar sign, with the places
+/// of its first byte and behind its last one.
+///
+/// The place is the start of the text, or the `to` of a token that was read from such a place. The end of the text is a
+/// token too. Where bytes are no token the refusal says why and where:
+///
+/// - `FloatNumber` at a number with a fraction that isn't zero, with an exponent, or that begins with its point;
+/// - `NumberRange` at an integer that is no `i32`;
+/// - `Syntax` at a name of more than 255 bytes, at an `@` without one of the five words of frames, at a quote that isn't
+///   closed in its line, at a byte with which no token begins, and in a string that is closed at the first backslash that
+///   isn't before a quote, a backslash or an `n`.
 pub fn next(alloc: Global, text: &[u8], at: Place) -> Result<Lexeme, LexFail>
+    requires { IsReached text.now at }
+    ensures reads { Answers (lexeme_at text.now at) result }
+    ensures stands { Stands text.now at result }
+    ensures places { LiesIn text.now result }
+    ensures reached { IfOk result (λ found. IsReached text.now found.to) }
+{
+    read(alloc, text, at)
+}
+
+#[tactic(auto, unfolding(dx_base::specs::Tokens::Reading::lexeme_at))]
+fn read(alloc: Global, text: &[u8], at: Place) -> Result<Lexeme, LexFail>
     requires { IsReached text.now at }
     ensures { Answers (lexeme_at text.now at) result }
 {
@@ -28,10 +48,9 @@ pub fn next(alloc: Global, text: &[u8], at: Place) -> Result<Lexeme, LexFail>
             from,
             to: along(from, len),
         }),
-        Err(Fault::Wrong(kind, before)) => Err(LexFail::Refused(error_at(
-            kind,
-            along(from, before),
-        ))),
+        Err(Fault::Wrong(kind, before)) => {
+            Err(LexFail::Refused(error_at(kind, along(from, before))))
+        }
         Err(Fault::Memory) => Err(LexFail::Memory),
     }
 }
@@ -95,10 +114,8 @@ fn sign_len(text: &[u8]) -> usize
     ensures within { result ≤ length text.now }
 {
     match text {
-        [
-            b';' | b'=' | b'(' | b')' | b',' | b'[' | b']' | b'{' | b'}' | b':',
-            ..
-        ] => 1,
+        [b';' | b'=' | b',' | b':', ..] => 1,
+        [b'(' | b')' | b'[' | b']' | b'{' | b'}', ..] => 1,
         [b'-', b'>', ..] | [b'.', b'.', ..] => 2,
         _ => 0,
     }

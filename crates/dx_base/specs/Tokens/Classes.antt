@@ -1,5 +1,5 @@
 -- Classes of bytes, and what a text begins with.
-use Rattle.std.specs.Prelude.{ℕ, Bool, false, List, [], ◌∷◌, ◌==◌, ◌||◌, ◌&&◌}
+use Rattle.std.specs.Prelude.{◌≡◌, ℕ, Bool, true, false, not, List, [], ◌∷◌, ◌==◌, ◌||◌, ◌&&◌}
 use Rattle.std.specs.Char.{is_ascii_digit, is_ascii_alphabetic}
 
 -- space, tab, carriage return and newline
@@ -28,6 +28,24 @@ is_name_byte b = is_name_start b || is_digit b
 abbrev pub is_escape : ℕ → Bool
 is_escape b = b == 34 || b == 92 || b == 110
 
+-- any byte but a newline
+abbrev pub is_in_line : ℕ → Bool
+is_in_line b = not (b == 10)
+
+-- ';' '=' '(' ')' ',' '[' ']' '{' '}' ':'
+abbrev pub is_sign : ℕ → Bool
+is_sign b = b == 59 || b == 61 || b == 40 || b == 41 || b == 44 || b == 91 || b == 93 || b == 123 || b == 125 || b == 58
+
+-- each of the bytes is of the class
+abbrev pub Each : (ℕ → Bool) → List ℕ → Type 0
+Each class [] = Unit {0}
+Each class (b ∷ rest) = (class b ≡ true) × Each class rest
+
+-- the next byte, if there is one, isn't of the class
+abbrev pub Stops : (ℕ → Bool) → List ℕ → Type 0
+Stops class [] = Unit {0}
+Stops class (b ∷ rest) = class b ≡ false
+
 abbrev pub begins : ℕ → List ℕ → Bool
 begins c [] = false
 begins c (b ∷ rest) = b == c
@@ -49,3 +67,7 @@ begins_signed (b ∷ rest) = is_digit b || is_plus_or_minus b && begins_digit re
 abbrev pub begins_exponent : List ℕ → Bool
 begins_exponent [] = false
 begins_exponent (b ∷ rest) = (b == 101 || b == 69) && begins_signed rest
+
+-- what makes the digits before it a number that isn't whole: a further digit, or an exponent
+abbrev pub begins_float : List ℕ → Bool
+begins_float rest = begins_digit rest || begins_exponent rest

@@ -1,5 +1,5 @@
 -- Places in a text: the first one, the one behind some bytes, and the error that stands at one.
-use Rattle.std.specs.Prelude.{ℕ, ◌+◌, ◌<◌, ◌≤◌, ◌^◌, ◌==◌, List, fold, if◌then◌else◌}
+use Rattle.std.specs.Prelude.{◌≡◌, ℕ, ◌+◌, ◌<◌, ◌≤◌, ◌^◌, ◌==◌, List, fold, take, if◌then◌else◌}
 use Rattle.dx_base.specs.declared.token.Place.{Place}
 use Rattle.dx_base.specs.declared.token.SyntaxKind.{SyntaxKind}
 use Rattle.dx_base.specs.declared.token.SyntaxError.{SyntaxError}
@@ -31,3 +31,8 @@ pub record IsWithin (p : Place) (n : ℕ) : Type 0 where
   pub offset : p.offset + n < 2 ^ 63
   pub line : p.line ≤ p.offset + 1
   pub column : p.column ≤ p.offset + 1
+
+-- The place is the one behind all the bytes of the text that are before it: its line is one more than the newlines
+-- among these, and its column one more than the bytes behind the last of them.
+abbrev pub IsPlaceOf : List ℕ → Place → Type 0
+IsPlaceOf text p = p ≡ behind_all first (take p.offset text)

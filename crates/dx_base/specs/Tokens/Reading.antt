@@ -1,5 +1,5 @@
 -- The token at a place of a text as a function, which contracts cite.
-use Rattle.std.specs.Prelude.{◌≡◌, ℕ, zero, suc, ◌+◌, ◌-◌, ◌*◌, min, Bool, true, false, not, ◌==◌, ◌||◌, ◌&&◌, nat_lt, nat_le, List, [], ◌∷◌, ◌++◌, length, take, drop, fold, Option, Some, None, Result, Ok, Err, ℤ, pos, neg_ℤ, if◌then◌else◌, codes}
+use Rattle.std.specs.Prelude.{◌≡◌, ℕ, ◌+◌, ◌-◌, ◌*◌, Bool, true, false, not, ◌==◌, ◌||◌, ◌&&◌, nat_lt, nat_le, List, [], ◌∷◌, ◌++◌, length, take, drop, fold, Option, Some, None, Result, Ok, Err, ℤ, pos, neg_ℤ, if◌then◌else◌, codes}
 use Rattle.std.specs.List.{prefix_len}
 use Rattle.std.specs.Str.{bytes_eq}
 use Rattle.dx_base.specs.declared.token.Place.{Place}
@@ -10,7 +10,8 @@ use Rattle.dx_base.specs.declared.token.SyntaxKind.{SyntaxKind}
 use Rattle.dx_base.specs.declared.token.SyntaxKind.TheVariants as fault
 use Rattle.dx_base.specs.declared.token.SyntaxError.{SyntaxError}
 use Rattle.dx_base.specs.Tokens.Places.{first, behind, along, error_at}
-use Rattle.dx_base.specs.Tokens.Classes.{is_white, is_digit, is_zero, is_plus_or_minus, is_name_start, is_name_byte, is_escape, begins, begins_two, begins_digit, begins_exponent}
+use Rattle.dx_base.specs.Tokens.Spelling.{max_name, value_of, unescaped}
+use Rattle.dx_base.specs.Tokens.Classes.{is_white, is_digit, is_zero, is_plus_or_minus, is_name_start, is_name_byte, is_escape, is_sign, begins, begins_two, begins_digit, begins_float}
 
 -- A token and how many bytes it has, or the kind of the fault and how many bytes are before it.
 abbrev pub Front : Type 0
@@ -22,16 +23,13 @@ Front = Result (LexKind × ℕ) (SyntaxKind × ℕ)
 -- the line is passed over.
 unfoldable pub after_gap : Bool → Bool → Place → List ℕ → Place × List ℕ
 after_gap fresh passing at [] = (at, [])
-after_gap fresh true at (b ∷ rest) = after_gap (b == 10) (not (b == 10)) (behind at b) rest
+after_gap fresh true at (b ∷ rest) = if b == 10 then after_gap true false (behind at b) rest else after_gap fresh true (behind at b) rest
 after_gap fresh false at (b ∷ rest) =
     if is_white b then after_gap (fresh || b == 10) false (behind at b) rest
     else if fresh && b == 36 || b == 47 && begins 47 rest then after_gap fresh true (behind at b) rest
     else (at, b ∷ rest)
 
 -- ---- names and frames
-
-abbrev pub max_name : ℕ
-max_name = 255
 
 -- the longest name
 unfoldable pub name_front : List ℕ → Front
@@ -53,13 +51,6 @@ frame_front text = frame_of (take (prefix_len is_name_byte text) text)
 
 -- ---- integers
 
-abbrev pub add_digit : ℕ → ℕ → ℕ
-add_digit n b = 10 * n + (b - 48)
-
--- the number of the digits
-abbrev pub value_of : List ℕ → ℕ
-value_of digits = fold add_digit 0 digits
-
 abbrev pub int_limit : ℕ
 int_limit = 2147483648
 
@@ -75,10 +66,6 @@ fraction_len text =
     else if begins 46 text then 1 + prefix_len is_zero (drop 1 text)
     else 0
 
--- whether what follows makes the number a fraction or gives it an exponent
-abbrev pub is_float_by : List ℕ → Bool
-is_float_by rest = begins_digit rest || begins_exponent rest
-
 abbrev pub int_of : Option ℤ → ℕ → Front
 int_of (Some value) n = Ok (kind.Int value, n)
 int_of None n = Err (fault.NumberRange, 0)
@@ -86,7 +73,7 @@ int_of None n = Err (fault.NumberRange, 0)
 -- the number of these digits, before of its bytes being before them, and this many of a fraction behind them
 abbrev pub number_of : Bool → ℕ → List ℕ → ℕ → List ℕ → Front
 number_of negative before digits n rest =
-    if is_float_by (drop n rest) then Err (fault.FloatNumber, 0)
+    if begins_float (drop n rest) then Err (fault.FloatNumber, 0)
     else int_of (int_value negative digits) (before + length digits + n)
 
 abbrev pub number_by : Bool → ℕ → List ℕ → List ℕ → Front
@@ -107,10 +94,6 @@ closed_at n escape (b ∷ rest) =
     if b == 10 then None
     else if b == 34 && not escape then Some n
     else closed_at (n + 1) (b == 92 && not escape) rest
-
--- the byte that a backslash and this byte stand for
-abbrev pub unescaped : ℕ → ℕ
-unescaped b = if b == 110 then 10 else b
 
 -- The bytes that the inside of a string stands for, or how many are before the backslash that is bad. Found is what
 -- the n bytes before stand for, and the flag says that a backslash followed these.
@@ -133,10 +116,6 @@ unfoldable pub string_front : List ℕ → Front
 string_front text = string_by (closed_at 0 false text) text
 
 -- ---- tokens
-
--- ';' '=' '(' ')' ',' '[' ']' '{' '}' ':'
-abbrev pub is_sign : ℕ → Bool
-is_sign b = b == 59 || b == 61 || b == 40 || b == 41 || b == 44 || b == 91 || b == 93 || b == 123 || b == 125 || b == 58
 
 -- how many bytes the sign has that a text begins with, '->' and '..' among them
 abbrev pub sign_len : List ℕ → ℕ

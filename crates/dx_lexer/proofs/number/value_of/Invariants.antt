@@ -1,5 +1,5 @@
 use Rattle.std.proofs.Common.{◌≡◌, min, take}
-use Rattle.dx_base.specs.Tokens.Reading.{value_of}
+use Rattle.dx_base.specs.Tokens.Spelling.{value_of}
 use Rattle.dx_lexer.proofs.number.value_of.Given as goal
 
 abbrev pub invariant-loop-b : goal.invariant-loop-b

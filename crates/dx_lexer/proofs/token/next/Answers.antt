@@ -1,15 +1,11 @@
-use Rattle.std.proofs.Common.{arith}
-use Rattle.dx_base.proofs.Reached.{reached_placed}
+use Rattle.dx_lexer.proofs.Answered.{stands, lies_in, reached}
 use Rattle.dx_lexer.proofs.token.next.Goals as goal
 
-pub split_at-requires : goal.split_at-requires
-split_at-requires c = (reached_placed c.args.text.now c.args.at c.requires).offset
+pub returns-clause-stands : goal.returns-clause-stands
+returns-clause-stands c = stands c.args.text.now c.args.at c.read.result c.read.ensures
 
-pub after_gap-requires : goal.after_gap-requires
-after_gap-requires c =
-    let placed = reached_placed c.args.text.now c.args.at c.requires in
-    record {
-      offset = omega (arith, c.split_at.ensures.back_len, placed.offset);
-      line = placed.line;
-      column = placed.column;
-    }
+pub returns-clause-reached : goal.returns-clause-reached
+returns-clause-reached c = reached c.args.text.now c.args.at c.read.result c.requires c.read.ensures
+
+pub returns-clause-places : goal.returns-clause-places
+returns-clause-places c = lies_in c.args.text.now c.args.at c.read.result c.requires (stands c.args.text.now c.args.at c.read.result c.read.ensures)
