@@ -9,10 +9,10 @@ use Rattle.dx_ast.specs.declared.statements.Stmt.{Stmt}
 use Rattle.dx_ast.specs.Classes.{misfit}
 use Rattle.dx_ast.specs.Grammar as grammar
 use Rattle.dx_script_grammar.specs.Reading.{Tokens, script}
-use Rattle.dx_script_laws.proofs.Script.{sound, only, exact}
+use Rattle.dx_script_laws.proofs.Script.{sound, only, exact, determined}
 use Rattle.dx_parser.specs.declared.fail.ParseFail.{ParseFail}
 use Rattle.dx_parser.specs.declared.fail.ParseFail.TheVariants.{Refused, Memory}
-use Rattle.dx_parser.specs.Answers.{Reads, IsOnly, OnRefused}
+use Rattle.dx_parser.specs.Answers.{Reads, IsOnly, IsOnlyError, OnRefused}
 
 pub is_found : (s left : Tokens) (r : Result (List Stmt) ParseFail) → Reads (script s) r left → IfOk r (IsText grammar.script s)
 is_found s left (Ok found) h = sound s found left h
@@ -27,3 +27,8 @@ pub is_refused : (s left : Tokens) (r : Result (List Stmt) ParseFail) → Reads 
 is_refused s left (Ok found) h = tt
 is_refused s left (Err (Refused f)) h = exact s f left h
 is_refused s left (Err Memory) h = tt
+
+pub is_error : (s left : Tokens) (r : Result (List Stmt) ParseFail) → Reads (script s) r left → (f : SyntaxError) → FirstError misfit grammar.script s f → IsOnlyError f r
+is_error s left (Ok found) h f d = d.none found (sound s found left h)
+is_error s left (Err (Refused g)) h f d = determined s f g d (exact s g left h)
+is_error s left (Err Memory) h f d = tt

@@ -21,6 +21,12 @@ IsOnly statements (Ok found) = statements ≡ found
 IsOnly statements (Err (fail.Refused f)) = ⊥
 IsOnly statements (Err fail.Memory) = Unit {0}
 
+-- the answer is this error, unless memory ran out
+abbrev pub IsOnlyError : SyntaxError → Result (List Stmt) ParseFail → Type 0
+IsOnlyError f (Ok found) = ⊥
+IsOnlyError f (Err (fail.Refused g)) = f ≡ g
+IsOnlyError f (Err fail.Memory) = Unit {0}
+
 -- what holds of an error that is answered
 abbrev pub OnRefused : (SyntaxError → Type 0) → ParseFail → Type 0
 OnRefused P (fail.Refused f) = P f

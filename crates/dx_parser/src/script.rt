@@ -2,9 +2,10 @@
 
 ghost use Rattle.std.specs.Prelude.{◌≡◌, [], List, IfOk, IfErr};
 ghost use Rattle.dx_script_grammar.specs.Reading as reading;
+ghost use Rattle.dx_base.specs.declared.token.SyntaxError.{SyntaxError};
 ghost use Rattle.dx_ast.specs.declared.statements.Stmt.{Stmt};
 ghost use Rattle.dx_ast.specs.Script.{IsScript, IsFirstError};
-ghost use Rattle.dx_parser.specs.Answers.{Reads, IsOnly, OnRefused};
+ghost use Rattle.dx_parser.specs.Answers.{Reads, IsOnly, IsOnlyError, OnRefused};
 
 use crate::cursor::Cursor;
 use crate::fail::ParseFail;
@@ -92,6 +93,8 @@ pub fn parse(alloc: Global, text: &[u8]) -> Result<Stmts, ParseFail>
     ensures only { (statements : List Stmt) → IsScript text.now statements → IsOnly statements result }
     // What is refused is refused at its first error.
     ensures refused { IfErr result (OnRefused (IsFirstError text.now)) }
+    // The first error of the text is answered, unless memory runs out.
+    ensures error { (f : SyntaxError) → IsFirstError text.now f → IsOnlyError f result }
 {
     let mut cursor = Cursor::new(alloc, text)?;
     script(alloc, &mut cursor)

@@ -2,7 +2,7 @@ use Rattle.std.proofs.Common.{subst}
 use Rattle.dx_ast.specs.Script.{Tokens, tokens_of}
 use Rattle.dx_script_grammar.specs.Reading.{script}
 use Rattle.dx_parser.specs.Answers.{Reads}
-use Rattle.dx_parser.proofs.Answered.{is_found, is_only, is_refused}
+use Rattle.dx_parser.proofs.Answered.{is_found, is_only, is_error, is_refused}
 use Rattle.dx_parser.proofs.script.parse.Goals as goal
 use Rattle.dx_parser.proofs.script.parse.Goals.{After-script}
 
@@ -17,3 +17,6 @@ returns-clause-only c = is_only _ _ _ (reads (goal.at.returns-clause-only c).Aft
 
 pub returns-clause-refused : goal.returns-clause-refused
 returns-clause-refused c = is_refused _ _ _ (reads (goal.at.returns-clause-refused c).After-script)
+
+pub returns-clause-error : goal.returns-clause-error
+returns-clause-error c = is_error _ _ _ (reads (goal.at.returns-clause-error c).After-script)
