@@ -1,5 +1,5 @@
 -- The tokens of a text one after the other: a token stands before those from its end on.
-use Rattle.std.proofs.Common.{◌≡◌, ℕ, zero, suc, ◌+◌, ◌-◌, ◌<◌, ◌≤◌, List, [], ◌∷◌, length, Result, Ok, Err, refl, sym, ap, ◌∙◌, arith}
+use Rattle.std.proofs.Common.{◌≡◌, ℕ, zero, suc, ◌-◌, ◌<◌, List, length, Result, Ok, Err, refl, ap, arith}
 use Rattle.dx_base.specs.declared.token.Place.{Place}
 use Rattle.dx_base.specs.declared.token.LexKind.{LexKind}
 use Rattle.dx_base.specs.declared.token.LexKind.TheVariants as token
