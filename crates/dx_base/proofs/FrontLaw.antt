@@ -1,17 +1,16 @@
 -- A text begins with exactly one token or with exactly one fault, the one that is read.
 use Rattle.std.specs.Prelude.{◌==◌, ◌||◌, ◌&&◌, nat_lt, replicate}
-use Rattle.std.proofs.Common.{◌≡◌, ℕ, ℤ, suc, zero, ◌+◌, ◌<◌, ◌≤◌, List, [], ◌∷◌, ◌++◌, length, Bool, true, false, cond, refl, sym, ap, subst, arith, ◌⊎◌, inl, inr, ◌∙◌, Option, Some, None, Ok, Err, append_assoc}
-use Rattle.std.proofs.lemmas.List.{append-nil}
+use Rattle.std.proofs.Common.{◌≡◌, ℕ, ◌<◌, ◌≤◌, List, [], ◌∷◌, ◌++◌, length, Bool, true, false, refl, sym, ap, subst, arith, ◌⊎◌, inl, inr, Option, Some, None, Ok, Err, append_assoc}
 use Rattle.std.proofs.lemmas.Bool.{eqb-true, eqb-false, eq-eqb}
 use Rattle.std.proofs.lemmas.Bool.Decides.{nat_tests}
 use Rattle.dx_base.specs.declared.token.LexKind.{LexKind}
 use Rattle.dx_base.specs.declared.token.LexKind.TheVariants as kind
 use Rattle.dx_base.specs.declared.token.SyntaxKind.{SyntaxKind}
 use Rattle.dx_base.specs.declared.token.SyntaxKind.TheVariants as fault
-use Rattle.dx_base.specs.Tokens.Classes.{is_digit, is_zero, is_plus_or_minus, is_name_start, is_name_byte, is_sign, Each, Stops, begins, begins_two, begins_digit, begins_float}
-use Rattle.dx_base.specs.Tokens.Spelling.{IsWord, max_name, IsFrame, Sign, Unsigned, Plus, Minus, Numeral, sign_bytes, fraction_bytes, numeral_bytes, EndsFraction, IsNumeral, value, IsInt, Item, item_bytes, AreItems, AreGood, meaning, IsSign, IsToken}
+use Rattle.dx_base.specs.Tokens.Classes.{is_digit, is_zero, is_name_start, is_name_byte, is_sign, Each, Stops, begins, begins_digit, begins_float}
+use Rattle.dx_base.specs.Tokens.Spelling.{max_name, Sign, Unsigned, Plus, Minus, Numeral, sign_bytes, fraction_bytes, numeral_bytes, EndsFraction, IsNumeral, value, IsInt, item_bytes, AreItems, AreGood, meaning, IsSign, IsToken}
 use Rattle.dx_base.specs.Tokens.Refusals.{IsRefusal, long_name, no_frame, open_string, bad_backslash, stray, fraction, point, beyond, IsPoint, IsOpen}
-use Rattle.dx_base.specs.Tokens.Reading.{Front, front, is_frame}
+use Rattle.dx_base.specs.Tokens.Reading.{front, is_frame}
 use Rattle.dx_base.proofs.Spans.{IsSpan, spanned, decided}
 use Rattle.dx_base.proofs.Fronts.{point_at}
 use Rattle.dx_base.proofs.WordLaw.{name_read, long_read, frame_read, no_frame_read, frame_known, frame_tested}

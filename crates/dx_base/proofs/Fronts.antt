@@ -1,12 +1,12 @@
 -- Which part of the reading a text comes to, by its first byte.
-use Rattle.std.specs.Prelude.{◌==◌, ◌||◌, ◌&&◌}
-use Rattle.std.proofs.Common.{◌≡◌, ℕ, suc, zero, ◌+◌, List, [], ◌∷◌, ◌++◌, length, Bool, true, false, not, cond, refl, sym, ap, subst, arith, ◌⊎◌, inl, inr, ◌∙◌, Ok, Err}
-use Rattle.std.proofs.lemmas.Bool.{eqb-true, eqb-false, ne_eqb}
+use Rattle.std.specs.Prelude.{◌==◌}
+use Rattle.std.proofs.Common.{◌≡◌, ℕ, List, ◌∷◌, true, false, refl, arith, Err}
+use Rattle.std.proofs.lemmas.Bool.{eqb-true, ne_eqb}
 use Rattle.std.proofs.lemmas.Bool.Decides.{nat_tests}
 use Rattle.std.proofs.lemmas.Grind.{common_steps}
 use Rattle.dx_base.specs.declared.token.SyntaxKind.TheVariants as fault
-use Rattle.dx_base.specs.Tokens.Classes.{is_digit, is_plus_or_minus, is_name_start, is_name_byte, is_sign, begins, begins_digit}
-use Rattle.dx_base.specs.Tokens.Reading.{Front, front, name_front, number_front, string_front, frame_front, sign_front}
+use Rattle.dx_base.specs.Tokens.Classes.{is_digit, is_plus_or_minus, is_name_start, is_sign, begins_digit}
+use Rattle.dx_base.specs.Tokens.Reading.{front, name_front, number_front, string_front, frame_front, sign_front}
 use Rattle.dx_base.proofs.Spans.{and_no}
 
 digit_no_name : (b : ℕ) → is_digit b ≡ true → is_name_start b ≡ false

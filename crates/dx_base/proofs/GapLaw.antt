@@ -1,6 +1,6 @@
 -- In front of what is no gap stands exactly one gap, the one that is passed over.
 use Rattle.std.specs.Prelude.{◌==◌, ◌||◌, ◌&&◌}
-use Rattle.std.proofs.Common.{◌≡◌, ℕ, suc, zero, ◌+◌, List, [], ◌∷◌, ◌++◌, length, Bool, true, false, not, cond, refl, sym, ap, subst, arith, ◌⊎◌, inl, inr, append_assoc, ◌∙◌}
+use Rattle.std.proofs.Common.{◌≡◌, ℕ, List, [], ◌∷◌, ◌++◌, Bool, true, false, refl, sym, ap, subst, append_assoc, ◌∙◌}
 use Rattle.std.proofs.Math.Bool.{or-true, and-false}
 use Rattle.std.proofs.lemmas.Bool.{eqb-true, eqb-false, ne_eqb}
 use Rattle.std.proofs.lemmas.List.Sums.{fold-append}
@@ -9,7 +9,7 @@ use Rattle.dx_base.specs.Tokens.Places.{behind, behind_all}
 use Rattle.dx_base.specs.Tokens.Classes.{is_white, is_in_line, Each, Stops, begins}
 use Rattle.dx_base.specs.Tokens.Gaps.{Piece, White, Comment, Skipped, gap_bytes, IsLineRest, EndsGap, IsGap}
 use Rattle.dx_base.specs.Tokens.Reading.{after_gap}
-use Rattle.dx_base.proofs.Spans.{decided, and_no, or_no, not_yes, not_no}
+use Rattle.dx_base.proofs.Spans.{and_no, or_no, not_yes, not_no}
 
 -- ---- what is passed over
 

@@ -1,16 +1,15 @@
 -- Numbers: what the relation says is what is read.
-use Rattle.std.specs.Prelude.{◌==◌, ◌||◌, ◌&&◌, nat_lt, nat_le, replicate, neg_ℤ, pos, negsuc, ◌≤ℤ◌}
-use Rattle.std.proofs.Common.{◌≡◌, ℕ, ℤ, suc, zero, ◌+◌, ◌<◌, ◌≤◌, List, [], ◌∷◌, ◌++◌, length, take, drop, Bool, true, false, not, cond, refl, sym, ap, subst, arith, ◌⊎◌, inl, inr, ◌∙◌, Option, Some, None, Ok, Err, append_assoc, length-append}
+use Rattle.std.specs.Prelude.{nat_lt, nat_le, replicate, neg_ℤ, pos, negsuc}
+use Rattle.std.proofs.Common.{◌≡◌, ℕ, ℤ, suc, zero, ◌+◌, ◌<◌, ◌≤◌, List, [], ◌∷◌, ◌++◌, length, drop, Bool, true, false, cond, refl, sym, ap, subst, arith, ◌⊎◌, inl, inr, ◌∙◌, Option, Some, None, Ok, Err, append_assoc, length-append}
 use Rattle.std.specs.List.{prefix_len}
 use Rattle.std.proofs.Math.Seq.{take-append_seam, drop-append_seam}
 use Rattle.std.proofs.lemmas.Bool.Decides.{nat_tests}
-use Rattle.std.proofs.lemmas.Grind.{common_steps}
 use Rattle.std.proofs.lemmas.Int.{ints}
 use Rattle.dx_base.specs.declared.token.LexKind.TheVariants as kind
 use Rattle.dx_base.specs.declared.token.SyntaxKind.TheVariants as fault
 use Rattle.dx_base.specs.Tokens.Classes.{is_digit, is_zero, Each, Stops, begins, begins_two, begins_digit, begins_float}
-use Rattle.dx_base.specs.Tokens.Spelling.{Sign, Unsigned, Plus, Minus, Numeral, sign_bytes, fraction_bytes, numeral_bytes, EndsFraction, IsNumeral, value_of, signed, value, IsInt, IsInteger}
-use Rattle.dx_base.specs.Tokens.Reading.{Front, front, int_value, fraction_len, int_of, number_of, number_by, number_front}
+use Rattle.dx_base.specs.Tokens.Spelling.{Sign, Unsigned, Plus, Minus, Numeral, fraction_bytes, numeral_bytes, EndsFraction, IsNumeral, value_of, signed, value, IsInt}
+use Rattle.dx_base.specs.Tokens.Reading.{Front, front, int_value, fraction_len, int_of, number_front}
 use Rattle.dx_base.proofs.Spans.{span, one_more}
 use Rattle.dx_base.proofs.Fronts.{digits_at, plus_at, minus_at}
 

@@ -1,6 +1,6 @@
 -- A place that a reading comes to is the one behind all the bytes before it.
 use Rattle.std.specs.Prelude.{◌==◌}
-use Rattle.std.proofs.Common.{◌≡◌, ℕ, suc, zero, ◌+◌, ◌≤◌, List, [], ◌∷◌, ◌++◌, length, take, drop, Bool, true, false, cond, refl, sym, ap, subst, arith, ◌∙◌, Ok, Err, append_assoc, zero-add}
+use Rattle.std.proofs.Common.{◌≡◌, ℕ, ◌+◌, List, [], ◌∷◌, ◌++◌, length, take, drop, Bool, true, false, cond, refl, sym, ap, subst, arith, ◌∙◌, append_assoc, zero-add}
 use Rattle.std.proofs.Math.Seq.{take-append_seam}
 use Rattle.std.proofs.lemmas.List.{take-append-drop}
 use Rattle.std.proofs.lemmas.List.Sums.{fold-append}
@@ -13,7 +13,7 @@ use Rattle.dx_base.specs.Tokens.Refusals.{IsRefusal, HasBadBackslash, long_name,
 use Rattle.dx_base.specs.Tokens.Spelling.{Item, Plain, Escaped, item_bytes}
 use Rattle.dx_base.specs.declared.token.SyntaxError.{SyntaxError}
 use Rattle.dx_base.specs.Tokens.Standing.{IsLexeme, IsError, HasPlaces, HasPlace}
-use Rattle.dx_base.specs.Tokens.Reading.{lexeme_at, IsReached, start, behind_token}
+use Rattle.dx_base.specs.Tokens.Reading.{IsReached, start, behind_token}
 use Rattle.dx_base.proofs.StandingLaw.{only_lexeme}
 
 step_offset : (p : Place) (b : ℕ) → (behind p b).offset ≡ p.offset + 1

@@ -1,13 +1,13 @@
 -- Signs, and bytes that begin nothing: what the relation says is what is read.
-use Rattle.std.specs.Prelude.{◌==◌, ◌||◌, ◌&&◌}
-use Rattle.std.proofs.Common.{◌≡◌, ℕ, List, [], ◌∷◌, ◌++◌, length, Bool, true, false, refl, sym, ap, subst, ◌⊎◌, inl, inr, ◌∙◌, Ok, Err}
+use Rattle.std.specs.Prelude.{◌==◌, ◌&&◌}
+use Rattle.std.proofs.Common.{◌≡◌, ℕ, List, [], ◌∷◌, ◌++◌, length, true, false, refl, inl, inr, ◌∙◌, Ok, Err}
 use Rattle.std.proofs.lemmas.Bool.{eqb-true}
 use Rattle.dx_base.specs.declared.token.LexKind.TheVariants as kind
 use Rattle.dx_base.specs.declared.token.SyntaxKind.TheVariants as fault
 use Rattle.dx_base.specs.Tokens.Classes.{is_sign, begins}
 use Rattle.dx_base.specs.Tokens.Spelling.{IsSign}
 use Rattle.dx_base.specs.Tokens.Refusals.{IsStray}
-use Rattle.dx_base.specs.Tokens.Reading.{Front, front, sign_len, sign_of, sign_front}
+use Rattle.dx_base.specs.Tokens.Reading.{front}
 use Rattle.dx_base.proofs.Spans.{and_no, or_no}
 use Rattle.dx_base.proofs.Fronts.{IsOther, other_at, sign_other}
 

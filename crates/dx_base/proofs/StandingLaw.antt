@@ -1,6 +1,6 @@
 -- At each place of a text stands exactly one token or exactly one error, the one that is read.
-use Rattle.std.specs.Prelude.{◌==◌, ◌||◌, ◌&&◌, replicate}
-use Rattle.std.proofs.Common.{◌≡◌, ℕ, suc, zero, ◌+◌, List, [], ◌∷◌, ◌++◌, length, drop, Bool, true, false, not, refl, sym, ap, subst, arith, ◌⊎◌, inl, inr, ◌∙◌, Option, Some, None, Result, Ok, Err, add-zero}
+use Rattle.std.specs.Prelude.{◌==◌, replicate}
+use Rattle.std.proofs.Common.{◌≡◌, ℕ, suc, zero, ◌+◌, List, [], ◌∷◌, ◌++◌, length, drop, Bool, true, refl, sym, ap, subst, arith, ◌⊎◌, inl, inr, ◌∙◌, Option, Some, None, Result, Ok, Err, add-zero}
 use Rattle.std.proofs.lemmas.Bool.Decides.{nat_tests}
 use Rattle.std.proofs.lemmas.Grind.{common_steps}
 use Rattle.dx_base.specs.declared.token.Place.{Place}
@@ -15,11 +15,11 @@ use Rattle.dx_base.specs.Tokens.Gaps.{gap_bytes}
 use Rattle.dx_base.specs.Tokens.Spelling.{Sign, Unsigned, Plus, Minus, sign_bytes, fraction_bytes, Item, Plain, Escaped, item_bytes, is_plain, AreItems, IsToken, IsSign}
 use Rattle.dx_base.specs.Tokens.Refusals.{IsRefusal, long_name, no_frame, open_string, bad_backslash, stray, fraction, point, beyond}
 use Rattle.dx_base.specs.Tokens.Standing.{IsLexeme, IsError, IsOnlyLexeme, IsOnlyError}
-use Rattle.dx_base.specs.Tokens.Reading.{front, after_gap, placed, lexeme_behind, lexeme_at}
+use Rattle.dx_base.specs.Tokens.Reading.{front, lexeme_at}
 use Rattle.dx_base.proofs.Spans.{not_no}
 use Rattle.dx_base.proofs.GapLaw.{gap_passed, HasGap, has_gap}
 use Rattle.dx_base.proofs.WordLaw.{word_each, frame_each}
-use Rattle.dx_base.proofs.FrontLaw.{token_read, refusal_read, HasToken, HasRefusal, Has, has_front}
+use Rattle.dx_base.proofs.FrontLaw.{token_read, refusal_read, Has, has_front}
 
 -- ---- a token lies in one line
 

@@ -1,18 +1,17 @@
 -- Strings: what the relation says is what is read.
-use Rattle.std.specs.Prelude.{◌==◌, ◌||◌, ◌&&◌}
-use Rattle.std.proofs.Common.{◌≡◌, ℕ, suc, zero, ◌+◌, ◌<◌, ◌≤◌, List, [], ◌∷◌, ◌++◌, length, take, drop, Bool, true, false, not, cond, refl, sym, ap, subst, arith, ◌⊎◌, inl, inr, ◌∙◌, Option, Some, None, Result, Ok, Err, append_assoc, length-append, zero-add, add-zero}
+use Rattle.std.specs.Prelude.{◌==◌}
+use Rattle.std.proofs.Common.{◌≡◌, ℕ, ◌+◌, List, [], ◌∷◌, ◌++◌, length, Bool, true, false, refl, sym, ap, subst, arith, ◌⊎◌, inl, inr, ◌∙◌, Option, Some, None, Ok, Err, append_assoc, length-append, zero-add, add-zero}
 use Rattle.std.proofs.lemmas.List.{append-nil}
 use Rattle.std.proofs.Math.Bool.{and-false}
 use Rattle.std.proofs.Math.Seq.{take-append_seam}
 use Rattle.std.proofs.lemmas.Bool.Decides.{nat_tests}
-use Rattle.std.proofs.lemmas.Grind.{common_steps}
 use Rattle.std.proofs.lemmas.Bool.{eqb-true}
 use Rattle.dx_base.specs.declared.token.LexKind.TheVariants as kind
 use Rattle.dx_base.specs.declared.token.SyntaxKind.TheVariants as fault
 use Rattle.dx_base.specs.Tokens.Classes.{is_in_line, is_escape}
 use Rattle.dx_base.specs.Tokens.Spelling.{Item, Plain, Escaped, item_bytes, is_plain, AreItems, AreGood, unescaped, meaning, IsString}
 use Rattle.dx_base.specs.Tokens.Refusals.{IsOpen, HasBadBackslash}
-use Rattle.dx_base.specs.Tokens.Reading.{Front, front, closed_at, text_from, string_of, string_by, string_front}
+use Rattle.dx_base.specs.Tokens.Reading.{front, closed_at, text_from, string_of, string_by, string_front}
 use Rattle.dx_base.proofs.Spans.{not_no, one_more}
 use Rattle.dx_base.proofs.Fronts.{quote_at}
 

@@ -1,14 +1,12 @@
 -- How many bytes a token takes: the end none, each other one or more, and none more than there are.
 use Rattle.std.specs.Prelude.{◌==◌, ◌||◌, ◌&&◌}
-use Rattle.std.proofs.Common.{◌≡◌, ℕ, suc, zero, ◌+◌, ◌-◌, ◌<◌, ◌≤◌, List, [], ◌∷◌, length, take, drop, Option, Some, None, Result, Ok, Err, ℤ, Bool, true, false, cond, not, refl, sym, ap, arith, ltb, ltb-true, length-drop}
+use Rattle.std.proofs.Common.{◌≡◌, ℕ, suc, zero, ◌+◌, ◌-◌, ◌<◌, ◌≤◌, List, [], ◌∷◌, length, take, drop, Option, Some, None, Result, Ok, Err, ℤ, Bool, true, false, cond, not, refl, arith, ltb, length-drop}
 use Rattle.std.specs.List.{prefix_len}
 use Rattle.std.proofs.lemmas.List.{length-take-le}
 use Rattle.std.proofs.lemmas.List.Sums.{prefix_len-le-length}
-use Rattle.dx_base.specs.declared.token.LexKind.{LexKind}
 use Rattle.dx_base.specs.declared.token.LexKind.TheVariants as kind
-use Rattle.dx_base.specs.declared.token.SyntaxKind.TheVariants as fault
 use Rattle.dx_base.specs.Tokens.Classes.{is_digit, is_zero, is_plus_or_minus, is_name_start, is_name_byte, is_sign, begins, begins_digit, begins_float}
-use Rattle.dx_base.specs.Tokens.Reading.{Front, front, name_front, is_frame, frame_of, frame_front, int_value, fraction_len, int_of, number_front, closed_at, text_from, string_of, string_by, string_front, sign_len, sign_of, sign_front}
+use Rattle.dx_base.specs.Tokens.Reading.{Front, front, name_front, is_frame, frame_front, int_value, fraction_len, int_of, number_front, closed_at, text_from, string_of, string_by, string_front, sign_len, sign_front}
 
 -- a token that isn't the end takes some of n bytes
 abbrev pub Takes : ℕ → Front → Type 0

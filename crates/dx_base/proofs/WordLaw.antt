@@ -1,17 +1,16 @@
 -- Names and frames: what the relation says is what is read.
-use Rattle.std.specs.Prelude.{◌==◌, ◌||◌, ◌&&◌, nat_lt, codes}
-use Rattle.std.proofs.Common.{◌≡◌, ℕ, suc, zero, ◌+◌, ◌<◌, ◌≤◌, List, [], ◌∷◌, ◌++◌, length, take, drop, Bool, true, false, not, cond, refl, sym, ap, subst, arith, ◌⊎◌, inl, inr, ◌∙◌, Ok, Err, ltb, ltb-true}
+use Rattle.std.specs.Prelude.{◌||◌, nat_lt, codes}
+use Rattle.std.proofs.Common.{◌≡◌, ℕ, ◌<◌, List, [], ◌∷◌, ◌++◌, length, Bool, true, false, cond, refl, sym, subst, arith, ◌⊎◌, inl, inr, ◌∙◌, Ok, Err}
 use Rattle.std.specs.List.{prefix_len}
 use Rattle.std.specs.Str.{bytes_eq}
-use Rattle.std.proofs.Math.Seq.{take-append_seam, drop-append_seam}
+use Rattle.std.proofs.Math.Seq.{take-append_seam}
 use Rattle.std.proofs.lemmas.Bool.Decides.{nat_tests}
-use Rattle.std.proofs.lemmas.Grind.{common_steps}
 use Rattle.std.proofs.lemmas.Slice.Eq.{bytes_eq-Decides}
 use Rattle.dx_base.specs.declared.token.LexKind.TheVariants as kind
 use Rattle.dx_base.specs.declared.token.SyntaxKind.TheVariants as fault
-use Rattle.dx_base.specs.Tokens.Classes.{is_name_start, is_name_byte, is_digit, Each, Stops}
+use Rattle.dx_base.specs.Tokens.Classes.{is_name_byte, Each, Stops}
 use Rattle.dx_base.specs.Tokens.Spelling.{IsWord, max_name, IsFrame, startframe, endframe, deltaframe, nextframe, frame, IsName, IsFrameWord}
-use Rattle.dx_base.specs.Tokens.Reading.{Front, front, name_front, is_frame, frame_of, frame_front}
+use Rattle.dx_base.specs.Tokens.Reading.{front, name_front, is_frame, frame_of, frame_front}
 use Rattle.dx_base.proofs.Spans.{span, each_taken, one_more}
 use Rattle.dx_base.proofs.Fronts.{name_at, frame_at}
 

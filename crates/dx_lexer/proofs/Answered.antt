@@ -1,5 +1,5 @@
 -- What was answered stands at the place, lies in the text, and ends at a place that is reached.
-use Rattle.std.proofs.Common.{◌≡◌, ℕ, List, Result, Ok, Err, IfOk}
+use Rattle.std.proofs.Common.{ℕ, List, Result, Ok, Err, IfOk}
 use Rattle.dx_base.specs.declared.token.Place.{Place}
 use Rattle.dx_base.specs.declared.token.Lexeme.{Lexeme}
 use Rattle.dx_base.specs.Tokens.Reading.{IsReached, behind_token, lexeme_at}

@@ -1,5 +1,5 @@
 -- Which texts begin with no token, of which kind the fault is, and which bytes are before it.
-use Rattle.std.specs.Prelude.{◌≡◌, ◌⊎◌, ℕ, ◌<◌, Bool, true, false, ◌&&◌, List, [], ◌∷◌, ◌++◌, length}
+use Rattle.std.specs.Prelude.{◌≡◌, ℕ, ◌<◌, true, false, List, [], ◌∷◌, ◌++◌, length}
 use Rattle.dx_base.specs.declared.token.SyntaxKind.{SyntaxKind}
 use Rattle.dx_base.specs.declared.token.SyntaxKind.TheVariants as fault
 use Rattle.dx_base.specs.Tokens.Classes.{is_digit, is_plus_or_minus, is_name_start, is_name_byte, is_escape, is_sign, Each, Stops, begins, begins_digit, begins_float}
