@@ -1,5 +1,6 @@
 pub mod Taken
 pub mod Reached
+pub mod NameTables
 pub mod Spans
 pub mod GapLaw
 pub mod Fronts

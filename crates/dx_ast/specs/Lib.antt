@@ -1,0 +1,4 @@
+pub mod Classes
+pub mod Values
+pub mod Grammar
+pub mod Script
