@@ -8,8 +8,8 @@ use Rattle.dx_base.specs.Tokens.Classes.{is_sign, begins}
 use Rattle.dx_base.specs.Tokens.Spelling.{IsSign}
 use Rattle.dx_base.specs.Tokens.Refusals.{IsStray}
 use Rattle.dx_base.specs.Tokens.Reading.{front}
-use Rattle.dx_base.proofs.Spans.{and_no, or_no}
-use Rattle.dx_base.proofs.Fronts.{IsOther, other_at, sign_other}
+use Rattle.dx_base.proofs.Tokens.Spans.{and_no, or_no}
+use Rattle.dx_base.proofs.Tokens.Fronts.{IsOther, other_at, sign_other}
 
 single_read : (b : ℕ) (rest : List ℕ) → is_sign b ≡ true → front (b ∷ rest) ≡ Ok (kind.Sign (b ∷ []), 1)
 single_read b rest is = other_at b rest (sign_other b rest is) ∙ rw is refl

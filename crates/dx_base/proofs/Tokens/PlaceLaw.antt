@@ -14,7 +14,7 @@ use Rattle.dx_base.specs.Tokens.Spelling.{Item, Plain, Escaped, item_bytes}
 use Rattle.dx_base.specs.declared.token.SyntaxError.{SyntaxError}
 use Rattle.dx_base.specs.Tokens.Standing.{IsLexeme, IsError, HasPlaces, HasPlace}
 use Rattle.dx_base.specs.Tokens.Reading.{IsReached, start, behind_token}
-use Rattle.dx_base.proofs.StandingLaw.{only_lexeme}
+use Rattle.dx_base.proofs.Tokens.StandingLaw.{only_lexeme}
 
 step_offset : (p : Place) (b : ℕ) → (behind p b).offset ≡ p.offset + 1
 step_offset p b = by_test (b == 10)

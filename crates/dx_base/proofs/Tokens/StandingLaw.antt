@@ -16,10 +16,10 @@ use Rattle.dx_base.specs.Tokens.Spelling.{Sign, Unsigned, Plus, Minus, sign_byte
 use Rattle.dx_base.specs.Tokens.Refusals.{IsRefusal, long_name, no_frame, open_string, bad_backslash, stray, fraction, point, beyond}
 use Rattle.dx_base.specs.Tokens.Standing.{IsLexeme, IsError, IsOnlyLexeme, IsOnlyError}
 use Rattle.dx_base.specs.Tokens.Reading.{front, lexeme_at}
-use Rattle.dx_base.proofs.Spans.{not_no}
-use Rattle.dx_base.proofs.GapLaw.{gap_passed, HasGap, has_gap}
-use Rattle.dx_base.proofs.WordLaw.{word_each, frame_each}
-use Rattle.dx_base.proofs.FrontLaw.{token_read, refusal_read, Has, has_front}
+use Rattle.dx_base.proofs.Tokens.Spans.{not_no}
+use Rattle.dx_base.proofs.Tokens.GapLaw.{gap_passed, HasGap, has_gap}
+use Rattle.dx_base.proofs.Tokens.WordLaw.{word_each, frame_each}
+use Rattle.dx_base.proofs.Tokens.FrontLaw.{token_read, refusal_read, Has, has_front}
 
 -- ---- a token lies in one line
 

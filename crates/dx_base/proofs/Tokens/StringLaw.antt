@@ -12,8 +12,8 @@ use Rattle.dx_base.specs.Tokens.Classes.{is_in_line, is_escape}
 use Rattle.dx_base.specs.Tokens.Spelling.{Item, Plain, Escaped, item_bytes, is_plain, AreItems, AreGood, unescaped, meaning, IsString}
 use Rattle.dx_base.specs.Tokens.Refusals.{IsOpen, HasBadBackslash}
 use Rattle.dx_base.specs.Tokens.Reading.{front, closed_at, text_from, string_of, string_by, string_front}
-use Rattle.dx_base.proofs.Spans.{not_no, one_more}
-use Rattle.dx_base.proofs.Fronts.{quote_at}
+use Rattle.dx_base.proofs.Tokens.Spans.{not_no, one_more}
+use Rattle.dx_base.proofs.Tokens.Fronts.{quote_at}
 
 -- a byte that stands for itself
 record IsPlain (b : ℕ) : Type 0 where

@@ -11,12 +11,12 @@ use Rattle.dx_base.specs.Tokens.Classes.{is_digit, is_zero, is_name_start, is_na
 use Rattle.dx_base.specs.Tokens.Spelling.{max_name, Sign, Unsigned, Plus, Minus, Numeral, sign_bytes, fraction_bytes, numeral_bytes, EndsFraction, IsNumeral, value, IsInt, item_bytes, AreItems, AreGood, meaning, IsSign, IsToken}
 use Rattle.dx_base.specs.Tokens.Refusals.{IsRefusal, long_name, no_frame, open_string, bad_backslash, stray, fraction, point, beyond, IsPoint, IsOpen}
 use Rattle.dx_base.specs.Tokens.Reading.{front, is_frame}
-use Rattle.dx_base.proofs.Spans.{IsSpan, spanned, decided}
-use Rattle.dx_base.proofs.Fronts.{point_at}
-use Rattle.dx_base.proofs.WordLaw.{name_read, long_read, frame_read, no_frame_read, frame_known, frame_tested}
-use Rattle.dx_base.proofs.NumberLaw.{int_read, fraction_refused, beyond_refused, int_decided}
-use Rattle.dx_base.proofs.StringLaw.{string_read, bad_refused, open_refused, Closes, closes_or_open, IsBad, items_decided}
-use Rattle.dx_base.proofs.SignLaw.{sign_read, stray_refused}
+use Rattle.dx_base.proofs.Tokens.Spans.{IsSpan, spanned, decided}
+use Rattle.dx_base.proofs.Tokens.Fronts.{point_at}
+use Rattle.dx_base.proofs.Tokens.WordLaw.{name_read, long_read, frame_read, no_frame_read, frame_known, frame_tested}
+use Rattle.dx_base.proofs.Tokens.NumberLaw.{int_read, fraction_refused, beyond_refused, int_decided}
+use Rattle.dx_base.proofs.Tokens.StringLaw.{string_read, bad_refused, open_refused, Closes, closes_or_open, IsBad, items_decided}
+use Rattle.dx_base.proofs.Tokens.SignLaw.{sign_read, stray_refused}
 
 -- ---- what stands is what is read
 

@@ -10,8 +10,8 @@ use Rattle.dx_base.specs.declared.token.SyntaxKind.TheVariants as fault
 use Rattle.dx_base.specs.Tokens.Classes.{is_digit, is_zero, Each, Stops, begins, begins_two, begins_digit, begins_float}
 use Rattle.dx_base.specs.Tokens.Spelling.{Sign, Unsigned, Plus, Minus, Numeral, fraction_bytes, numeral_bytes, EndsFraction, IsNumeral, value_of, signed, value, IsInt}
 use Rattle.dx_base.specs.Tokens.Reading.{Front, front, int_value, fraction_len, int_of, number_front}
-use Rattle.dx_base.proofs.Spans.{span, one_more}
-use Rattle.dx_base.proofs.Fronts.{digits_at, plus_at, minus_at}
+use Rattle.dx_base.proofs.Tokens.Spans.{span, one_more}
+use Rattle.dx_base.proofs.Tokens.Fronts.{digits_at, plus_at, minus_at}
 
 -- ---- the fraction
 

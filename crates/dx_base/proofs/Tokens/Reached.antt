@@ -8,7 +8,7 @@ use Rattle.dx_base.specs.declared.token.LexKind.TheVariants as kind
 use Rattle.dx_base.specs.Tokens.Places.{first, behind, along}
 use Rattle.dx_base.specs.Tokens.Classes.{is_white, begins}
 use Rattle.dx_base.specs.Tokens.Reading.{Front, front, after_gap, placed, lexeme_at, IsReached, start, behind_token}
-use Rattle.dx_base.proofs.Taken.{Takes, takes_front}
+use Rattle.dx_base.proofs.Tokens.Taken.{Takes, takes_front}
 
 -- the numbers of a place lie in the text
 pub record IsPlaced (text : List ℕ) (p : Place) : Type 0 where

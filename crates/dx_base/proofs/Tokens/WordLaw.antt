@@ -11,8 +11,8 @@ use Rattle.dx_base.specs.declared.token.SyntaxKind.TheVariants as fault
 use Rattle.dx_base.specs.Tokens.Classes.{is_name_byte, Each, Stops}
 use Rattle.dx_base.specs.Tokens.Spelling.{IsWord, max_name, IsFrame, startframe, endframe, deltaframe, nextframe, frame, IsName, IsFrameWord}
 use Rattle.dx_base.specs.Tokens.Reading.{front, name_front, is_frame, frame_of, frame_front}
-use Rattle.dx_base.proofs.Spans.{span, each_taken, one_more}
-use Rattle.dx_base.proofs.Fronts.{name_at, frame_at}
+use Rattle.dx_base.proofs.Tokens.Spans.{span, each_taken, one_more}
+use Rattle.dx_base.proofs.Tokens.Fronts.{name_at, frame_at}
 
 pub word_each : (word : List ℕ) → IsWord word → Each is_name_byte word
 word_each [] is = absurd is

@@ -7,7 +7,7 @@ use Rattle.std.proofs.lemmas.Grind.{common_steps}
 use Rattle.dx_base.specs.declared.token.SyntaxKind.TheVariants as fault
 use Rattle.dx_base.specs.Tokens.Classes.{is_digit, is_plus_or_minus, is_name_start, is_sign, begins_digit}
 use Rattle.dx_base.specs.Tokens.Reading.{front, name_front, number_front, string_front, frame_front, sign_front}
-use Rattle.dx_base.proofs.Spans.{and_no}
+use Rattle.dx_base.proofs.Tokens.Spans.{and_no}
 
 digit_no_name : (b : ℕ) → is_digit b ≡ true → is_name_start b ≡ false
 digit_no_name b e = grind (arith, nat_tests, common_steps)

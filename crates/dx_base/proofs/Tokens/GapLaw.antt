@@ -9,7 +9,7 @@ use Rattle.dx_base.specs.Tokens.Places.{behind, behind_all}
 use Rattle.dx_base.specs.Tokens.Classes.{is_white, is_in_line, Each, Stops, begins}
 use Rattle.dx_base.specs.Tokens.Gaps.{Piece, White, Comment, Skipped, gap_bytes, IsLineRest, EndsGap, IsGap}
 use Rattle.dx_base.specs.Tokens.Reading.{after_gap}
-use Rattle.dx_base.proofs.Spans.{and_no, or_no, not_yes, not_no}
+use Rattle.dx_base.proofs.Tokens.Spans.{and_no, or_no, not_yes, not_no}
 
 -- ---- what is passed over
 
