@@ -1,5 +1,5 @@
 -- What the reading answers, in the words of the grammar.
-use Rattle.std.proofs.Common.{◌≡◌, List, Result, Ok, Err, sym, ap, ◌∙◌}
+use Rattle.std.proofs.Common.{List, Result, Ok, Err, sym, ap, ◌∙◌}
 use Rattle.std.specs.Prelude.{IfOk, IfErr}
 use Rattle.dx_base.specs.declared.token.SyntaxError.{SyntaxError}
 use Rattle.dx_grammar.specs.FirstError.{IsText, FirstError}
