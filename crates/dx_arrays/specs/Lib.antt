@@ -1,0 +1,5 @@
+pub mod Classes
+pub mod Makes
+pub mod View
+pub mod Reach
+pub mod Corner
