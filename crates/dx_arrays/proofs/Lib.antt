@@ -1,3 +1,5 @@
 pub mod Products
 pub mod Points
 pub mod Cells
+pub mod Each
+pub mod Reaching
