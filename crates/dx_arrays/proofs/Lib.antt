@@ -3,3 +3,5 @@ pub mod Points
 pub mod Cells
 pub mod Each
 pub mod Reaching
+pub mod Corners
+pub mod InType
