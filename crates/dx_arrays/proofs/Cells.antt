@@ -5,7 +5,7 @@ use Rattle.std.proofs.lemmas.Bool.{cases_lt}
 use Rattle.std.proofs.lemmas.List.{length-map, get_or-map, get_or-append_right}
 use Rattle.std.proofs.lemmas.List.Elements.{All-head, All-tail, All-drop, All-get_or}
 use Rattle.std.proofs.Math.ListN.{get_or-append}
-use Rattle.std.proofs.Math.Nat.{mul_assoc, mul_comm, mul-pos, pow-suc, mul-le-mul_left, mul-le-mul_right, mul-add-div_right, mul-add-mod_self_right, div-eq_of_lt, div-div-eq-div-mul, suc-mul}
+use Rattle.std.proofs.Math.Nat.{mul_assoc, mul_comm, mul-pos, pow-suc, mul-le-mul_left, mul-le-mul_right, mul-add-div_right, mul-add-mod_self_right, div-eq_of_lt, div-div-eq-div-mul, suc-mul, mul-zero, zero-mul}
 use Rattle.dx_base.specs.Array.{product, cells, indices_of, corner_numbers}
 use Rattle.dx_arrays.specs.Corner.{corner_at}
 use Rattle.dx_arrays.proofs.Products.{product-pos}
@@ -130,3 +130,50 @@ pub record CornerSoFar (cs : List ℕ) (i p j own_cell own_side own_stride own_n
 pub corner_sum : (cs : List ℕ) (i p k j cell side stride number : ℕ) → CornerStep cs i p k j → CornerSoFar cs i p j cell side stride number →
     number + (cell % (get_or cs k 0 - 1) + side % 2) * stride ≡ corner_at (drop k cs) i p
 corner_sum cs i p k j cell side stride number s f = rw (f.cell, f.side, f.stride, f.number) (sym s.number)
+
+-- a grid that has a cell has more than one point along each dimension
+pub more_than_one : (cs : List ℕ) → 0 < product (cells cs) → All (λ c. 1 < c) cs
+more_than_one [] h k d l = absurd (omega arith)
+more_than_one (c ∷ cs) h zero d l = elim (cases_lt 1 c) [
+      | inl some ↦ some
+      | inr few ↦ absurd (let none : c - 1 ≡ 0 = omega arith in let zero : (c - 1) * product (cells cs) ≡ 0 = rw none (zero-mul (product (cells cs))) in omega (arith, zero))
+    ]
+more_than_one (c ∷ cs) h (suc k) d l =
+    let rest : 0 < product (cells cs) = elim (cases_lt 0 (product (cells cs))) [
+      | inl some ↦ some
+      | inr few ↦ absurd (let none : product (cells cs) ≡ 0 = omega arith in let zero : (c - 1) * product (cells cs) ≡ 0 = rw none (mul-zero (c - 1)) in omega (arith, zero))
+    ] in
+    more_than_one cs rest k d (omega arith)
+
+crossed : (q k r : ℕ) → q * 2 * (k * r) ≡ 2 * k * (q * r)
+crossed q k r =
+    ap (λ x. x * (k * r)) (mul_comm q 2) ∙ mul_assoc 2 q (k * r) ∙ ap (λ x. 2 * x) (sym (mul_assoc q k r) ∙ ap (λ x. x * r) (mul_comm q k) ∙ mul_assoc k q r) ∙ sym (mul_assoc 2 k (q * r))
+
+-- such a grid has at most 2 ^ n times as many points as cells
+pub points-le : (cs : List ℕ) → All (λ c. 1 < c) cs → product cs ≤ 2 ^ length cs * product (cells cs)
+points-le [] h = omega arith
+points-le (c ∷ cs) h =
+    let some : 1 < c = All-head (λ c. 1 < c) c cs h in
+    let q = 2 ^ length cs in
+    let r = product (cells cs) in
+    let below = points-le cs (All-tail (λ c. 1 < c) c cs h) in
+    let double : c ≤ 2 * (c - 1) = omega arith in
+    let first : c * product cs ≤ 2 * (c - 1) * product cs = mul-le-mul_right (product cs) double in
+    let second : 2 * (c - 1) * product cs ≤ 2 * (c - 1) * (q * r) = mul-le-mul_left (2 * (c - 1)) below in
+    let two : 2 ^ suc (length cs) ≡ q * 2 = pow-suc 2 (length cs) in
+    let order : 2 * (c - 1) * (q * r) ≡ 2 ^ suc (length cs) * ((c - 1) * r) = sym (ap (λ x. x * ((c - 1) * r)) two ∙ crossed q (c - 1) r) in
+    omega (arith, first, second, order)
+
+pub corners-le : (cs : List ℕ) → length cs ≤ 3 → 2 ^ length cs ≤ 8
+corners-le [] h = omega arith
+corners-le (a ∷ []) h = omega arith
+corners-le (a ∷ b ∷ []) h = omega arith
+corners-le (a ∷ b ∷ c ∷ []) h = omega arith
+corners-le (a ∷ b ∷ c ∷ d ∷ cs) h = absurd (omega arith)
+
+-- the points of a grid that has no more cells than an array has items
+pub points_few : (cs : List ℕ) → length cs ≤ 3 → 0 < product (cells cs) → product (cells cs) ≤ 4194304 → product cs ≤ 33554432
+points_few cs h some few =
+    let a = points-le cs (more_than_one cs some) in
+    let b : 2 ^ length cs * product (cells cs) ≤ 8 * product (cells cs) = mul-le-mul_right (product (cells cs)) (corners-le cs h) in
+    omega (arith, a, b)

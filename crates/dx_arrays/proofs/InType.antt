@@ -1,6 +1,6 @@
 -- Whether all values of an array are of its type, by class: the test of a few values decides it.
-use Rattle.std.proofs.Common.{◌≡◌, ℕ, zero, suc, ◌+◌, ◌-◌, ◌*◌, ◌/◌, ◌%◌, ◌<◌, ◌≤◌, ℤ, pos, negsuc, ◌+ℤ◌, ◌*ℤ◌, ◌≤ℤ◌, List, [], ◌∷◌, length, Bool, true, false, ◌&&◌, refl, sym, ap, ◌∙◌, subst, arith}
-use Rattle.std.specs.Prelude.{int_le}
+use Rattle.std.proofs.Common.{◌≡◌, ℕ, zero, suc, ◌+◌, ◌-◌, ◌*◌, ◌/◌, ◌%◌, ◌<◌, ◌≤◌, ℤ, pos, negsuc, ◌+ℤ◌, ◌*ℤ◌, ◌≤ℤ◌, List, [], ◌∷◌, ◌^◌, length, Bool, true, false, ◌&&◌, refl, sym, ap, ◌∙◌, subst, arith}
+use Rattle.std.specs.Prelude.{int_le, slice_index}
 use Rattle.std.specs.List.{All, list_all, range_with_len}
 use Rattle.std.proofs.lemmas.Int.{ints}
 use Rattle.std.proofs.lemmas.Bool.{and_parts}
@@ -10,11 +10,13 @@ use Rattle.std.proofs.lemmas.Nat.{div-add-mod'}
 use Rattle.dx_base.specs.declared.elem.ElemType.{ElemType}
 use Rattle.dx_base.specs.declared.elem.ElemType.TheVariants.{Int}
 use Rattle.dx_base.specs.Elem.{in_range, lowest, highest}
-use Rattle.dx_base.specs.Array.{ArrayData, plain, constant, regular, grid_positions, product, width, items, value, number, offset, indices_of}
+use Rattle.dx_base.specs.Array.{ArrayData, plain, constant, regular, grid_positions, grid_connections, cells, corner_numbers, product, width, items, value, number, offset, indices_of}
 use Rattle.dx_base.specs.ArrayLimits.{is_in_type}
 use Rattle.dx_arrays.specs.Reach.{line_fits, lines_fit, point_fits, points_fit, lowest_offset, highest_offset}
 use Rattle.dx_arrays.proofs.Each.{bool_ext, each-at, each-of, values-at, values-of}
 use Rattle.dx_arrays.proofs.Products.{place-lt}
+use Rattle.dx_arrays.specs.Corner.{corner_at}
+use Rattle.dx_arrays.proofs.Cells.{corner_at-lt, corner_numbers_at, more_than_one, points_few}
 use Rattle.dx_arrays.proofs.Corners.{offset-le_highest, lowest-le_offset, highest_reached, lowest_reached}
 
 pub all-at : (p : ℤ → Bool) (vs : List ℤ) (k : ℕ) → list_all p vs ≡ true → k < length vs → p (number vs k) ≡ true
@@ -99,3 +101,17 @@ positions_in_type cs o ds some =
       let below = values-at (in_range Int) at (product cs) w low.0 p h low.1 (omega arith) in
       let above = values-at (in_range Int) at (product cs) w high.0 p h high.1 (omega arith) in
       both_true (subst (λ (z : ℤ). in_range Int (number o p +ℤ z) ≡ true) low.2 below) (subst (λ (z : ℤ). in_range Int (number o p +ℤ z) ≡ true) high.2 above)))
+
+int_of_small : (n : ℕ) → n < 2147483648 → in_range Int (pos n) ≡ true
+int_of_small n h = grind (arith, ints)
+
+-- the numbers of the corners are ints
+pub connections_in_type : (cs : List ℕ) → length cs ≤ 3 → product (cells cs) ≤ 4194304 → is_in_type (record { elem = Int; extents = 2 ^ length cs ∷ []; class = grid_connections cs }) ≡ true
+connections_in_type cs h few =
+    let q = 2 ^ length cs in
+    values-of (in_range Int) (λ i p. pos (slice_index (corner_numbers cs (indices_of (cells cs) i)) p)) (product (cells cs)) (q * 1) (λ i p l k.
+      let some : 0 < product (cells cs) = omega arith in
+      let small : corner_at cs i p < product cs = corner_at-lt cs i p (more_than_one cs some) in
+      let points = points_few cs h some few in
+      let at : slice_index (corner_numbers cs (indices_of (cells cs) i)) p ≡ corner_at cs i p = corner_numbers_at cs i p (omega arith) in
+      rw at (int_of_small (corner_at cs i p) (omega (arith, small, points))))

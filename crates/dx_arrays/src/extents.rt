@@ -150,7 +150,8 @@ pub(crate) fn corner_count(counts: &[u32]) -> u32
 pub(crate) fn has_room(items: u64, width: u64) -> bool
     requires some { 0 < width }
     requires few { width ≤ 65536 }
-    ensures { result ≡ (nat_le (items * width) (max_items * width) && nat_le (items * width) max_values) }
+    ensures room { result ≡ (nat_le (items * width) (max_items * width) && nat_le (items * width) max_values) }
+    ensures items { IsTrue result → items ≤ max_items }
 {
     items <= MAX_ITEMS && items * width <= MAX_VALUES
 }
