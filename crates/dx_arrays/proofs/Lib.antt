@@ -5,3 +5,4 @@ pub mod Each
 pub mod Reaching
 pub mod Corners
 pub mod InType
+pub mod Fits

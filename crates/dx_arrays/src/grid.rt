@@ -35,7 +35,8 @@ pub(crate) fn corner(counts: &[u32], item: u64, place: u64) -> u64
     requires counts { All (λ c. 1 < c) counts.now }
     requires place { place < 2 ^ length counts.now }
     requires points { product counts.now < 2 ^ 32 }
-    ensures { result ≡ slice_index (corner_numbers counts.now (indices_of (cells counts.now) item)) place }
+    ensures number { result ≡ slice_index (corner_numbers counts.now (indices_of (cells counts.now) item)) place }
+    ensures small { result < 2 ^ 32 }
 {
     let mut cell = item;
     let mut side = place;

@@ -1,7 +1,7 @@
 use Rattle.std.proofs.Common.{◌≡◌, ◌+◌, ◌-◌, ◌*◌, ◌/◌, ◌%◌, ◌∙◌, sym, ap, ℕ, length, drop, get_or, arith}
 use Rattle.dx_base.specs.Array.{product}
 use Rattle.dx_arrays.specs.Corner.{corner_at}
-use Rattle.dx_arrays.proofs.Cells.{CornerStep, CornerSoFar, corner_step, corner_sum, corner_numbers_at}
+use Rattle.dx_arrays.proofs.Cells.{CornerStep, CornerSoFar, corner_step, corner_sum, corner_numbers_at, corner_at-lt}
 use Rattle.dx_arrays.proofs.grid.corner.Goals as goal
 
 pub overflow_mul-number : goal.overflow_mul-number
@@ -40,8 +40,14 @@ loop-k-preserved c =
       number = corner_sum c.args.counts.now c.args.item c.args.place k c.loop-k.k _ _ _ _ s (record { cell = f.cell; side = f.side; stride = f.stride; number = f.number });
     }
 
-pub returns : goal.returns
-returns c =
+-- the number when the walk is done
+whole : (c : goal.After-loop-k) → c.loop-k.number ≡ corner_at c.args.counts.now c.args.item c.args.place
+whole c =
     let first : c.loop-k.k ≡ 0 = omega arith in
-    let all : c.loop-k.number ≡ corner_at c.args.counts.now c.args.item c.args.place = rw first at c.loop-k.invariant.number in
-    all ∙ sym (corner_numbers_at c.args.counts.now c.args.item c.args.place c.requires.place)
+    rw first at c.loop-k.invariant.number
+
+pub returns-clause-number : goal.returns-clause-number
+returns-clause-number c = whole c ∙ sym (corner_numbers_at c.args.counts.now c.args.item c.args.place c.requires.place)
+
+pub returns-clause-small : goal.returns-clause-small
+returns-clause-small c = omega (arith, whole c, corner_at-lt c.args.counts.now c.args.item c.args.place c.requires.counts)
