@@ -25,7 +25,7 @@ length-corner_numbers (c ∷ cs) (j ∷ js) h =
 pub length-cell : (cs : List ℕ) (i : ℕ) → length (corner_numbers cs (indices_of (cells cs) i)) ≡ 2 ^ length cs
 length-cell cs i = length-corner_numbers cs (indices_of (cells cs) i) (length-indices_of (cells cs) i ∙ length-map cs (λ c. c - 1))
 
-pow_pos : (n : ℕ) → 0 < 2 ^ n
+pub pow_pos : (n : ℕ) → 0 < 2 ^ n
 pow_pos zero = omega arith
 pow_pos (suc n) = let two : 2 ^ suc n ≡ 2 ^ n * 2 = pow-suc 2 n in omega (arith, two, pow_pos n)
 

@@ -6,3 +6,5 @@ pub mod Reaching
 pub mod Corners
 pub mod InType
 pub mod Fits
+pub mod PointLaws
+pub mod CellLaws

@@ -3,3 +3,4 @@ pub mod Makes
 pub mod View
 pub mod Reach
 pub mod Corner
+pub mod Laws

@@ -5,8 +5,10 @@
 mod array;
 mod extents;
 mod grid;
+mod laws;
 mod number;
 mod range;
 
 pub use array::{Array, ArrayClass, ArrayError, Shape};
+pub use laws::{cell_law, point_law, reach_law};
 pub use dx_base::{in_range, ElemType};
