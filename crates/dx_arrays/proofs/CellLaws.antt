@@ -39,25 +39,25 @@ corner_at-step (c ∷ cs) i p all h =
     let some = pow_pos (length cs) in
     elim (cases_lt (p + 1) q) [
       | inl low ↦
-        let a = near_corner c cs i p (omega arith) in
-        let b = near_corner c cs i (p + 1) low in
-        let below = corner_at-step cs i p rest low in
-        omega (arith, a, b, below)
+          let a = near_corner c cs i p (omega arith) in
+          let b = near_corner c cs i (p + 1) low in
+          let below = corner_at-step cs i p rest low in
+          omega (arith, a, b, below)
       | inr high ↦ elim (cases_lt p q) [
         | inl last ↦
-          let split : p + 1 ≡ 1 * q + 0 = omega arith in
-          let a = near_corner c cs i p last in
-          let b : corner_at (c ∷ cs) i (p + 1) ≡ (j + 1) * w + corner_at cs i 0 = ap (corner_at (c ∷ cs) i) split ∙ far_corner c cs i 0 some in
-          let one : j + 1 ≡ suc j = omega arith in
-          let row : (j + 1) * w ≡ j * w + w = ap (λ x. x * w) one ∙ suc-mul j w in
-          omega (arith, a, b, row, corner_at-lt cs i p rest)
+            let split : p + 1 ≡ 1 * q + 0 = omega arith in
+            let a = near_corner c cs i p last in
+            let b : corner_at (c ∷ cs) i (p + 1) ≡ (j + 1) * w + corner_at cs i 0 = ap (corner_at (c ∷ cs) i) split ∙ far_corner c cs i 0 some in
+            let one : j + 1 ≡ suc j = omega arith in
+            let row : (j + 1) * w ≡ j * w + w = ap (λ x. x * w) one ∙ suc-mul j w in
+            omega (arith, a, b, row, corner_at-lt cs i p rest)
         | inr far ↦
-          let split : p ≡ 1 * q + (p - q) = omega arith in
-          let next : p + 1 ≡ 1 * q + (p - q + 1) = omega arith in
-          let a : corner_at (c ∷ cs) i p ≡ (j + 1) * w + corner_at cs i (p - q) = ap (corner_at (c ∷ cs) i) split ∙ far_corner c cs i (p - q) (omega arith) in
-          let b : corner_at (c ∷ cs) i (p + 1) ≡ (j + 1) * w + corner_at cs i (p - q + 1) = ap (corner_at (c ∷ cs) i) next ∙ far_corner c cs i (p - q + 1) (omega arith) in
-          let below = corner_at-step cs i (p - q) rest (omega arith) in
-          omega (arith, a, b, below)
+            let split : p ≡ 1 * q + (p - q) = omega arith in
+            let next : p + 1 ≡ 1 * q + (p - q + 1) = omega arith in
+            let a : corner_at (c ∷ cs) i p ≡ (j + 1) * w + corner_at cs i (p - q) = ap (corner_at (c ∷ cs) i) split ∙ far_corner c cs i (p - q) (omega arith) in
+            let b : corner_at (c ∷ cs) i (p + 1) ≡ (j + 1) * w + corner_at cs i (p - q + 1) = ap (corner_at (c ∷ cs) i) next ∙ far_corner c cs i (p - q + 1) (omega arith) in
+            let below = corner_at-step cs i (p - q) rest (omega arith) in
+            omega (arith, a, b, below)
       ]
     ]
 
@@ -80,9 +80,9 @@ corner_point_number (c ∷ cs) i p = ap (λ x. (i / product (cells cs) % (c - 1)
 
 side : (j d : ℕ) → d < 2 → (j + d ≡ j) ⊎ (j + d ≡ j + 1)
 side j d h = elim (cases_lt d 1) [
-      | inl low ↦ inl (omega arith)
-      | inr high ↦ inr (omega arith)
-    ]
+  | inl low ↦ inl (omega arith)
+  | inr high ↦ inr (omega arith)
+]
 
 corner_point_is : (cs : List ℕ) (i p : ℕ) → IsCorner (indices_of (cells cs) i) (corner_point cs i p)
 corner_point_is [] i p = tt

@@ -68,21 +68,21 @@ corner_numbers_at (c ∷ cs) i p h =
     let near_half : length near ≡ q = length-map all (λ m. j * w + m) ∙ half in
     elim (cases_lt p q) [
       | inl low ↦
-        let at : get_or (near ++ far) p 0 ≡ get_or near p 0 = get_or-append near far 0 p (omega arith) in
-        let one : get_or near p 0 ≡ j * w + get_or all p 0 = get_or-map (λ m. j * w + m) all p 0 0 (omega arith) in
-        let none : p / q ≡ 0 = div-eq_of_lt low in
-        let same : (j + 0 % 2) * w ≡ j * w = ap (λ x. x * w) (omega arith) in
-        at ∙ one ∙ rw (none, same, corner_numbers_at cs i p low) refl
+          let at : get_or (near ++ far) p 0 ≡ get_or near p 0 = get_or-append near far 0 p (omega arith) in
+          let one : get_or near p 0 ≡ j * w + get_or all p 0 = get_or-map (λ m. j * w + m) all p 0 0 (omega arith) in
+          let none : p / q ≡ 0 = div-eq_of_lt low in
+          let same : (j + 0 % 2) * w ≡ j * w = ap (λ x. x * w) (omega arith) in
+          at ∙ one ∙ rw (none, same, corner_numbers_at cs i p low) refl
       | inr high ↦
-        let at : get_or (near ++ far) p 0 ≡ get_or far (p - q) 0 = get_or-append_right near far q p 0 near_half high in
-        let small : p - q < q = omega arith in
-        let one : get_or far (p - q) 0 ≡ (j + 1) * w + get_or all (p - q) 0 = get_or-map (λ m. (j + 1) * w + m) all (p - q) 0 0 (omega arith) in
-        let split : p ≡ 1 * q + (p - q) = omega arith in
-        let div : (1 * q + (p - q)) / q ≡ 1 + (p - q) / q = mul-add-div_right (pow_pos (length cs)) 1 (p - q) in
-        let none : (p - q) / q ≡ 0 = div-eq_of_lt small in
-        let digit : p / q % 2 ≡ 1 = ap (λ x. x / q % 2) split ∙ ap (λ x. x % 2) (div ∙ ap (λ x. 1 + x) none) in
-        let below : corner_at cs i p ≡ corner_at cs i (p - q) = ap (corner_at cs i) split ∙ corner_at-add cs i 1 (p - q) in
-        at ∙ one ∙ rw (digit, below, corner_numbers_at cs i (p - q) small) refl
+          let at : get_or (near ++ far) p 0 ≡ get_or far (p - q) 0 = get_or-append_right near far q p 0 near_half high in
+          let small : p - q < q = omega arith in
+          let one : get_or far (p - q) 0 ≡ (j + 1) * w + get_or all (p - q) 0 = get_or-map (λ m. (j + 1) * w + m) all (p - q) 0 0 (omega arith) in
+          let split : p ≡ 1 * q + (p - q) = omega arith in
+          let div : (1 * q + (p - q)) / q ≡ 1 + (p - q) / q = mul-add-div_right (pow_pos (length cs)) 1 (p - q) in
+          let none : (p - q) / q ≡ 0 = div-eq_of_lt small in
+          let digit : p / q % 2 ≡ 1 = ap (λ x. x / q % 2) split ∙ ap (λ x. x % 2) (div ∙ ap (λ x. 1 + x) none) in
+          let below : corner_at cs i p ≡ corner_at cs i (p - q) = ap (corner_at cs i) split ∙ corner_at-add cs i 1 (p - q) in
+          at ∙ one ∙ rw (digit, below, corner_numbers_at cs i (p - q) small) refl
     ]
 
 pub drop_product-le : (k : ℕ) (cs : List ℕ) → All (λ c. 1 < c) cs → product (drop k cs) ≤ product cs
@@ -135,9 +135,9 @@ corner_sum cs i p k j cell side stride number s f = rw (f.cell, f.side, f.stride
 pub more_than_one : (cs : List ℕ) → 0 < product (cells cs) → All (λ c. 1 < c) cs
 more_than_one [] h k d l = absurd (omega arith)
 more_than_one (c ∷ cs) h zero d l = elim (cases_lt 1 c) [
-      | inl some ↦ some
-      | inr few ↦ absurd (let none : c - 1 ≡ 0 = omega arith in let zero : (c - 1) * product (cells cs) ≡ 0 = rw none (zero-mul (product (cells cs))) in omega (arith, zero))
-    ]
+  | inl some ↦ some
+  | inr few ↦ absurd (let none : c - 1 ≡ 0 = omega arith in let zero : (c - 1) * product (cells cs) ≡ 0 = rw none (zero-mul (product (cells cs))) in omega (arith, zero))
+]
 more_than_one (c ∷ cs) h (suc k) d l =
     let rest : 0 < product (cells cs) = elim (cases_lt 0 (product (cells cs))) [
       | inl some ↦ some

@@ -38,9 +38,9 @@ plain_in_type t es vs some whole =
     bool_ext _ _
     (λ h. values-of (in_range t) (λ i p. number vs (i * w + p)) n w (λ i p l k. all-at (in_range t) vs (i * w + p) h (place-lt i w p (length vs) l k)))
     (λ h. all-of (in_range t) vs (λ k l.
-      let row : k / w < n = (div-lt_iff_lt-mul {x = k} {y = n} some).1 (rw full l) in
-      let at : in_range t (number vs (k / w * w + k % w)) ≡ true = values-at (in_range t) (λ i p. number vs (i * w + p)) n w (k / w) (k % w) h row (mod-lt k some) in
-      subst (λ (j : ℕ). in_range t (number vs j) ≡ true) (div-add-mod' k w) at))
+    let row : k / w < n = (div-lt_iff_lt-mul {x = k} {y = n} some).1 (rw full l) in
+    let at : in_range t (number vs (k / w * w + k % w)) ≡ true = values-at (in_range t) (λ i p. number vs (i * w + p)) n w (k / w) (k % w) h row (mod-lt k some) in
+    subst (λ (j : ℕ). in_range t (number vs j) ≡ true) (div-add-mod' k w) at))
 
 pub constant_in_type : (t : ElemType) (es : List ℕ) (n : ℕ) (v : List ℤ) → list_all (in_range t) v ≡ is_in_type (record { elem = t; extents = es; class = constant n v })
 constant_in_type t es n v = bool_ext _ _ (λ h. both_true h refl) (λ h. (and_parts (list_all (in_range t) v) true h).0)
@@ -80,9 +80,9 @@ regular_in_type t es n o d some len =
     bool_ext _ _
     (λ h. values-of (in_range t) at n w (λ i p l k. on_line t (number o p) (number d p) i (n - 1) (omega arith) (each-at fits (length o) p h (omega arith))))
     (λ h. each-of fits (length o) (λ p k.
-      let first : in_range t (number o p +ℤ pos 0 *ℤ number d p) ≡ true = values-at (in_range t) at n w 0 p h some (omega arith) in
-      let none : number o p +ℤ pos 0 *ℤ number d p ≡ number o p = omega (arith, ints) in
-      both_true (subst (λ (z : ℤ). in_range t z ≡ true) none first) (values-at (in_range t) at n w (n - 1) p h (omega arith) (omega arith))))
+    let first : in_range t (number o p +ℤ pos 0 *ℤ number d p) ≡ true = values-at (in_range t) at n w 0 p h some (omega arith) in
+    let none : number o p +ℤ pos 0 *ℤ number d p ≡ number o p = omega (arith, ints) in
+    both_true (subst (λ (z : ℤ). in_range t z ≡ true) none first) (values-at (in_range t) at n w (n - 1) p h (omega arith) (omega arith))))
 
 pub positions_in_type : (cs : List ℕ) (o ds : List ℤ) → All (λ c. 0 < c) cs → points_fit cs o ds ≡ is_in_type (record { elem = Int; extents = length cs ∷ []; class = grid_positions cs o ds })
 positions_in_type cs o ds some =
@@ -92,15 +92,15 @@ positions_in_type cs o ds some =
     let at : ℕ → ℕ → ℤ = λ i p. number o p +ℤ offset n (indices_of cs i) ds p in
     bool_ext _ _
     (λ h. values-of (in_range Int) at (product cs) w (λ i p l k.
-      let ends = and_parts (in_range Int (number o p +ℤ lowest_offset n cs ds p)) (in_range Int (number o p +ℤ highest_offset n cs ds p)) (each-at fits n p h (omega arith)) in
-      between Int (number o p +ℤ lowest_offset n cs ds p) (at i p) (number o p +ℤ highest_offset n cs ds p)
-      (omega (arith, ints, lowest-le_offset n cs ds i p some)) (omega (arith, ints, offset-le_highest n cs ds i p some)) ends.0 ends.1))
+    let ends = and_parts (in_range Int (number o p +ℤ lowest_offset n cs ds p)) (in_range Int (number o p +ℤ highest_offset n cs ds p)) (each-at fits n p h (omega arith)) in
+    between Int (number o p +ℤ lowest_offset n cs ds p) (at i p) (number o p +ℤ highest_offset n cs ds p)
+    (omega (arith, ints, lowest-le_offset n cs ds i p some)) (omega (arith, ints, offset-le_highest n cs ds i p some)) ends.0 ends.1))
     (λ h. each-of fits n (λ p k.
-      let low = lowest_reached n cs ds p some in
-      let high = highest_reached n cs ds p some in
-      let below = values-at (in_range Int) at (product cs) w low.0 p h low.1 (omega arith) in
-      let above = values-at (in_range Int) at (product cs) w high.0 p h high.1 (omega arith) in
-      both_true (subst (λ (z : ℤ). in_range Int (number o p +ℤ z) ≡ true) low.2 below) (subst (λ (z : ℤ). in_range Int (number o p +ℤ z) ≡ true) high.2 above)))
+    let low = lowest_reached n cs ds p some in
+    let high = highest_reached n cs ds p some in
+    let below = values-at (in_range Int) at (product cs) w low.0 p h low.1 (omega arith) in
+    let above = values-at (in_range Int) at (product cs) w high.0 p h high.1 (omega arith) in
+    both_true (subst (λ (z : ℤ). in_range Int (number o p +ℤ z) ≡ true) low.2 below) (subst (λ (z : ℤ). in_range Int (number o p +ℤ z) ≡ true) high.2 above)))
 
 int_of_small : (n : ℕ) → n < 2147483648 → in_range Int (pos n) ≡ true
 int_of_small n h = grind (arith, ints)
@@ -110,8 +110,8 @@ pub connections_in_type : (cs : List ℕ) → length cs ≤ 3 → product (cells
 connections_in_type cs h few =
     let q = 2 ^ length cs in
     values-of (in_range Int) (λ i p. pos (slice_index (corner_numbers cs (indices_of (cells cs) i)) p)) (product (cells cs)) (q * 1) (λ i p l k.
-      let some : 0 < product (cells cs) = omega arith in
-      let small : corner_at cs i p < product cs = corner_at-lt cs i p (more_than_one cs some) in
-      let points = points_few cs h some few in
-      let at : slice_index (corner_numbers cs (indices_of (cells cs) i)) p ≡ corner_at cs i p = corner_numbers_at cs i p (omega arith) in
-      rw at (int_of_small (corner_at cs i p) (omega (arith, small, points))))
+    let some : 0 < product (cells cs) = omega arith in
+    let small : corner_at cs i p < product cs = corner_at-lt cs i p (more_than_one cs some) in
+    let points = points_few cs h some few in
+    let at : slice_index (corner_numbers cs (indices_of (cells cs) i)) p ≡ corner_at cs i p = corner_numbers_at cs i p (omega arith) in
+    rw at (int_of_small (corner_at cs i p) (omega (arith, small, points))))

@@ -17,9 +17,9 @@ stopped x zero m = simp mul-zero
 stopped x (suc q) m =
     elim (cases_lt m x) [
       | inl h ↦ let cut : min x m ≡ m = omega arith in
-        let a : m * suc q ≡ m * q + m = mul-suc m q in
-        let b : x * suc q ≡ x * q + x = mul-suc x q in
-        rw cut (omega (arith, a, b))
+          let a : m * suc q ≡ m * q + m = mul-suc m q in
+          let b : x * suc q ≡ x * q + x = mul-suc x q in
+          rw cut (omega (arith, a, b))
       | inr h ↦ let whole : min x m ≡ x = omega arith in rw whole refl
     ]
 

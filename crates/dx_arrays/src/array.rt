@@ -7,7 +7,7 @@ ghost use Rattle.dx_arrays.specs.Makes.{Makes};
 ghost use Rattle.dx_arrays.specs.Classes.{kind_of, plain_of};
 
 use crate::extents::{
-    cell_count, corner_count, has_room, is_grid, product_of, Extents, MAX_ITEMS, MAX_VALUES,
+    Extents, MAX_ITEMS, MAX_VALUES, cell_count, corner_count, has_room, is_grid, product_of,
 };
 use crate::grid::{corner, position};
 use crate::number::{along, narrowed};
@@ -113,12 +113,7 @@ impl Array {
     }
 
     /// An array of so many items that are all this one.
-    pub fn constant(
-        t: ElemType,
-        s: Shape,
-        items: u64,
-        value: Vec<i64>,
-    ) -> Result<Array, ArrayError>
+    pub fn constant(t: ElemType, s: Shape, items: u64, value: Vec<i64>) -> Result<Array, ArrayError>
         ensures { Makes (record { elem = t; extents = s; class = spec.constant items value.items }) result }
     {
         let Some(extents) = Extents::of(s.as_slice()) else {

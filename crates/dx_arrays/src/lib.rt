@@ -10,5 +10,8 @@ mod number;
 mod range;
 
 pub use array::{Array, ArrayClass, ArrayError, Shape};
+pub use dx_base::{ElemType, in_range};
 pub use laws::{cell_law, point_law, reach_law};
-pub use dx_base::{in_range, ElemType};
+
+#[cfg(test)]
+mod tests;

@@ -10,7 +10,7 @@ ghost use Rattle.dx_arrays.specs.Reach.{lowest_offset, highest_offset, below_zer
 
 use crate::extents::Extents;
 use crate::number::{along, is_wide_in_range, scaled, widened};
-use dx_base::{in_range, ElemType};
+use dx_base::{ElemType, in_range};
 
 /// The least and the greatest value in one place.
 #[derive(Clone, Copy)]
