@@ -5,10 +5,9 @@ use Rattle.std.proofs.lemmas.Bool.{cases_lt}
 use Rattle.std.proofs.lemmas.List.{length-map, get_or-map, get_or-append_right}
 use Rattle.std.proofs.lemmas.List.Elements.{All-head, All-tail, All-drop, All-get_or}
 use Rattle.std.proofs.Math.ListN.{get_or-append}
-use Rattle.std.proofs.Math.Nat.{mul_assoc, mul_comm, mul-pos, pow-suc, mul-le-mul_left, mul-le-mul_right, mul-add-div_right, mul-add-mod_self_right, div-eq_of_lt, div-div-eq-div-mul, suc-mul, mul-zero, zero-mul}
+use Rattle.std.proofs.Math.Nat.{mul_assoc, mul_comm, pow-suc, mul-le-mul_left, mul-le-mul_right, mul-add-div_right, mul-add-mod_self_right, div-eq_of_lt, div-div-eq-div-mul, suc-mul, mul-zero, zero-mul}
 use Rattle.dx_base.specs.Array.{product, cells, indices_of, corner_numbers}
 use Rattle.dx_arrays.specs.Corner.{corner_at}
-use Rattle.dx_arrays.proofs.Products.{product-pos}
 
 pub length-indices_of : (cs : List ℕ) (i : ℕ) → length (indices_of cs i) ≡ length cs
 length-indices_of [] i = refl

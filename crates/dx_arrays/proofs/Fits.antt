@@ -1,7 +1,7 @@
 -- What is known of the values of an array that can be made.
-use Rattle.std.proofs.Common.{◌≡◌, ℕ, ◌<◌, ◌≤◌, ◌+◌, ◌*◌, ◌/◌, ◌^◌, get_or, refl, ap, ◌∙◌, subst, ℤ, pos, ◌+ℤ◌, ◌*ℤ◌, List, [], ◌∷◌, length, arith, FitsSigned, w64, true, Bool, ◌&&◌}
-use Rattle.std.specs.Prelude.{IsTrue, slice_index, nat_le, nat_eq}
-use Rattle.std.specs.List.{list_all, All}
+use Rattle.std.proofs.Common.{◌≡◌, ℕ, ◌<◌, ◌≤◌, ◌+◌, ◌*◌, ◌/◌, get_or, refl, ap, subst, ℤ, pos, ◌+ℤ◌, ◌*ℤ◌, List, [], ◌∷◌, length, arith, FitsSigned, w64, true}
+use Rattle.std.specs.Prelude.{slice_index, nat_le, nat_eq}
+use Rattle.std.specs.List.{list_all}
 use Rattle.std.proofs.lemmas.Int.{ints}
 use Rattle.std.proofs.lemmas.Bool.{and_parts, eqb-true}
 use Rattle.std.proofs.lemmas.Bool.Decides.{nat_tests}
@@ -9,7 +9,7 @@ use Rattle.std.proofs.lemmas.List.{get_or_read}
 use Rattle.std.proofs.Math.Nat.{le_of_mul-le-mul_right, mul-pos}
 use Rattle.dx_base.specs.declared.elem.ElemType.{ElemType}
 use Rattle.dx_base.specs.declared.elem.ElemType.TheVariants.{Byte, UByte, Short, UShort, Int, UInt}
-use Rattle.dx_base.specs.Elem.{in_range, lowest, highest}
+use Rattle.dx_base.specs.Elem.{in_range}
 use Rattle.dx_base.specs.Array.{ArrayData, Class, plain, constant, regular, grid_positions, grid_connections, product, cells, items, items_of, width, number, offset, indices_of, corner_numbers, value, value_of}
 use Rattle.dx_base.specs.ArrayLimits.{IsLawfulArray, is_in_type, is_shape, is_grid, has_room, has_lengths_of, has_shape, IsOfGrid}
 use Rattle.dx_arrays.proofs.Each.{values-at}

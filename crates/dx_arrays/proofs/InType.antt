@@ -1,7 +1,7 @@
 -- Whether all values of an array are of its type, by class: the test of a few values decides it.
-use Rattle.std.proofs.Common.{◌≡◌, ℕ, zero, suc, ◌+◌, ◌-◌, ◌*◌, ◌/◌, ◌%◌, ◌<◌, ◌≤◌, ℤ, pos, negsuc, ◌+ℤ◌, ◌*ℤ◌, ◌≤ℤ◌, List, [], ◌∷◌, ◌^◌, length, Bool, true, false, ◌&&◌, refl, sym, ap, ◌∙◌, subst, arith}
+use Rattle.std.proofs.Common.{◌≡◌, ℕ, zero, suc, ◌+◌, ◌-◌, ◌*◌, ◌/◌, ◌%◌, ◌<◌, ◌≤◌, ℤ, pos, negsuc, ◌+ℤ◌, ◌*ℤ◌, ◌≤ℤ◌, List, [], ◌∷◌, ◌^◌, length, Bool, true, refl, subst, arith}
 use Rattle.std.specs.Prelude.{int_le, slice_index}
-use Rattle.std.specs.List.{All, list_all, range_with_len}
+use Rattle.std.specs.List.{All, list_all}
 use Rattle.std.proofs.lemmas.Int.{ints}
 use Rattle.std.proofs.lemmas.Bool.{and_parts}
 use Rattle.std.specs.Cmp.Derive.{both_true}
@@ -10,7 +10,7 @@ use Rattle.std.proofs.lemmas.Nat.{div-add-mod'}
 use Rattle.dx_base.specs.declared.elem.ElemType.{ElemType}
 use Rattle.dx_base.specs.declared.elem.ElemType.TheVariants.{Int}
 use Rattle.dx_base.specs.Elem.{in_range, lowest, highest}
-use Rattle.dx_base.specs.Array.{ArrayData, plain, constant, regular, grid_positions, grid_connections, cells, corner_numbers, product, width, items, value, number, offset, indices_of}
+use Rattle.dx_base.specs.Array.{plain, constant, regular, grid_positions, grid_connections, cells, corner_numbers, product, number, offset, indices_of}
 use Rattle.dx_base.specs.ArrayLimits.{is_in_type}
 use Rattle.dx_arrays.specs.Reach.{line_fits, lines_fit, point_fits, points_fit, lowest_offset, highest_offset}
 use Rattle.dx_arrays.proofs.Each.{bool_ext, each-at, each-of, values-at, values-of}

@@ -1,10 +1,10 @@
 -- Points and their numbers: each says the other.
-use Rattle.std.proofs.Common.{◌≡◌, ℕ, zero, suc, ◌+◌, ◌*◌, ◌/◌, ◌%◌, ◌<◌, ◌≤◌, List, [], ◌∷◌, length, refl, sym, ap, ◌∙◌, subst, arith, inl, inr}
+use Rattle.std.proofs.Common.{◌≡◌, ℕ, ◌+◌, ◌*◌, ◌/◌, ◌%◌, ◌<◌, List, [], ◌∷◌, refl, sym, ap, ◌∙◌, arith, inl, inr}
 use Rattle.std.specs.List.{All}
 use Rattle.std.proofs.lemmas.Bool.{cases_lt}
 use Rattle.std.proofs.lemmas.List.Elements.{All-head, All-tail, All-cons}
 use Rattle.std.proofs.lemmas.Nat.{div-add-mod'}
-use Rattle.std.proofs.Math.Nat.{mul_comm, mul-zero, zero-mul, mod-lt, mod-eq_of_lt, div-lt_iff_lt-mul}
+use Rattle.std.proofs.Math.Nat.{mul-zero, zero-mul, mod-lt, mod-eq_of_lt, div-lt_iff_lt-mul}
 use Rattle.dx_base.specs.Array.{product, indices_of, point_number}
 use Rattle.dx_arrays.specs.Laws.{IsPoint}
 use Rattle.dx_arrays.proofs.Products.{product-pos}

@@ -1,10 +1,10 @@
 -- Products of extents and counts.
-use Rattle.std.proofs.Common.{◌≡◌, ℕ, zero, suc, ◌+◌, ◌*◌, ◌/◌, ◌-◌, ◌<◌, ◌≤◌, min, List, [], ◌∷◌, map, length, get_or, drop, refl, sym, ap, ◌∙◌, add-one, drop-cons, arith, inl, inr}
+use Rattle.std.proofs.Common.{◌≡◌, ℕ, zero, suc, ◌+◌, ◌*◌, ◌/◌, ◌-◌, ◌<◌, ◌≤◌, min, List, [], ◌∷◌, length, get_or, drop, refl, ap, ◌∙◌, add-one, drop-cons, arith, inl, inr}
 use Rattle.std.specs.List.{All}
 use Rattle.std.proofs.lemmas.List.Elements.{All-head, All-tail}
 use Rattle.std.proofs.lemmas.Bool.{cases_lt}
 use Rattle.std.proofs.Math.ListN.{drop_of_length-le}
-use Rattle.std.proofs.Math.Nat.{mul-pos, mul_assoc, mul-suc, mul-zero, mul-le-mul_right, mul-le-mul_left, div-mul-le_self, suc-mul}
+use Rattle.std.proofs.Math.Nat.{mul-pos, mul_assoc, mul-suc, mul-zero, mul-le-mul_right, div-mul-le_self, suc-mul}
 use Rattle.dx_base.specs.Array.{product, cells}
 
 pub product-pos : (cs : List ℕ) → All (λ c. 0 < c) cs → 0 < product cs

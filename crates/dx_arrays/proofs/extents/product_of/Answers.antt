@@ -1,4 +1,4 @@
-use Rattle.std.proofs.Common.{◌∙◌, arith, rules}
+use Rattle.std.proofs.Common.{◌∙◌, arith}
 use Rattle.dx_arrays.proofs.Products.{stopped_step, stopped_end}
 use Rattle.dx_arrays.proofs.extents.product_of.Goals as goal
 

@@ -1,7 +1,7 @@
-use Rattle.std.proofs.Common.{◌≡◌, ◌+◌, ◌-◌, ◌*◌, ◌/◌, ◌%◌, ◌∙◌, sym, ap, ℕ, length, drop, get_or, arith}
+use Rattle.std.proofs.Common.{◌≡◌, ◌-◌, ◌*◌, ◌/◌, ◌∙◌, sym, ap, drop, get_or, arith}
 use Rattle.dx_base.specs.Array.{product}
 use Rattle.dx_arrays.specs.Corner.{corner_at}
-use Rattle.dx_arrays.proofs.Cells.{CornerStep, CornerSoFar, corner_step, corner_sum, corner_numbers_at, corner_at-lt}
+use Rattle.dx_arrays.proofs.Cells.{corner_step, corner_sum, corner_numbers_at, corner_at-lt}
 use Rattle.dx_arrays.proofs.grid.corner.Goals as goal
 
 pub overflow_mul-number : goal.overflow_mul-number

@@ -1,6 +1,6 @@
-use Rattle.std.proofs.Common.{rules, ◌≡◌, ◌∙◌, ap, ◌+◌, ◌*◌, ◌<◌, ◌≤◌, ℕ, ℤ, pos, ◌+ℤ◌, ◌*ℤ◌, length, FitsSigned, nat_abs, ◌^◌, ◌-◌, ◌/◌, ◌%◌, List, slice_index_or, w64, to_z, of_z, arith}
+use Rattle.std.proofs.Common.{rules, ◌≡◌, ◌∙◌, ap, ◌+◌, ◌*◌, ◌<◌, pos, ◌+ℤ◌, ◌*ℤ◌, length, FitsSigned, ◌^◌, ◌-◌, ◌%◌, slice_index_or, w64, to_z, arith}
 use mir.Syntax.{w128}
-use Rattle.std.proofs.lemmas.Int.{ints, to_z-of_z}
+use Rattle.std.proofs.lemmas.Int.{to_z-of_z}
 use Rattle.dx_base.specs.Array as spec
 use Rattle.dx_base.specs.Array.{indices_of}
 use Rattle.dx_arrays.specs.Reach.{IsWithin}

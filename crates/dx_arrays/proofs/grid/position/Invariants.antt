@@ -1,4 +1,4 @@
-use Rattle.std.proofs.Common.{◌≡◌, ◌+◌, ◌-◌, ◌*◌, ◌/◌, ◌^◌, ◌≤◌, length, drop}
+use Rattle.std.proofs.Common.{◌≡◌, ◌-◌, ◌*◌, ◌/◌, ◌^◌, ◌≤◌, length, drop}
 use Rattle.dx_base.specs.Array.{product, offset, indices_of}
 use Rattle.dx_arrays.specs.Reach.{IsWithin}
 use Rattle.dx_arrays.proofs.grid.position.Given as goal

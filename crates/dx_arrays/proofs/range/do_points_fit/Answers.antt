@@ -1,4 +1,4 @@
-use Rattle.std.proofs.Common.{◌≡◌, ◌∙◌, sym, Bool, ℕ, length, FitsSigned, w64, rules}
+use Rattle.std.proofs.Common.{◌∙◌, sym, length, FitsSigned, w64, rules}
 use Rattle.std.proofs.lemmas.Int.{to_z-of_z}
 use Rattle.dx_base.specs.Array.{number}
 use Rattle.dx_arrays.specs.Reach.{point_fits}

@@ -1,4 +1,4 @@
-use Rattle.std.proofs.Common.{◌≡◌, ◌<◌, ◌∙◌, arith}
+use Rattle.std.proofs.Common.{◌<◌, ◌∙◌, arith}
 use Rattle.dx_base.specs.Array.{product}
 use Rattle.dx_arrays.proofs.InType.{plain_in_type}
 use Rattle.dx_arrays.proofs.range.plain_fits.Goals as goal

@@ -1,6 +1,6 @@
 use Rattle.std.proofs.Common.{◌≡◌, ◌≤◌, ◌^◌, [], ◌∷◌, ℕ, List, true, length, arith, rules}
 use Rattle.std.proofs.lemmas.Grind.{common_steps}
-use Rattle.dx_base.specs.Array.{product, cells, ArrayData, grid_connections}
+use Rattle.dx_base.specs.Array.{product, cells, grid_connections}
 use Rattle.dx_base.specs.ArrayLimits.{is_grid, is_in_type}
 use Rattle.dx_base.specs.declared.elem.ElemType.TheVariants.{Int}
 use Rattle.dx_arrays.proofs.InType.{connections_in_type}

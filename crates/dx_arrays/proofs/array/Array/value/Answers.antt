@@ -1,7 +1,7 @@
-use Rattle.std.proofs.Common.{◌≡◌, ◌<◌, ◌∙◌, sym, ap, FitsSigned, w64, to_z, of_z, pos, ◌+ℤ◌, ◌*ℤ◌, arith, rules, length}
+use Rattle.std.proofs.Common.{◌≡◌, ◌<◌, ◌∙◌, ap, FitsSigned, w64, pos, arith, rules}
 use mir.Syntax.{w128}
 use Rattle.std.proofs.lemmas.List.{get_or_read}
-use Rattle.std.proofs.lemmas.Int.{ints, to_z-of_z}
+use Rattle.std.proofs.lemmas.Int.{to_z-of_z}
 use Rattle.dx_base.specs.Array as spec
 use Rattle.dx_arrays.specs.View.{class_of, data_of}
 use Rattle.dx_arrays.proofs.Fits.{value_fits_of, plain_value, connections_points, regular_lengths, positions_length}
