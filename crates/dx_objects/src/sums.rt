@@ -10,7 +10,6 @@ ghost use Rattle.dx_objects.specs.Shown.{parts_of};
 ghost use Rattle.dx_objects.specs.View.{tree_of, IsLawfulBelow};
 
 use crate::object::{Body, Part, Parts};
-use dx_base::Bytes;
 
 #[derive(Clone, Copy)]
 pub(crate) struct Sums {
@@ -47,11 +46,11 @@ impl Sums {
     }
 }
 
-fn byte_count(bytes: &Bytes) -> u64
+fn byte_count(bytes: &[u8]) -> u64
     ensures count { result ≡ length bytes.now }
     ensures bytes { AreBytes bytes.now }
 {
-    bytes.bytes().len() as u64
+    bytes.len() as u64
 }
 
 fn name_length(part: &Part) -> u64
@@ -62,7 +61,7 @@ fn name_length(part: &Part) -> u64
     let _position = part.position;
     match &part.name {
         None => 0,
-        Some(name) => byte_count(name),
+        Some(name) => byte_count(name.bytes()),
     }
 }
 
@@ -114,7 +113,7 @@ impl Body {
                 let _items = array.items();
                 rest.with_own(array.size())
             }
-            Body::Text(text) => rest.with_own(byte_count(text).saturating_add(64)),
+            Body::Text(text) => rest.with_own(byte_count(text.bytes()).saturating_add(64)),
             Body::Field(parts) | Body::Group(parts) => parts.sums().and(rest).with_own(64),
             Body::Series(parts) => {
                 let positions = (parts.len() as u64).saturating_mul(4);

@@ -1,7 +1,7 @@
 use Rattle.std.proofs.Common.{◌≡◌, [], drop, arith}
 use Rattle.std.proofs.Math.ListN.{drop_of_length-le}
 use Rattle.dx_objects.proofs.PartsLaws.{append-no_parts}
-use Rattle.dx_objects.proofs.with.Parts.copy.Goals as goal
+use Rattle.dx_objects.proofs.object.Parts.copy.Goals as goal
 
 pub returns : goal.returns
 returns c =

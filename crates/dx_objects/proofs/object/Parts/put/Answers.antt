@@ -1,8 +1,8 @@
 use Rattle.std.proofs.Common.{◌≡◌, [], drop, arith}
 use Rattle.std.proofs.Math.ListN.{drop_of_length-le}
 use Rattle.dx_objects.proofs.PartsLaws.{append-no_parts}
-use Rattle.dx_objects.proofs.with.Parts.put.Goals as goal
-use Rattle.dx_objects.proofs.with.Parts.put.Goals.{then-not-is_placed-2+in_ok-copy_of+in_ok-push-2, else-not-is_placed-2}
+use Rattle.dx_objects.proofs.object.Parts.put.Goals as goal
+use Rattle.dx_objects.proofs.object.Parts.put.Goals.{then-not-is_placed-2+in_ok-copy_of+in_ok-push-2, else-not-is_placed-2}
 
 pub returns : goal.returns
 returns c =

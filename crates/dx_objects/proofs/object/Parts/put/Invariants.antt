@@ -2,7 +2,7 @@ use Rattle.std.proofs.Common.{◌≡◌, drop, cond}
 use Rattle.dx_base.specs.Object.{append}
 use Rattle.dx_base.specs.ObjectNames.{put}
 use Rattle.dx_objects.specs.Shown.{parts_of}
-use Rattle.dx_objects.proofs.with.Parts.put.Given as goal
+use Rattle.dx_objects.proofs.object.Parts.put.Given as goal
 
 abbrev pub invariant-loop-part : goal.invariant-loop-part
 invariant-loop-part l =
