@@ -11,7 +11,7 @@ mod outs;
 mod sums;
 mod with;
 
-pub use dx_arrays::{in_range, Array, ArrayClass, ArrayError, ElemType, Shape};
+pub use dx_arrays::{Array, ArrayClass, ArrayError, ElemType, Shape, in_range};
 pub use kinds::Kind;
 pub use makers::ObjectError;
 pub use object::{Object, Part, Parts};

@@ -117,7 +117,10 @@ impl Body {
             Body::Field(parts) | Body::Group(parts) => parts.sums().and(rest).with_own(64),
             Body::Series(parts) => {
                 let positions = (parts.len() as u64).saturating_mul(4);
-                parts.sums().and(rest).with_own(positions.saturating_add(64))
+                parts
+                    .sums()
+                    .and(rest)
+                    .with_own(positions.saturating_add(64))
             }
         }
     }

@@ -11,11 +11,7 @@ fn text(alloc: Global, bytes: &[u8]) -> Result<Rc<Object>, Fail> {
 
 fn numbers(alloc: Global, values: &[i64]) -> Result<Array, Fail> {
     let shape = Items::from_vec(Vec::new(alloc));
-    Ok(Array::plain(
-        ElemType::Int,
-        shape,
-        Vec::from_slice(alloc, values)?,
-    )?)
+    Ok(Array::plain(ElemType::Int, shape, Vec::from_slice(alloc, values)?)?)
 }
 
 fn shared(alloc: Global, array: Array, attrs: Parts) -> Result<Rc<Object>, Fail> {
@@ -106,9 +102,17 @@ fn members_keep_what_their_kind_has(rt: HostRuntime) -> Result<(), Fail> {
     let hello = text(alloc, b"hello")?;
     assert!(rt; hello.as_text() == Some(b"hello".as_slice()) && hello.size() == 69);
     let first = unnamed(-3, number(alloc, 1)?);
-    let series = Object::series(two(alloc, first, unnamed(7, hello.clone()?))?, Parts::new(alloc))?;
+    let series = Object::series(
+        two(alloc, first, unnamed(7, hello.clone()?))?,
+        Parts::new(alloc),
+    )?;
     assert_eq!(rt; series.size(), 64 + 4 + 68 + 4 + 69);
-    assert!(rt; series.parts().iter().all(|p| p.position == -3 || p.position == 7));
+    assert!(rt;
+        series
+            .parts()
+            .iter()
+            .all(|p| p.position == -3 || p.position == 7)
+    );
     let mut placed = named(alloc, b"a", hello.clone()?)?;
     placed.position = 5;
     let group = Object::group(two(alloc, placed, unnamed(6, hello)?)?, Parts::new(alloc))?;
@@ -123,14 +127,27 @@ fn members_keep_what_their_kind_has(rt: HostRuntime) -> Result<(), Fail> {
 fn names_come_before_arrays_and_arrays_before_limits(rt: HostRuntime) -> Result<(), Fail> {
     let alloc = rt.alloc();
     let word = text(alloc, b"word")?;
-    let twice = two(alloc, named(alloc, b"a", word.clone()?)?, named(alloc, b"a", word.clone()?)?)?;
+    let twice = two(
+        alloc,
+        named(alloc, b"a", word.clone()?)?,
+        named(alloc, b"a", word.clone()?)?,
+    )?;
     let field = Object::field(twice, Parts::new(alloc));
     assert!(rt; field.err() == Some(ObjectError::BadNames));
-    let field = Object::field(one(alloc, unnamed(0, number(alloc, 1)?))?, Parts::new(alloc));
+    let field = Object::field(
+        one(alloc, unnamed(0, number(alloc, 1)?))?,
+        Parts::new(alloc),
+    );
     assert!(rt; field.err() == Some(ObjectError::BadNames));
-    let field = Object::field(one(alloc, named(alloc, b"a", word.clone()?)?)?, Parts::new(alloc));
+    let field = Object::field(
+        one(alloc, named(alloc, b"a", word.clone()?)?)?,
+        Parts::new(alloc),
+    );
     assert!(rt; field.err() == Some(ObjectError::NotAnArray));
-    let series = Object::series(one(alloc, named(alloc, b"a", word.clone()?)?)?, Parts::new(alloc));
+    let series = Object::series(
+        one(alloc, named(alloc, b"a", word.clone()?)?)?,
+        Parts::new(alloc),
+    );
     assert!(rt; series.err() == Some(ObjectError::BadNames));
     let attrs = one(alloc, unnamed(0, word.clone()?))?;
     let group = Object::group(Parts::new(alloc), attrs);
@@ -228,7 +245,9 @@ fn a_component_is_put_in_its_place_or_last(rt: HostRuntime) -> Result<(), Fail> 
     assert!(rt; refused.err() == Some(WithError::NotAnArray));
     let shorter = field.without_component(alloc, b"connections")?;
     assert!(rt; shorter.parts().len() == 2 && shorter.size() == 601 - 11 - 229);
-    assert!(rt; shorter.without_component(alloc, b"connections").err() == Some(WithError::NoComponent));
+    assert!(rt;
+        shorter.without_component(alloc, b"connections").err() == Some(WithError::NoComponent)
+    );
     let word = text(alloc, b"x")?;
     assert!(rt; word.without_component(alloc, b"x").err() == Some(WithError::NotAField));
     let refused = word.with_component(alloc, &name, number(alloc, 5)?);

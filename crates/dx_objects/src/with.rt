@@ -74,9 +74,9 @@ impl Object {
         let Body::Field(parts) = &self.body else {
             return Err(WithError::NotAField);
         };
-        if self.component(name).is_none() {
+        let Some(_) = self.component(name) else {
             return Err(WithError::NoComponent);
-        }
+        };
         let parts = parts.without(alloc, name)?;
         let attributes = self.attributes.copy(alloc)?;
         match Object::field(parts, attributes) {
