@@ -115,7 +115,7 @@ fn members_keep_what_their_kind_has(rt: HostRuntime) -> Result<(), Fail> {
     );
     let mut placed = named(alloc, b"a", hello.clone()?)?;
     placed.position = 5;
-    let group = Object::group(two(alloc, placed, unnamed(6, hello)?)?, Parts::new(alloc))?;
+    let group = Object::group(two(alloc, placed, unnamed(6, hello))?, Parts::new(alloc))?;
     assert_eq!(rt; group.size(), 64 + 1 + 69 + 69);
     assert!(rt; group.parts().iter().all(|p| p.position == 0));
     assert_eq!(rt; size_of(group.member(b"a")), 69);
@@ -162,7 +162,7 @@ fn names_come_before_arrays_and_arrays_before_limits(rt: HostRuntime) -> Result<
 fn doubled(alloc: Global, leaf: Rc<Object>, times: usize) -> Result<Rc<Object>, Fail> {
     let mut object = leaf;
     for _ in 0..times {
-        let parts = two(alloc, unnamed(0, object.clone()?), unnamed(0, object)?)?;
+        let parts = two(alloc, unnamed(0, object.clone()?), unnamed(0, object))?;
         object = Rc::new(alloc, Object::group(parts, Parts::new(alloc))?)?;
     }
     Ok(object)

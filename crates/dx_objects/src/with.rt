@@ -78,8 +78,8 @@ impl Object {
             return Err(WithError::NoComponent);
         };
         let parts = parts.without(alloc, name)?;
-        let attributes = self.attributes.copy(alloc)?;
-        match Object::field(parts, attributes) {
+        let attrs = self.attributes.copy(alloc)?;
+        match Object::field(parts, attrs) {
             Ok(object) => Ok(object),
             // It is no larger than this one, and its names and kinds are good: this doesn't come.
             Err(_) => Err(WithError::TooLarge),

@@ -15,7 +15,7 @@ returns-in-Err c =
     let kind = c.in-Field.is in
     let allowed : IsAllowed (spec.field ps xs) = rw kind at (allowed_of _ c.self.invariant.lawful) in
     let own : unplaced (without c.args.name.now ps) ≡ without c.args.name.now ps = unplaced-without c.args.name.now ps ∙ ap (without c.args.name.now) allowed.positions.0 in
-    let refused : refusal (spec.field (without c.args.name.now ps) xs) ≡ Some c.in-Err.field-0 = rw (c.in_ok-parts.ensures, c.in_ok-attributes.ensures, own, allowed.positions.1) at c.in-Err.ensures in
+    let refused : refusal (spec.field (without c.args.name.now ps) xs) ≡ Some c.in-Err.field-0 = rw (c.in_ok-parts.ensures, c.in_ok-attrs.ensures, own, allowed.positions.1) at c.in-Err.ensures in
     let none : refusal (spec.field (without c.args.name.now ps) xs) ≡ None = refusal-without c.args.name.now ps xs allowed in
     absurd (cc (refused, none))
 
@@ -28,6 +28,6 @@ returns-in-Ok c =
     let is : spec.field ps xs ≡ c.args.self.now = rw kind at whole in
     let allowed : IsAllowed (spec.field ps xs) = rw kind at (allowed_of _ c.self.invariant.lawful) in
     let own : unplaced (without c.args.name.now ps) ≡ without c.args.name.now ps = unplaced-without c.args.name.now ps ∙ ap (without c.args.name.now) allowed.positions.0 in
-    let made = rw (c.in_ok-parts.ensures, c.in_ok-attributes.ensures, own, allowed.positions.1) at c.in-Ok.ensures in
+    let made = rw (c.in_ok-parts.ensures, c.in_ok-attrs.ensures, own, allowed.positions.1) at c.in-Ok.ensures in
     let found : find c.args.name.now ps ≡ Some c.in-Some.field-0.now.value = rw (← is) at c.in-Some.ensures in
     rw (← is) (rw found made.0)
