@@ -2,6 +2,9 @@
 -- and how many results it has.
 use Rattle.std.specs.Prelude.{ℕ, List, [], ◌∷◌, Option, find, codes}
 use Rattle.std.specs.Str.{bytes_eq}
+use Rattle.dx_base.specs.declared.function.Module.{Module}
+use Rattle.dx_base.specs.declared.function.Module.TheVariants as computing
+use Rattle.dx_base.specs.declared.function.Effect.{Effect}
 use Rattle.dx_base.specs.declared.function.Effect.TheVariants as effect
 use Rattle.dx_base.specs.declared.function.Function.{Function}
 use Rattle.dx_base.specs.declared.function.Function.TheVariants as function
@@ -12,13 +15,41 @@ pub record Row : Type 0 where
   pub more : ℕ
   pub results : ℕ
 
--- a function that isn't built has no name, and its row is empty
-abbrev pub row_of : Function → Row
-row_of (function.Effect effect.Print) = record { name = codes "Print"; params = codes "object" ∷ codes "options" ∷ codes "component" ∷ []; more = 0; results = 0 }
-row_of (function.Effect effect.Echo) = record { name = codes "Echo"; params = codes "string" ∷ []; more = 63; results = 0 }
-row_of other = record { name = []; params = []; more = 0; results = 0 }
+abbrev pub row : List ℕ → List (List ℕ) → ℕ → ℕ → Row
+row name params more results = record { name = name; params = params; more = more; results = results }
 
--- the functions that are built
+abbrev pub module_row : Module → Row
+module_row computing.Import = row (codes "Import") (codes "name" ∷ codes "variable" ∷ codes "format" ∷ codes "start" ∷ codes "end" ∷ codes "delta" ∷ []) 0 1
+module_row computing.Select = row (codes "Select") (codes "input" ∷ codes "which" ∷ codes "except" ∷ []) 0 1
+module_row computing.Extract = row (codes "Extract") (codes "input" ∷ codes "name" ∷ []) 0 1
+module_row computing.Replace = row (codes "Replace") (codes "srcfield" ∷ codes "dstfield" ∷ codes "srcname" ∷ codes "dstname" ∷ []) 0 1
+module_row computing.Mark = row (codes "Mark") (codes "input" ∷ codes "name" ∷ []) 0 1
+module_row computing.Unmark = row (codes "Unmark") (codes "input" ∷ codes "name" ∷ []) 0 1
+module_row computing.Slab = row (codes "Slab") (codes "input" ∷ codes "dimension" ∷ codes "position" ∷ codes "thickness" ∷ []) 0 1
+module_row computing.Compute = row (codes "Compute") (codes "expression" ∷ []) 20 1
+module_row computing.Statistics = row (codes "Statistics") (codes "data" ∷ []) 0 5
+module_row computing.Histogram = row (codes "Histogram") (codes "data" ∷ codes "bins" ∷ codes "min" ∷ codes "max" ∷ codes "out" ∷ []) 0 2
+module_row computing.Collect = row (codes "Collect") (codes "object" ∷ []) 63 1
+module_row computing.CollectNamed = row (codes "CollectNamed") (codes "object" ∷ codes "name" ∷ []) 62 1
+module_row computing.CollectSeries = row (codes "CollectSeries") (codes "object" ∷ codes "position" ∷ []) 62 1
+module_row computing.Inquire = row (codes "Inquire") (codes "input" ∷ codes "inquiry" ∷ codes "value" ∷ []) 0 1
+
+abbrev pub effect_row : Effect → Row
+effect_row effect.Print = row (codes "Print") (codes "object" ∷ codes "options" ∷ codes "component" ∷ []) 0 0
+effect_row effect.Echo = row (codes "Echo") (codes "string" ∷ []) 63 0
+effect_row effect.Export = row (codes "Export") (codes "object" ∷ codes "name" ∷ codes "format" ∷ []) 0 0
+effect_row effect.SetLocal = row (codes "SetLocal") (codes "object" ∷ codes "link" ∷ []) 0 1
+effect_row effect.SetGlobal = row (codes "SetGlobal") (codes "object" ∷ codes "link" ∷ []) 0 1
+
+abbrev pub row_of : Function → Row
+row_of (function.Module m) = module_row m
+row_of (function.Effect e) = effect_row e
+row_of function.Switch = row (codes "Switch") (codes "selector" ∷ codes "input" ∷ []) 62 1
+row_of function.Route = row (codes "Route") (codes "selector" ∷ codes "input" ∷ []) 0 64
+row_of function.GetLocal = row (codes "GetLocal") (codes "initial" ∷ codes "link" ∷ []) 0 2
+row_of function.GetGlobal = row (codes "GetGlobal") (codes "initial" ∷ codes "link" ∷ []) 0 2
+
+-- the functions that are built, which alone a script can name
 abbrev pub functions : List Function
 functions = function.Effect effect.Print ∷ function.Effect effect.Echo ∷ []
 

@@ -11,7 +11,7 @@ use Rattle.dx_base.specs.declared.token.SyntaxError.{SyntaxError}
 use Rattle.dx_base.specs.Tokens.Places as places
 use Rattle.dx_base.specs.Tokens.Reading.{lexeme_at, IsReached}
 use Rattle.dx_base.specs.Tokens.Reading.IsReached.{start, behind_token}
-use Rattle.dx_base.proofs.Reached.{reached_placed, goes_on}
+use Rattle.dx_base.proofs.Tokens.Reached.{reached_placed, goes_on}
 use Rattle.dx_session.specs.declared.script.Item.{Item}
 use Rattle.dx_session.specs.declared.script.Item.TheVariants as item
 use Rattle.dx_session.specs.Script.{Token, token_of, token_at, Spells, tokens_of, IsScriptFrom, IsScript}

@@ -1,0 +1,7 @@
+pub mod Names
+pub mod Site
+pub mod Tree
+pub mod Dictionary
+pub mod Expansion
+pub mod Walk
+pub mod Budget

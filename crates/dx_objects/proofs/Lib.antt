@@ -1,0 +1,4 @@
+pub mod PartsLaws
+pub mod PutLaws
+pub mod TakeLaws
+pub mod LawfulLaws
