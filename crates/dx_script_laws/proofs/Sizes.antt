@@ -11,8 +11,8 @@ use Rattle.dx_base.specs.Tokens.Gaps.{gap_bytes}
 use Rattle.dx_base.specs.Tokens.Spelling.{IsToken, IsString, IsWord, Item, Plain, Escaped, item_bytes, meaning}
 use Rattle.dx_base.specs.Tokens.Standing.{IsLexeme}
 use Rattle.dx_base.specs.Tokens.Reading.{lexeme_at, IsReached, start, behind_token}
-use Rattle.dx_base.proofs.Reached.{reached_placed}
-use Rattle.dx_base.proofs.StandingLaw.{only_lexeme}
+use Rattle.dx_base.proofs.Tokens.Reached.{reached_placed}
+use Rattle.dx_base.proofs.Tokens.StandingLaw.{only_lexeme}
 use Rattle.dx_ast.specs.Lawful.{IsName}
 use Rattle.dx_ast.specs.Script.{Tokens, with_token, with_lexeme, tokens_by, tokens_from, tokens_of}
 
