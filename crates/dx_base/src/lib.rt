@@ -1,13 +1,19 @@
-//! What every crate of the executive speaks of: texts as lists of bytes, numbers and their types, and the tokens of
-//! scripts.
+//! What every crate of the executive speaks of: texts as lists of bytes, numbers and their types, the names of
+//! functions and refusals, and the tokens of scripts.
 #![tactic(auto)]
 
 mod bytes;
+mod code;
 mod elem;
+mod function;
 mod items;
+mod number;
 mod token;
 
 pub use bytes::Bytes;
+pub use code::{Code, NativeKind};
 pub use elem::{ElemType, in_range};
+pub use function::{Effect, Function, Module};
 pub use items::Items;
+pub use number::read_int;
 pub use token::{LexKind, Lexeme, Place, SyntaxError, SyntaxKind};

@@ -1,0 +1,9 @@
+pub mod Classes
+pub mod Values
+pub mod Grammar
+pub mod Script
+pub mod Table
+pub mod Syntax
+pub mod Plain
+pub mod Value
+pub mod Lawful

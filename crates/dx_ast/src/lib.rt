@@ -1,0 +1,14 @@
+//! The syntax tree of scripts, the grammar that says which text is which tree, and the table of functions.
+#![tactic(auto)]
+
+mod constants;
+mod expressions;
+mod sequencing;
+mod statements;
+mod table;
+
+pub use constants::{Const, Ints, TextList};
+pub use expressions::{Arg, Args, Call, Expr};
+pub use sequencing::{FrameVar, Frames, Word};
+pub use statements::{Assign, MacroDef, Param, Params, Stmt, Stmts};
+pub use table::{function, more, named, param, results};

@@ -1,0 +1,115 @@
+ghost use Rattle.std.specs.Prelude.{◌≡◌, ◌≤◌, ◌-◌, ◌^◌, length, min};
+ghost use Rattle.std.specs.List.{list_all, prefix_len};
+ghost use Rattle.dx_base.specs.Number as spec;
+ghost use Rattle.dx_base.specs.Tokens.Classes.{is_digit, is_zero};
+ghost use Rattle.dx_base.specs.Tokens.Spelling.{value_of as digits_value};
+
+/// The number that a word of a native file spells: a sign or none, digits, and behind them a point with any number of
+/// zeros, also none, or nothing. None where the word is no such number, or where the number is no `i64`.
+#[tactic(auto, unfolding(crate::specs::Number::number_of))]
+pub fn read_int(s: &[u8]) -> Option<i64>
+    ensures { result ≡ spec.as_i64 (spec.number_of s.now) }
+{
+    match s {
+        [b'-', rest @ ..] => read_behind(true, rest),
+        [b'+', rest @ ..] => read_behind(false, rest),
+        [] => None,
+        _ => read_behind(false, s),
+    }
+}
+
+#[tactic(auto, unfolding(crate::specs::Number::number_behind))]
+fn read_behind(negative: bool, s: &[u8]) -> Option<i64>
+    ensures { result ≡ spec.as_i64 (spec.number_behind negative s.now) }
+{
+    let (digits, rest) = s.split_at(digit_len(s));
+    read_with(negative, digits, rest)
+}
+
+fn read_with(negative: bool, digits: &[u8], rest: &[u8]) -> Option<i64>
+    ensures { result ≡ spec.as_i64 (spec.number_with negative digits.now rest.now) }
+{
+    match digits {
+        [] => None,
+        _ if is_fraction(rest) => signed(negative, value_of(digits)),
+        _ => None,
+    }
+}
+
+fn digit_len(s: &[u8]) -> usize
+    ensures len { result ≡ prefix_len is_digit s.now }
+    ensures within { result ≤ length s.now }
+{
+    s.iter().take_while(|b| b.is_ascii_digit()).count()
+}
+
+fn is_fraction(s: &[u8]) -> bool
+    ensures { result ≡ spec.is_fraction s.now }
+{
+    match s {
+        [] => true,
+        [b, rest @ ..] => *b == b'.' && are_zeros(rest),
+    }
+}
+
+fn are_zeros(s: &[u8]) -> bool
+    ensures { result ≡ list_all is_zero s.now }
+{
+    s.iter().all(|b| *b == b'0')
+}
+
+/// The number of the digits, or the greatest `u64` where it is above that.
+fn value_of(digits: &[u8]) -> u64
+    ensures { result ≡ min (digits_value digits.now) (2 ^ 64 - 1) }
+{
+    let mut n = 0u64;
+    for b in digits {
+        n = n
+            .saturating_mul(10)
+            .saturating_add(u64::from(b.saturating_sub(b'0')));
+    }
+    n
+}
+
+fn signed(negative: bool, n: u64) -> Option<i64>
+    ensures { result ≡ spec.as_i64 (Some (spec.signed negative n)) }
+{
+    if negative {
+        i64::try_from(-(n as i128)).ok()
+    } else {
+        i64::try_from(n).ok()
+    }
+}
+
+#[cfg(test)]
+mod tests {
+    use super::*;
+
+    #[test]
+    fn words_are_read_as_numbers(rt: HostRuntime) {
+        for (word, number) in [
+            ("0", Some(0)),
+            ("007", Some(7)),
+            ("+5", Some(5)),
+            ("-0", Some(0)),
+            ("1.", Some(1)),
+            ("1.000", Some(1)),
+            ("-9223372036854775808", Some(i64::MIN)),
+            ("9223372036854775807", Some(i64::MAX)),
+            ("9223372036854775808", None),
+            ("-9223372036854775809", None),
+            ("99999999999999999999", None),
+            ("", None),
+            ("-", None),
+            ("+-1", None),
+            (".0", None),
+            ("1.5", None),
+            ("1.0.", None),
+            ("1e5", None),
+            ("0x10", None),
+            (" 1", None),
+        ] {
+            assert_eq!(rt; read_int(word.as_bytes()), number, "at {word}");
+        }
+    }
+}

@@ -1,0 +1,3 @@
+pub mod Loadings
+pub mod Splicing
+pub mod Texts

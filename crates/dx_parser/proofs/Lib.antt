@@ -1,0 +1,3 @@
+pub mod Behind
+pub mod Ranging
+pub mod Answered

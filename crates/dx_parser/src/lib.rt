@@ -1,0 +1,17 @@
+//! The parser of scripts: the statements of a text, or its first error.
+#![tactic(auto)]
+
+mod calls;
+mod constants;
+mod cursor;
+mod fail;
+mod lists;
+mod macros;
+mod script;
+mod statements;
+#[cfg(test)]
+mod tests;
+mod words;
+
+pub use fail::ParseFail;
+pub use script::parse;

@@ -1,0 +1,9 @@
+pub mod Tokens
+pub mod Constants
+pub mod Calls
+pub mod Statements
+pub mod Words
+pub mod Script
+pub mod Texts
+pub mod Loops
+pub mod Ranges

@@ -1,0 +1,4 @@
+pub mod Grammar
+pub mod Loop
+pub mod Outcomes
+pub mod Playing

@@ -1,0 +1,59 @@
+-- What a session prints and asks for, and the status with which it ends.
+use Rattle.std.specs.Prelude.{◌≡◌, ◌⊎◌, ℕ, List, [], ◌∷◌, Option, Some, None, Result, Ok, Err, String, map, Bool, not, nat_eq, ◌||◌, ◌==◌, if◌then◌else◌, string_bytes, codes}
+use Rattle.std.specs.Str.{bytes_eq}
+use Rattle.std.specs.List.{starts_with}
+use Rattle.std.specs.Bool.{MatchBool}
+use Rattle.std.specs.declared.alloc.Global.{Global}
+use Rattle.dx_session.specs.declared.end.End.{End}
+use Rattle.dx_io.specs.Devices.{FileMap, Grows, GrowsInto}
+use Rattle.dx_session.specs.declared.script.Item.{Item}
+use Rattle.dx_session.specs.Printing.{printed, unbound}
+use Rattle.dx_session.specs.Script.{IsScript}
+use Rattle.dx_session.specs.Lines.{usage_line, missing_line, not_built_line}
+
+-- the words as texts
+abbrev pub texts : List (String Global) → List (List ℕ)
+texts words = map (λ (w : String Global). string_bytes w) words
+
+-- a word that names a session: one that doesn't begin with a dash, or is a dash alone
+abbrev pub is_session : List ℕ → Bool
+is_session word = not (starts_with nat_eq word (codes "-")) || bytes_eq word (codes "-")
+
+-- the session that the words name, which is one word alone
+abbrev pub line : List (List ℕ) → Option (List ℕ)
+line [] = None
+line (word ∷ []) = if is_session word then Some word else None
+line (word ∷ other ∷ words) = None
+
+pub record Outcome : Type 0 where
+  pub text : List ℕ
+  pub reads : List (List ℕ)
+  pub status : ℕ
+
+-- What a session comes to. It reads the file that it names, and prints what its script says.
+pub data IsOutcome (words : List (List ℕ)) (files : FileMap) : Outcome → Type 0 where
+  no_line : line words ≡ None → IsOutcome words files (record { text = usage_line; reads = []; status = 3 })
+  missing : (name : List ℕ) → line words ≡ Some name → files name ≡ None → IsOutcome words files (record { text = missing_line name; reads = name ∷ []; status = 2 })
+  not_built : (name bytes : List ℕ) → line words ≡ Some name → files name ≡ Some bytes → ((items : List Item) → IsScript bytes items → ⊥)
+      → IsOutcome words files (record { text = not_built_line name; reads = name ∷ []; status = 2 })
+  performed : (name bytes : List ℕ) (items : List Item) → line words ≡ Some name → files name ≡ Some bytes → IsScript bytes items
+      → IsOutcome words files (record { text = printed unbound items; reads = name ∷ []; status = 0 })
+
+-- the status of a session that was cut short by a device or by want of memory
+abbrev pub is_cut : ℕ → Bool
+is_cut status = (status == 4) || (status == 5) || (status == 7)
+
+-- the status of a session that came to its end
+abbrev pub IsWhole : ℕ → Type 0
+IsWhole status = (status ≡ 0) ⊎ (status ≡ 2) ⊎ (status ≡ 3)
+
+-- the outcome came whole with its own status, or was cut short
+abbrev pub EndsAs : ℕ → Outcome → Option (List ℕ) → Option (List ℕ) → Option (List (List ℕ)) → Option (List (List ℕ)) → Type 0
+EndsAs status o old new asked_old asked_new =
+    MatchBool (is_cut status) (GrowsInto old new o.text × GrowsInto asked_old asked_new o.reads)
+    ((status ≡ o.status) × Grows old new o.text × Grows asked_old asked_new o.reads)
+
+-- the same of a call that answers a status at Ok and what cut it short at Err
+abbrev pub Ends : Result ℕ End → Outcome → Option (List ℕ) → Option (List ℕ) → Option (List (List ℕ)) → Option (List (List ℕ)) → Type 0
+Ends (Ok status) o old new asked_old asked_new = (status ≡ o.status) × Grows old new o.text × Grows asked_old asked_new o.reads
+Ends (Err _) o old new asked_old asked_new = GrowsInto old new o.text × GrowsInto asked_old asked_new o.reads
