@@ -120,7 +120,12 @@ fn members_keep_what_their_kind_has(rt: HostRuntime) -> Result<(), Fail> {
     let members = list(alloc, &[(b"", -3), (b"", 7)], &hello)?;
     let series = Object::series(members, Parts::new(alloc))?;
     assert!(rt; series.size() == 64 + 2 * (4 + 69));
-    assert!(rt; series.parts().iter().all(|p| p.position == -3 || p.position == 7));
+    assert!(rt;
+        series
+            .parts()
+            .iter()
+            .all(|p| p.position == -3 || p.position == 7)
+    );
     let members = list(alloc, &[(b"a", 5), (b"", 6)], &hello)?;
     let group = Object::group(members, Parts::new(alloc))?;
     assert!(rt; group.size() == 64 + 1 + 69 + 69 && size_of(group.member(b"a")) == 69);
@@ -154,9 +159,19 @@ fn names_come_before_arrays(rt: HostRuntime) -> Result<(), Fail> {
     let cases: [(Kind, &[(&[u8], i32)], &[(&[u8], i32)], Option<ObjectError>); 8] = [
         (Kind::Field, &[(b"a", 0), (b"a", 0)], &[], bad),
         (Kind::Field, &[(b"", 0)], &[], bad),
-        (Kind::Field, &[(b"a", 0)], &[], Some(ObjectError::NotAnArray)),
+        (
+            Kind::Field,
+            &[(b"a", 0)],
+            &[],
+            Some(ObjectError::NotAnArray),
+        ),
         (Kind::Group, &[(b"a", 0), (b"", 0), (b"a", 0)], &[], bad),
-        (Kind::Group, &[(b"a", 0), (b"", 0), (b"", 0)], &[(b"a", 0)], None),
+        (
+            Kind::Group,
+            &[(b"a", 0), (b"", 0), (b"", 0)],
+            &[(b"a", 0)],
+            None,
+        ),
         (Kind::Group, &[], &[(b"", 0)], bad),
         (Kind::Series, &[(b"", 2), (b"", 2)], &[], None),
         (Kind::Series, &[(b"a", 2)], &[], bad),
