@@ -89,48 +89,66 @@ fn size_of(object: Option<&Rc<Object>>) -> u64 {
     }
 }
 
-#[test]
-fn a_field_over_a_grid_states_its_size(rt: HostRuntime) -> Result<(), Fail> {
-    let field = grid_field(rt.alloc())?;
-    assert!(rt; field.size() == 601 && field.count() == 7 && field.levels() == 3);
-    assert!(rt; field.kind() == Kind::Field && field.parts().len() == 3);
-    assert!(rt; size_of(field.component(b"connections")) == 229);
-    assert!(rt; field.member(b"data").is_none() && field.attribute(b"dep").is_none());
-    assert!(rt; field.as_array().is_none() && field.as_text().is_none());
-    Ok(())
+// Size, count and levels.
+fn measures_of(object: &Object) -> (u64, u64, u64) {
+    (object.size(), object.count(), object.levels())
 }
 
-#[test]
-fn an_array_and_a_text_show_what_they_hold(rt: HostRuntime) -> Result<(), Fail> {
-    let alloc = rt.alloc();
+fn field_measures(alloc: Global) -> Result<(u64, u64, u64), Fail> {
+    Ok(measures_of(&grid_field(alloc)?))
+}
+
+// Whether the field over a grid shows its components and nothing else.
+fn shows_components(alloc: Global) -> Result<bool, Fail> {
+    let field = grid_field(alloc)?;
+    let is_field = field.kind() == Kind::Field && field.parts().len() == 3;
+    let has_no_more = field.as_array().is_none() && field.as_text().is_none();
+    let finds = size_of(field.component(b"connections")) == 229;
+    let finds_no_more = field.member(b"data").is_none() && field.attribute(b"dep").is_none();
+    Ok(is_field && has_no_more && finds && finds_no_more)
+}
+
+fn shows_array(alloc: Global) -> Result<bool, Fail> {
     let data = data(alloc)?;
-    assert!(rt; data.kind() == Kind::Array && data.size() == 188);
-    assert!(rt; size_of(data.attribute(b"dep")) == 73);
-    assert!(rt; data.as_array().is_some_and(|a| a.items() == 12));
+    let is_array = data.as_array().is_some_and(|a| a.items() == 12);
+    Ok(is_array && data.kind() == Kind::Array && size_of(data.attribute(b"dep")) == 73)
+}
+
+fn shows_text(alloc: Global) -> Result<bool, Fail> {
     let hello = text(alloc, b"hello")?;
-    assert!(rt; hello.kind() == Kind::Text && hello.size() == 69);
-    assert!(rt; hello.as_text() == Some(b"hello".as_slice()));
-    Ok(())
+    let is_text = hello.as_text() == Some(b"hello".as_slice());
+    Ok(is_text && hello.kind() == Kind::Text && hello.size() == 69)
 }
 
 #[test]
-fn members_keep_what_their_kind_has(rt: HostRuntime) -> Result<(), Fail> {
+fn objects_show_what_they_hold(rt: HostRuntime) -> Result<(), Fail> {
     let alloc = rt.alloc();
-    let hello = text(alloc, b"hello")?;
-    let members = list(alloc, &[(b"", -3), (b"", 7)], &hello)?;
+    assert!(rt; field_measures(alloc)? == (601, 7, 3));
+    assert!(rt; shows_components(alloc)?);
+    assert!(rt; shows_array(alloc)?);
+    assert!(rt; shows_text(alloc)?);
+    Ok(())
+}
+
+fn keeps_positions(alloc: Global) -> Result<bool, Fail> {
+    let members = list(alloc, &[(b"", -3), (b"", -3)], &text(alloc, b"hello")?)?;
     let series = Object::series(members, Parts::new(alloc))?;
-    assert!(rt; series.size() == 64 + 2 * (4 + 69));
-    assert!(rt;
-        series
-            .parts()
-            .iter()
-            .all(|p| p.position == -3 || p.position == 7)
-    );
-    let members = list(alloc, &[(b"a", 5), (b"", 6)], &hello)?;
+    let is_placed = series.parts().iter().all(|p| p.position == -3);
+    Ok(is_placed && series.size() == 64 + 2 * (4 + 69))
+}
+
+fn has_no_positions(alloc: Global) -> Result<bool, Fail> {
+    let members = list(alloc, &[(b"a", 5), (b"", 6)], &text(alloc, b"hello")?)?;
     let group = Object::group(members, Parts::new(alloc))?;
-    assert!(rt; group.size() == 64 + 1 + 69 + 69 && size_of(group.member(b"a")) == 69);
-    assert!(rt; group.parts().iter().all(|p| p.position == 0));
-    assert!(rt; group.member(b"b").is_none() && group.component(b"a").is_none());
+    let is_unplaced = group.parts().iter().all(|p| p.position == 0);
+    let finds = size_of(group.member(b"a")) == 69 && group.member(b"b").is_none();
+    Ok(is_unplaced && finds && group.size() == 64 + 1 + 69 + 69)
+}
+
+#[test]
+fn members_of_a_series_alone_have_positions(rt: HostRuntime) -> Result<(), Fail> {
+    assert!(rt; keeps_positions(rt.alloc())?);
+    assert!(rt; has_no_positions(rt.alloc())?);
     Ok(())
 }
 
@@ -151,10 +169,17 @@ fn refusal(
     })
 }
 
+fn refusal_of_words(
+    alloc: Global,
+    kind: Kind,
+    names: &[(&[u8], i32)],
+    attributes: &[(&[u8], i32)],
+) -> Result<Option<ObjectError>, Fail> {
+    refusal(alloc, kind, names, attributes, &text(alloc, b"word")?)
+}
+
 #[test]
 fn names_come_before_arrays(rt: HostRuntime) -> Result<(), Fail> {
-    let alloc = rt.alloc();
-    let word = text(alloc, b"word")?;
     let bad = Some(ObjectError::BadNames);
     let cases: [(Kind, &[(&[u8], i32)], &[(&[u8], i32)], Option<ObjectError>); 8] = [
         (Kind::Field, &[(b"a", 0), (b"a", 0)], &[], bad),
@@ -177,9 +202,18 @@ fn names_come_before_arrays(rt: HostRuntime) -> Result<(), Fail> {
         (Kind::Series, &[(b"a", 2)], &[], bad),
     ];
     for (kind, names, attributes, expected) in cases {
-        assert!(rt; refusal(alloc, kind, names, attributes, &word)? == expected);
+        assert!(rt; refusal_of_words(rt.alloc(), kind, names, attributes)? == expected);
     }
     Ok(())
+}
+
+// So many parts without names that share one object.
+fn repeated(alloc: Global, times: usize, object: &Rc<Object>) -> Result<Parts, Fail> {
+    let mut parts = Parts::new(alloc);
+    for _ in 0..times {
+        push(alloc, &mut parts, b"", object.clone()?)?;
+    }
+    Ok(parts)
 }
 
 // A group of these parts.
@@ -196,105 +230,117 @@ fn nested(alloc: Global, leaf: Rc<Object>, width: usize, times: usize) -> Result
     Ok(object)
 }
 
-// So many parts without names that share one object.
-fn repeated(alloc: Global, times: usize, object: &Rc<Object>) -> Result<Parts, Fail> {
-    let mut parts = Parts::new(alloc);
-    for _ in 0..times {
-        push(alloc, &mut parts, b"", object.clone()?)?;
-    }
-    Ok(parts)
+// The measures of an object, and why it is no attribute or member of a further one.
+fn measures_at_limit(
+    alloc: Global,
+    object: &Rc<Object>,
+) -> Result<((u64, u64, u64), Option<ObjectError>), Fail> {
+    let refused = refusal(alloc, Kind::Series, &[], &[(b"a", 0)], object)?;
+    Ok((measures_of(object), refused))
 }
 
-#[test]
-fn the_count_is_reached_by_sharing(rt: HostRuntime) -> Result<(), Fail> {
-    let alloc = rt.alloc();
+fn many_objects(alloc: Global) -> Result<Rc<Object>, Fail> {
     let tree = nested(alloc, text(alloc, b"")?, 2, 19)?;
-    let many = nested(alloc, tree, 1, 1)?;
-    assert!(rt; many.count() == 1048576 && many.levels() == 21);
-    let refused = refusal(alloc, Kind::Group, &[(b"", 0)], &[], &many)?;
-    assert!(rt; refused == Some(ObjectError::TooLarge));
-    Ok(())
+    nested(alloc, tree, 1, 1)
 }
 
 #[test]
-fn an_object_may_have_64_levels(rt: HostRuntime) -> Result<(), Fail> {
+fn limits_are_reached_by_sharing(rt: HostRuntime) -> Result<(), Fail> {
     let alloc = rt.alloc();
-    let deep = nested(alloc, text(alloc, b"")?, 1, 63)?;
-    assert!(rt; deep.levels() == 64 && deep.size() == 64 * 64);
-    let refused = refusal(alloc, Kind::Series, &[], &[(b"a", 0)], &deep)?;
-    assert!(rt; refused == Some(ObjectError::TooLarge));
+    let many = measures_at_limit(alloc, &many_objects(alloc)?)?;
+    assert!(rt; many == ((67108864, 1048576, 21), Some(ObjectError::TooLarge)));
+    let deep = measures_at_limit(alloc, &nested(alloc, text(alloc, b"")?, 1, 63)?)?;
+    assert!(rt; deep == ((4096, 64, 64), Some(ObjectError::TooLarge)));
     Ok(())
+}
+
+// Why no group is made of 2049 of these texts of 131008 stated bytes, of which the last may have a name.
+fn refusal_of_many(alloc: Global, name: &[u8]) -> Result<Option<ObjectError>, Fail> {
+    let leaf = text(alloc, &vec![in alloc; 0; 130944]?)?;
+    let mut parts = repeated(alloc, 2048, &leaf)?;
+    push(alloc, &mut parts, name, leaf)?;
+    Ok(Object::group(parts, Parts::new(alloc)).err())
 }
 
 #[test]
 fn the_size_may_reach_its_limit_to_the_byte(rt: HostRuntime) -> Result<(), Fail> {
-    let alloc = rt.alloc();
-    let bytes = vec![in alloc; 0; 130944]?;
-    let leaf = text(alloc, &bytes)?;
-    let mut parts = repeated(alloc, 2048, &leaf)?;
-    push(alloc, &mut parts, b"x", leaf.clone()?)?;
-    assert!(rt; Object::group(parts, Parts::new(alloc)).err() == Some(ObjectError::TooLarge));
-    let full = grouped(alloc, repeated(alloc, 2049, &leaf)?)?;
-    assert!(rt; full.size() == 268435456);
+    assert!(rt; refusal_of_many(rt.alloc(), b"")?.is_none());
+    assert!(rt; refusal_of_many(rt.alloc(), b"x")? == Some(ObjectError::TooLarge));
     Ok(())
+}
+
+// The count of a group of so many parts, and the levels of a thousand parts so many groups deep.
+fn let_go(alloc: Global, width: usize, depth: usize) -> Result<(u64, u64), Fail> {
+    let leaf = text(alloc, b"")?;
+    let wide = grouped(alloc, repeated(alloc, width, &leaf)?)?;
+    let deep = nested(
+        alloc,
+        grouped(alloc, repeated(alloc, 1000, &leaf)?)?,
+        1,
+        depth,
+    )?;
+    Ok((wide.count(), deep.levels()))
 }
 
 #[test]
 fn a_million_parts_and_64_levels_are_let_go(rt: HostRuntime) -> Result<(), Fail> {
-    let alloc = rt.alloc();
-    let leaf = text(alloc, b"")?;
-    let wide = grouped(alloc, repeated(alloc, 1048575, &leaf)?)?;
-    assert!(rt; wide.count() == 1048576);
-    let wide = grouped(alloc, repeated(alloc, 1000, &leaf)?)?;
-    assert!(rt; nested(alloc, wide, 1, 62)?.levels() == 64);
+    assert!(rt; let_go(rt.alloc(), 1048575, 62)? == (1048576, 64));
     Ok(())
 }
 
-// The number of parts and the size of the field with a number under this name.
-fn measured_with(alloc: Global, field: &Object, name: &[u8]) -> Result<(usize, u64), Fail> {
+// The number of parts and the size of the field over a grid with a number under this name.
+fn measured_with(alloc: Global, name: &[u8]) -> Result<(usize, u64), Fail> {
     let name = Bytes::copy_of(alloc, name)?;
-    let other = field.with_component(alloc, &name, number(alloc, 5)?)?;
+    let other = grid_field(alloc)?.with_component(alloc, &name, number(alloc, 5)?)?;
+    Ok((other.parts().len(), other.size()))
+}
+
+fn measured_without(alloc: Global, name: &[u8]) -> Result<(usize, u64), Fail> {
+    let other = grid_field(alloc)?.without_component(alloc, name)?;
     Ok((other.parts().len(), other.size()))
 }
 
 #[test]
 fn a_component_is_put_in_its_place_or_last(rt: HostRuntime) -> Result<(), Fail> {
     let alloc = rt.alloc();
-    let field = grid_field(alloc)?;
-    assert!(rt; measured_with(alloc, &field, b"connections")? == (3, 601 - 229 + 68));
-    assert!(rt; measured_with(alloc, &field, b"x")? == (4, 601 + 1 + 68));
-    let shorter = field.without_component(alloc, b"connections")?;
-    assert!(rt; shorter.parts().len() == 2 && shorter.size() == 601 - 11 - 229);
+    assert!(rt; measured_with(alloc, b"connections")? == (3, 601 - 229 + 68));
+    assert!(rt; measured_with(alloc, b"x")? == (4, 601 + 1 + 68));
+    assert!(rt; measured_without(alloc, b"connections")? == (2, 601 - 11 - 229));
     Ok(())
+}
+
+// Why a text is no component of this object, and why none is taken out of it.
+fn refusals_with(
+    alloc: Global,
+    object: &Object,
+) -> Result<(Option<WithError>, Option<WithError>), Fail> {
+    let name = Bytes::copy_of(alloc, b"x")?;
+    let with = object
+        .with_component(alloc, &name, text(alloc, b"x")?)
+        .err();
+    Ok((with, object.without_component(alloc, b"x").err()))
 }
 
 #[test]
 fn a_component_of_no_field_is_refused(rt: HostRuntime) -> Result<(), Fail> {
     let alloc = rt.alloc();
-    let name = Bytes::copy_of(alloc, b"x")?;
-    let word = text(alloc, b"x")?;
-    let field = Object::field(Parts::new(alloc), Parts::new(alloc))?;
-    let refused = word.with_component(alloc, &name, word.clone()?);
-    assert!(rt; refused.err() == Some(WithError::NotAField));
-    let refused = word.without_component(alloc, b"x");
-    assert!(rt; refused.err() == Some(WithError::NotAField));
-    let refused = field.with_component(alloc, &name, word);
-    assert!(rt; refused.err() == Some(WithError::NotAnArray));
-    let refused = field.without_component(alloc, b"x");
-    assert!(rt; refused.err() == Some(WithError::NoComponent));
+    let of_text = refusals_with(alloc, &*text(alloc, b"x")?)?;
+    assert!(rt; of_text == (Some(WithError::NotAField), Some(WithError::NotAField)));
+    let of_field = refusals_with(alloc, &grid_field(alloc)?)?;
+    assert!(rt; of_field == (Some(WithError::NotAnArray), Some(WithError::NoComponent)));
     Ok(())
 }
 
-#[test]
-fn a_list_of_results_counts_64_for_null(rt: HostRuntime) -> Result<(), Fail> {
-    let alloc = rt.alloc();
+fn results(alloc: Global) -> Result<(usize, u64), Fail> {
     let mut outs = Outs::new(alloc);
     outs.push(None)?;
     outs.push(Some(number(alloc, 5)?))?;
     let copy = outs.copy(alloc)?;
-    assert!(rt; copy.len() == 2 && !copy.is_empty() && copy.size() == 132);
-    if 1 < copy.len() {
-        assert!(rt; copy.get(0).is_none() && copy.get(1).is_some());
-    }
+    Ok((copy.len(), copy.size()))
+}
+
+#[test]
+fn a_list_of_results_counts_64_for_null(rt: HostRuntime) -> Result<(), Fail> {
+    assert!(rt; results(rt.alloc())? == (2, 132));
     Ok(())
 }
