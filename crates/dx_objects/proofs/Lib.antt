@@ -2,3 +2,4 @@ pub mod PartsLaws
 pub mod PutLaws
 pub mod TakeLaws
 pub mod LawfulLaws
+pub mod FindLaws

@@ -3,6 +3,7 @@
 #![tactic(auto)]
 
 mod kinds;
+mod laws;
 mod lookup;
 mod makers;
 mod names;
@@ -13,6 +14,7 @@ mod with;
 
 pub use dx_arrays::{Array, ArrayClass, ArrayError, ElemType, Shape, in_range};
 pub use kinds::Kind;
+pub use laws::component_law;
 pub use makers::ObjectError;
 pub use object::{Object, Part, Parts};
 pub use outs::{Outs, Value};
