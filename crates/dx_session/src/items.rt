@@ -45,7 +45,10 @@ fn assignment(alloc: Global, a: &Assign) -> Result<Option<Item>, AllocError>
     ensures { IfOk result (λ found. found ≡ assigned a.now.targets (plain_expr a.now.value)) }
 {
     match (a.targets.as_slice(), int(&a.value)) {
-        ([name], Some(value)) => Ok(Some(Item::Assign(Bytes::copy_of(alloc, name.bytes())?, value))),
+        ([name], Some(value)) => Ok(Some(Item::Assign(
+            Bytes::copy_of(alloc, name.bytes())?,
+            value,
+        ))),
         _ => Ok(None),
     }
 }

@@ -161,12 +161,7 @@ fn refuse<O: Sink>(alloc: Global, why: &LoadFail, out: &mut O) -> Result<u8, End
 }
 
 // Performs the statements, if all of them are built.
-fn perform<O: Sink>(
-    alloc: Global,
-    name: &Bytes,
-    statements: &Stmts,
-    out: &mut O,
-) -> Result<u8, End>
+fn perform<O: Sink>(alloc: Global, name: &Bytes, statements: &Stmts, out: &mut O) -> Result<u8, End>
     ensures writes { Writes (O.written out.old) (O.written out.new) (of_items name.now [] (items_of statements.now)).text result }
     ensures status { IfOk result (λ status. status ≡ (of_items name.now [] (items_of statements.now)).status) }
     ensures own_status { IfOk result (λ status. (status ≡ 0) ⊎ (status ≡ 2)) }
