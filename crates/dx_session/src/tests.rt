@@ -50,7 +50,7 @@ fn small_scripts_print_their_values(rt: HostRuntime) -> Result<(), Fail> {
         ("print(a, \"d\");", not_built, 2),
         ("Print(a, \"d\")", "error s.net:1:14: Syntax\n", 2),
         ("a = 5; b = a;", not_built, 2),
-        ("a = 5; Print(a, \"d\"); #", "error s.net:1:24: Syntax\n", 2),
+        ("a = 5; Print(a, \"d\"); #", "error s.net:1:23: Syntax\n", 2),
         ("Print(1,\"d\")", "error s.net:1:13: Syntax\n", 2),
         ("x = {1 \"a\"};", "error s.net:1:8: MixedList\n", 2),
         ("x = 1.5;", "error s.net:1:5: FloatNumber\n", 2),
