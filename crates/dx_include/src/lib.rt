@@ -7,3 +7,6 @@ mod loaded;
 
 pub use fail::LoadFail;
 pub use including::{load, one_loading};
+
+#[cfg(test)]
+mod tests;

@@ -58,9 +58,9 @@ splice-each-preserved-in-Continue-1 g t c =
       same = one.same ∙ at.invariant.same;
       later = omega (arith, at.invariant.later, one.cause.later);
       so_far = λ map told.
-      let adds = one.adds map (at.invariant.same ∙ told) in
-      goes_on_include (load_within c.args.levels map) (splice (load_within c.args.levels map) c.args.statements c.args.loaded.now) (into_iter_items at.statement-iterator) (into_iter_items c.next.new.self) c.in-Include.name at.loaded c.load_file.new.loaded _ _ _
-      (steps ∙ ap (λ (s : Stmt). s ∷ into_iter_items c.next.new.self) c.in-Include.is) adds.0 adds.1 (at.invariant.so_far map told);
+          let adds = one.adds map (at.invariant.same ∙ told) in
+          goes_on_include (load_within c.args.levels map) (splice (load_within c.args.levels map) c.args.statements c.args.loaded.now) (into_iter_items at.statement-iterator) (into_iter_items c.next.new.self) c.in-Include.name at.loaded c.load_file.new.loaded _ _ _
+          (steps ∙ ap (λ (s : Stmt). s ∷ into_iter_items c.next.new.self) c.in-Include.is) adds.0 adds.1 (at.invariant.so_far map told);
     }
 
 pub splice-returns-in_err-load_file-in-Include-clause-adds :
@@ -85,8 +85,8 @@ splice-each-preserved g t c =
       same = at.invariant.same;
       later = at.invariant.later;
       so_far = λ map told.
-      goes_on_other (load_within c.args.levels map) (splice (load_within c.args.levels map) c.args.statements c.args.loaded.now) (into_iter_items at.statement-iterator) (into_iter_items c.next.new.self) c.in-Some.statement at.loaded _ _ _
-      steps c.in_default.not-Include (ap (λ (statements : List Stmt). record { statements = statements; bytes = at.loaded.bytes }) c.in_ok-push-in_default.ensures.ok) (at.invariant.so_far map told);
+          goes_on_other (load_within c.args.levels map) (splice (load_within c.args.levels map) c.args.statements c.args.loaded.now) (into_iter_items at.statement-iterator) (into_iter_items c.next.new.self) c.in-Some.statement at.loaded _ _ _
+          steps c.in_default.not-Include (ap (λ (statements : List Stmt). record { statements = statements; bytes = at.loaded.bytes }) c.in_ok-push-in_default.ensures.ok) (at.invariant.so_far map told);
     }
 
 pub splice-returns-clause-adds : goal.splice-returns-clause-adds

@@ -20,5 +20,5 @@ invariant-splice-each g l = record {
   same : g.F.Files.content l.files ≡ g.F.Files.content l.initial.files;
   later : g.F.Files.faults l.initial.files ≤ g.F.Files.faults l.files;
   so_far : (map : FileMap) → g.F.Files.content l.initial.files ≡ Some map
-    → SoFar (load_within l.levels map) (splice (load_within l.levels map) l.fn.statements l.initial.loaded) (into_iter_items l.statement-iterator) l.loaded (g.F.Files.asked l.initial.files) (g.F.Files.asked l.files);
+      → SoFar (load_within l.levels map) (splice (load_within l.levels map) l.fn.statements l.initial.loaded) (into_iter_items l.statement-iterator) l.loaded (g.F.Files.asked l.initial.files) (g.F.Files.asked l.files);
 }
