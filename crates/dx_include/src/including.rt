@@ -1,4 +1,6 @@
-ghost use Rattle.std.specs.Prelude.{◌≡◌, ◌≤◌, ℕ, List, Some, OnOk};
+ghost use Rattle.std.specs.Prelude.{◌≡◌, ◌≤◌, ℕ, List, Some, IfOk, OnOk, length};
+ghost use Rattle.dx_ast.specs.Lawful.{AreLawful};
+ghost use Rattle.dx_ast.specs.Plain.{plain_stmts};
 ghost use Rattle.dx_io.specs.Devices.{FileMap};
 ghost use Rattle.dx_include.specs.Answers.{Adds, LoadCause, Loads, Parses, TakesText};
 ghost use Rattle.dx_include.specs.Computed.{load_within, loading_of, parsed, splice};
@@ -29,6 +31,7 @@ pub fn load<F: Files>(alloc: Global, files: &mut F, name: &Bytes) -> Result<Stmt
     // What is answered and asked for are those of the session's loading; where that is cut short, a front of its reads.
     ensures loading { (map : FileMap) → F.content files.old ≡ Some map →
         (l : Loading) × IsLoading map name.now l × Loads l result (F.asked files.old) (F.asked files.new) }
+    ensures lawful { IfOk result (λ statements. AreLawful (plain_stmts statements)) }
     ensures same { F.content files.new ≡ F.content files.old }
     ensures cause { LoadCause (F.faults files.old) (F.faults files.new) result }
 {
@@ -38,6 +41,7 @@ pub fn load<F: Files>(alloc: Global, files: &mut F, name: &Bytes) -> Result<Stmt
 fn load_session<F: Files>(alloc: Global, files: &mut F, name: &Bytes) -> Result<Stmts, LoadFail>
     ensures loading { (map : FileMap) → F.content files.old ≡ Some map →
         Loads (loading_of map name.now) result (F.asked files.old) (F.asked files.new) }
+    ensures lawful { IfOk result (λ statements. AreLawful (plain_stmts statements)) }
     ensures same { F.content files.new ≡ F.content files.old }
     ensures cause { LoadCause (F.faults files.old) (F.faults files.new) result }
 {
@@ -59,10 +63,12 @@ fn load_file<F: Files>(
     name: Bytes,
     loaded: &mut Loaded,
 ) -> Result<(), LoadFail>
-    requires { loaded.old.bytes ≤ 16777216 }
+    requires few { loaded.old.bytes ≤ 16777216 }
+    requires lawful { AreLawful (plain_stmts loaded.old.statements) }
     ensures adds { (map : FileMap) → F.content files.old ≡ Some map →
         Adds (load_within levels map loaded.old name) loaded.new result (F.asked files.old) (F.asked files.new) }
     ensures few { OnOk result (loaded.new.bytes ≤ 16777216) }
+    ensures lawful { OnOk result (AreLawful (plain_stmts loaded.new.statements)) }
     ensures same { F.content files.new ≡ F.content files.old }
     ensures cause { LoadCause (F.faults files.old) (F.faults files.new) result }
 {
@@ -85,10 +91,13 @@ fn splice<F: Files>(
     statements: Stmts,
     loaded: &mut Loaded,
 ) -> Result<(), LoadFail>
-    requires { loaded.old.bytes ≤ 16777216 }
+    requires few { loaded.old.bytes ≤ 16777216 }
+    requires lawful { AreLawful (plain_stmts loaded.old.statements) }
+    requires lawful_statements { AreLawful (plain_stmts statements) }
     ensures adds { (map : FileMap) → F.content files.old ≡ Some map →
         Adds (splice (load_within levels map) statements loaded.old) loaded.new result (F.asked files.old) (F.asked files.new) }
     ensures few { OnOk result (loaded.new.bytes ≤ 16777216) }
+    ensures lawful { OnOk result (AreLawful (plain_stmts loaded.new.statements)) }
     ensures same { F.content files.new ≡ F.content files.old }
     ensures cause { LoadCause (F.faults files.old) (F.faults files.new) result }
 {
@@ -110,6 +119,7 @@ fn take_text(
 ) -> Result<Stmts, LoadFail>
     requires { loaded.old.bytes ≤ 16777216 }
     ensures takes { TakesText loaded.old name text.now result loaded.new }
+    ensures lawful { IfOk result (λ statements. AreLawful (plain_stmts statements)) }
     ensures few { OnOk result (loaded.new.bytes ≤ 16777216) }
 {
     if text.len() > MAX_BYTES - loaded.bytes {
@@ -126,7 +136,8 @@ fn take_text(
 }
 
 fn statements_of(alloc: Global, text: &[u8]) -> Result<Stmts, ParseFail>
-    ensures { Parses (parsed text.now) result }
+    ensures parses { Parses (parsed text.now) result }
+    ensures lawful { length text.now ≤ 16777216 → IfOk result (λ statements. AreLawful (plain_stmts statements)) }
 {
     parse(alloc, text)
 }

@@ -7,6 +7,7 @@ use Rattle.dx_ast.specs.declared.statements.Stmt.{Stmt}
 use Rattle.dx_ast.specs.declared.statements.Stmt.TheVariants as stmt
 use Rattle.dx_include.specs.Loading.{Loading}
 use Rattle.dx_include.specs.Computed.{load_within, splice}
+use Rattle.dx_include.proofs.LawfulParts.{lawful_head, lawful_tail, lawful_push}
 use Rattle.dx_include.proofs.Splicing.{goes_on_include, stops_at_include, goes_on_other, is_done, load_within-zero, read_fails, is_missing, text_fails, text_adds, nothing_left}
 use Rattle.dx_include.proofs.including.+load.Goals as goal
 
@@ -55,6 +56,8 @@ splice-each-preserved-in-Continue-1 g t c =
       finite = tt;
       len = (let was = at.invariant.len in let gone = c.in-Some.ensures.steps.1 in let short = ap length steps in omega arith);
       few = one.few;
+      lawful = one.lawful;
+      lawful_rest = lawful_tail (into_iter_items at.statement-iterator) c.in-Some.statement (into_iter_items c.next.new.self) steps at.invariant.lawful_rest;
       same = one.same ∙ at.invariant.same;
       later = omega (arith, at.invariant.later, one.cause.later);
       so_far = λ map told.
@@ -82,6 +85,8 @@ splice-each-preserved g t c =
       finite = tt;
       len = (let was = at.invariant.len in let gone = c.in-Some.ensures.steps.1 in let short = ap length steps in omega arith);
       few = at.invariant.few;
+      lawful = rw c.in_ok-push-in_default.ensures.ok (lawful_push at.loaded.statements c.in-Some.statement at.invariant.lawful (lawful_head (into_iter_items at.statement-iterator) c.in-Some.statement (into_iter_items c.next.new.self) steps at.invariant.lawful_rest));
+      lawful_rest = lawful_tail (into_iter_items at.statement-iterator) c.in-Some.statement (into_iter_items c.next.new.self) steps at.invariant.lawful_rest;
       same = at.invariant.same;
       later = at.invariant.later;
       so_far = λ map told.

@@ -1,6 +1,8 @@
 use Rattle.std.proofs.Common.{◌≡◌, ◌+◌, ◌*◌, ◌≤◌, Some, length}
 use Rattle.std.specs.Vec.Iter.{into_iter_items, into_iter_len}
 use Rattle.dx_io.specs.Devices.{FileMap}
+use Rattle.dx_ast.specs.Lawful.{AreLawful}
+use Rattle.dx_ast.specs.Plain.{plain_stmts}
 use Rattle.dx_include.specs.Computed.{load_within, splice}
 use Rattle.dx_include.proofs.Splicing.{SoFar}
 use Rattle.dx_include.proofs.including.+load.Given as goal
@@ -17,6 +19,8 @@ invariant-splice-each g l = record {
   finite : (goal.iterator-splice-each g).is_finite l.statement-iterator;
   len : into_iter_len l.statement-iterator ≡ length (into_iter_items l.statement-iterator);
   few : l.loaded.bytes ≤ 16777216;
+  lawful : AreLawful (plain_stmts l.loaded.statements);
+  lawful_rest : AreLawful (plain_stmts (into_iter_items l.statement-iterator));
   same : g.F.Files.content l.files ≡ g.F.Files.content l.initial.files;
   later : g.F.Files.faults l.initial.files ≤ g.F.Files.faults l.files;
   so_far : (map : FileMap) → g.F.Files.content l.initial.files ≡ Some map
