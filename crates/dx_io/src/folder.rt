@@ -1,3 +1,5 @@
+ghost use Rattle.std.specs.Prelude.{◌≡◌};
+
 use crate::{FileFail, Files};
 use dx_base::Bytes;
 use std::alloc::Global;
@@ -19,7 +21,10 @@ pub struct FolderFiles<'a, R: rt::Files> {
 }
 
 impl<'a, R: rt::Files> FolderFiles<'a, R> {
-    pub fn new(rt: &'a R) -> FolderFiles<'a, R> {
+    /// The files of this folder, none of whose reads has failed.
+    pub fn new(rt: &'a R) -> FolderFiles<'a, R>
+        ensures { result.faults ≡ 0 }
+    {
         FolderFiles { rt, faults: 0 }
     }
 }

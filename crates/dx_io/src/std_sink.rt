@@ -1,4 +1,4 @@
-ghost use Rattle.std.specs.Prelude.{◌<◌, ◌≤◌, IfSome, length};
+ghost use Rattle.std.specs.Prelude.{◌≡◌, ◌<◌, ◌≤◌, IfSome, length};
 
 use crate::{Sink, SinkFail};
 use std::io::{ErrorKind, Write};
@@ -11,7 +11,10 @@ pub struct StdSink<W: Write + Drop> {
 }
 
 impl<W: Write + Drop> StdSink<W> {
-    pub fn new(w: W) -> StdSink<W> {
+    /// This writer, none of whose writes has failed.
+    pub fn new(w: W) -> StdSink<W>
+        ensures { result.faults ≡ 0 }
+    {
         StdSink {
             inner: w,
             faults: 0,
