@@ -45,6 +45,9 @@ macro_name (MakeMacro name params results body) = name
 abbrev pub with_macro : Macro → Macros → Macros
 with_macro m macros = changed_at macros (macro_name m) (Some m)
 
+abbrev pub defining : Macro → Dictionary → Dictionary
+defining m d = record { macros = with_macro m d.macros; definitions = d.definitions }
+
 -- a definition joins behind the others
 abbrev pub with_definition : TopText → Dictionary → Dictionary
 with_definition t d = record { macros = d.macros; definitions = d.definitions ++ t ∷ [] }

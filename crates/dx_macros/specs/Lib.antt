@@ -5,3 +5,7 @@ pub mod Dictionary
 pub mod Expansion
 pub mod Walk
 pub mod Budget
+pub mod Shown
+pub mod Steps
+pub mod Machine
+pub mod DictionaryView

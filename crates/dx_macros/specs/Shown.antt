@@ -1,0 +1,40 @@
+-- What the code's lists and tables stand for.
+use Rattle.std.specs.Prelude.{◌≡◌, ℕ, List, map, Option, Some, None, Vec, All}
+use Rattle.std.specs.Borrow.{Bor}
+use Rattle.std.specs.declared.alloc.Global.{Global}
+use Rattle.std.specs.HashMap.{HashMap}
+use Rattle.dx_base.specs.NameTable.{under_name}
+use Rattle.dx_ast.specs.declared.statements.Assign.{Assign}
+use Rattle.dx_ast.specs.declared.statements.MacroDef.{MacroDef}
+use Rattle.dx_ast.specs.Classes.{Text}
+use Rattle.dx_ast.specs.Plain.{plain_expr, plain_macro}
+use Rattle.dx_ast.specs.Lawful.{IsLawfulAssign, IsLawfulMacro}
+use Rattle.dx_macros.specs.Names.{count}
+use Rattle.dx_macros.specs.Dictionary.{TopText}
+
+-- ---- names
+
+abbrev pub texts : List (Bor (List ℕ)) → List Text
+texts ns = map (λ n. n.now) ns
+
+abbrev pub or_zero : Option ℕ → ℕ
+or_zero (Some n) = n
+or_zero None = 0
+
+-- under each name stands how often it is in the list
+abbrev pub IsCounted : {S : Type 0} → HashMap (Vec ℕ Global) ℕ S → List Text → Type 0
+IsCounted times names = (name : Text) → or_zero (under_name times name) ≡ count name names
+
+-- ---- definitions and macros
+
+abbrev pub text_of : Assign → TopText
+text_of a = record { targets = a.targets; value = plain_expr a.value }
+
+abbrev pub IsLawfulDefinition : Assign → Type 0
+IsLawfulDefinition a = IsLawfulAssign a.targets (plain_expr a.value)
+
+abbrev pub AreLawfulDefinitions : List Assign → Type 0
+AreLawfulDefinitions definitions = All IsLawfulDefinition definitions
+
+abbrev pub AreLawfulMacros : {S : Type 0} → HashMap (Vec ℕ Global) MacroDef S → Type 0
+AreLawfulMacros macros = (name : Text) (m : MacroDef) → under_name macros name ≡ Some m → IsLawfulMacro (plain_macro m)
