@@ -9,3 +9,5 @@ pub mod Shown
 pub mod Steps
 pub mod Machine
 pub mod DictionaryView
+pub mod MachineView
+pub mod CalleeView

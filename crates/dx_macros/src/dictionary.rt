@@ -1,7 +1,8 @@
-ghost use Rattle.std.specs.Prelude.{◌≡◌, ◌<◌, length, OnOk, OnErr, option_map, option_copied};
+ghost use Rattle.std.specs.Prelude.{◌≡◌, ◌<◌, length, OnOk, OnErr, option_map, IfSome};
 ghost use Rattle.dx_ast.specs.Lawful.{IsLawfulMacro, IsLawfulAssign};
 ghost use Rattle.dx_ast.specs.Plain.{plain_macro, plain_expr};
 ghost use Rattle.dx_macros.specs.Dictionary.{empty, defining, with_definition, definition};
+ghost use Rattle.dx_macros.specs.Machine.{last_named};
 ghost use Rattle.dx_macros.specs.Shown.{text_of, AreLawfulMacros, AreLawfulDefinitions};
 
 use crate::definitions::Definitions;
@@ -65,6 +66,14 @@ impl Dictionary {
         ensures { result ≡ length (dictionary_of self.now).definitions }
     {
         self.definitions.as_slice().len()
+    }
+
+    /// The place of the last definition of a name before a place.
+    pub fn last_before(&self, place: usize, name: &[u8]) -> Option<usize>
+        ensures last { result ≡ last_named (dictionary_of self.now).definitions place name.now }
+        ensures below { IfSome result (λ i. i < length (dictionary_of self.now).definitions) }
+    {
+        self.definitions.last_before(place, name)
     }
 
     /// Definition number i, in the order in which they joined.

@@ -1,10 +1,13 @@
 //! The dictionary of macros and definitions, what the names of a script mean, and the first static fault of a statement.
 #![tactic(auto)]
 
+mod callee;
 mod definitions;
 mod dictionary;
 mod fault;
+mod machine;
 mod names;
+mod signature;
 mod site;
 
 pub use dictionary::Dictionary;
