@@ -24,6 +24,13 @@ top_text (Calls c) = Some (of_call c)
 top_text (Sequences c) = Some (of_call c)
 top_text other = None
 
+-- an assignment, a call or a sequence call
+abbrev pub IsExecuted : Stmt → Type 0
+IsExecuted (Assigns targets e) = Unit {0}
+IsExecuted (Calls c) = Unit {0}
+IsExecuted (Sequences c) = Unit {0}
+IsExecuted other = ⊥
+
 -- each name has at most one macro
 abbrev pub Macros : Type 0
 Macros = Text → Option Macro

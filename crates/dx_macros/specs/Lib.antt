@@ -11,3 +11,4 @@ pub mod Machine
 pub mod DictionaryView
 pub mod MachineView
 pub mod CalleeView
+pub mod Checking

@@ -1,3 +1,5 @@
+use dx_base::Bytes;
+
 /// What can be wrong with a call before its statement is executed. At one call the order is `Calls`, and then that of
 /// this list.
 #[derive(Clone, Copy, Debug, PartialEq, Eq)]
@@ -14,4 +16,13 @@ pub enum StaticFault {
     Nesting,
     /// The call is the 65,537th of the walk.
     Calls,
+}
+
+/// Why a check doesn't end with an Ok.
+#[derive(Debug, Drop)]
+pub enum CheckFail {
+    /// The first static fault, and the text of the site of the call that has it.
+    Fault(Bytes, StaticFault),
+    /// Memory ran out.
+    Memory,
 }

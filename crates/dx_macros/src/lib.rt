@@ -2,13 +2,15 @@
 #![tactic(auto)]
 
 mod callee;
+mod check;
 mod definitions;
 mod dictionary;
 mod fault;
+mod jobs;
 mod machine;
 mod names;
 mod signature;
 mod site;
 
 pub use dictionary::Dictionary;
-pub use fault::StaticFault;
+pub use fault::{CheckFail, StaticFault};

@@ -1,4 +1,4 @@
-ghost use Rattle.std.specs.Prelude.{◌≡◌, ◌≤◌, ◌∷◌, ◌++◌, [], length, OnOk};
+ghost use Rattle.std.specs.Prelude.{◌≡◌, ◌≤◌, ◌<◌, ◌∷◌, ◌++◌, [], length, OnOk};
 ghost use Rattle.dx_macros.specs.Names.{has, count};
 
 use indexmap::IndexMap;
@@ -40,6 +40,7 @@ impl<'a> Names<'a> {
     pub fn count(&self, name: &[u8]) -> usize
         ensures times { result ≡ count name.now self.now }
         ensures bound { result ≤ length self.now }
+        ensures fits { result < 9223372036854775808 }
     {
         let _all = self.all.len();
         match self.times.get(name) {
