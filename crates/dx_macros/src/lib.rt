@@ -1,6 +1,7 @@
 //! The dictionary of macros and definitions, what the names of a script mean, and the first static fault of a statement.
 #![tactic(auto)]
 
+mod budget;
 mod callee;
 mod check;
 mod definitions;
@@ -12,5 +13,6 @@ mod names;
 mod signature;
 mod site;
 
+pub use budget::no_budget_runs_out;
 pub use dictionary::Dictionary;
 pub use fault::{CheckFail, StaticFault};
