@@ -12,3 +12,5 @@ pub mod DictionaryView
 pub mod MachineView
 pub mod CalleeView
 pub mod Checking
+pub mod Weight
+pub mod Bound
