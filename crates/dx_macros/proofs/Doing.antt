@@ -42,11 +42,11 @@ unknown_faulty {P = P} calls left args targets e = go (nat_le 65536 calls) e
     go true e = cc
     go false e = cc
 
-stmt_call : (c : Call) → plain_stmt (stmt.Call c) ≡ plain.Calls (plain_call c)
+pub stmt_call : (c : Call) → plain_stmt (stmt.Call c) ≡ plain.Calls (plain_call c)
 unfolding views.out-Stmt denote.Hole.Carrier.out
 stmt_call c = plain_stmt_out (stmt.Call c)
 
-stmt_assign : (a : Assign) → plain_stmt (stmt.Assign a) ≡ plain.Assigns a.targets (plain_expr a.value)
+pub stmt_assign : (a : Assign) → plain_stmt (stmt.Assign a) ≡ plain.Assigns a.targets (plain_expr a.value)
 unfolding views.out-Stmt denote.Hole.Carrier.out
 stmt_assign a = plain_stmt_out (stmt.Assign a)
 

@@ -1,4 +1,4 @@
-ghost use Rattle.std.specs.Prelude.{◌≡◌, ◌∷◌, ◌++◌, ◌<◌, ◌-◌, [], length, OnOk, IfOk};
+ghost use Rattle.std.specs.Prelude.{◌≡◌, ◌∷◌, ◌++◌, ◌<◌, ◌-◌, ◌+◌, [], suc, length, OnOk, IfOk, slice_index_or, false};
 ghost use Rattle.dx_ast.specs.Plain.{plain_expr, plain_call, plain_args, plain_macro, plain_stmts};
 ghost use Rattle.dx_ast.specs.declared.expressions.Call.{out-Call};
 ghost use Rattle.dx_ast.specs.declared.statements.MacroDef.{out-MacroDef};
@@ -9,6 +9,7 @@ ghost use Rattle.dx_macros.specs.CalleeView.{plain_callee};
 ghost use Rattle.dx_macros.specs.Steps.{plain_step, plain_steps};
 ghost use Rattle.dx_macros.specs.Machine.{frame_at_top, frame_in_macro, ExprJob, CallJob, ArgsJob, EnterJob, BodyJob, OwnJob, NamesJob};
 ghost use Rattle.dx_macros.specs.MachineView.{plain_frame, plain_job, means, Continues, job_first, name_first, definition_first, accepted, FaultIs};
+ghost use Rattle.dx_macros.specs.Weight.{expr_weight, call_weight, args_weight, body_weight, macro_weight, callee_weight, job_weight, Falls, Pays};
 
 use crate::callee::{Callee, called};
 use crate::dictionary::Dictionary;
@@ -22,7 +23,8 @@ use dx_base::Bytes;
 use std::alloc::{AllocError, Global};
 
 fn do_args<'a>(d: &'a Dictionary, m: &mut Machine<'a>, args: &'a [Arg]) -> Result<(), Stop<'a>>
-    ensures { Continues (job_first (dictionary_of d.now) (ArgsJob (plain_args args.now)) m.old) result (means (dictionary_of d.now) m.new) }
+    ensures continues { Continues (job_first (dictionary_of d.now) (ArgsJob (plain_args args.now)) m.old) result (means (dictionary_of d.now) m.new) }
+    ensures falls { Falls (dictionary_of d.now) (args_weight (plain_args args.now)) m.old result m.new }
 {
     match args.split_first() {
         None => Ok(()),
@@ -34,7 +36,8 @@ fn do_args<'a>(d: &'a Dictionary, m: &mut Machine<'a>, args: &'a [Arg]) -> Resul
 }
 
 fn do_body<'a>(d: &'a Dictionary, m: &mut Machine<'a>, results: &'a [Bytes], stmts: &'a [Stmt]) -> Result<(), Stop<'a>>
-    ensures { Continues (job_first (dictionary_of d.now) (BodyJob results.now (plain_stmts stmts.now)) m.old) result (means (dictionary_of d.now) m.new) }
+    ensures continues { Continues (job_first (dictionary_of d.now) (BodyJob results.now (plain_stmts stmts.now)) m.old) result (means (dictionary_of d.now) m.new) }
+    ensures falls { Falls (dictionary_of d.now) (body_weight results.now (plain_stmts stmts.now)) m.old result m.new }
 {
     match stmts.split_first() {
         None => push(m, Job::Names(results)),
@@ -72,7 +75,8 @@ fn put_params<'a>(alloc: Global, params: &'a [Param]) -> Result<Names<'a>, Alloc
 }
 
 fn do_own<'a>(alloc: Global, d: &'a Dictionary, m: &mut Machine<'a>, names: &'a [Bytes]) -> Result<(), Stop<'a>>
-    ensures { Continues (job_first (dictionary_of d.now) (OwnJob names.now) m.old) result (means (dictionary_of d.now) m.new) }
+    ensures continues { Continues (job_first (dictionary_of d.now) (OwnJob names.now) m.old) result (means (dictionary_of d.now) m.new) }
+    ensures falls { Falls (dictionary_of d.now) (1) m.old result m.new }
 {
     put_names(alloc, &mut m.frame.own, names)?;
     Ok(())
@@ -115,7 +119,8 @@ fn macro_frame<'a>(alloc: Global, f: &Frame<'a>, params: &'a [Param], step: Step
 /// A definition is walked at its first reading.
 fn define<'a>(alloc: Global, d: &'a Dictionary, m: &mut Machine<'a>, i: usize) -> Result<(), Stop<'a>>
     requires { i < length (dictionary_of d.now).definitions }
-    ensures { Continues (definition_first (dictionary_of d.now) i m.old) result (means (dictionary_of d.now) m.new) }
+    ensures continues { Continues (definition_first (dictionary_of d.now) i m.old) result (means (dictionary_of d.now) m.new) }
+    ensures falls { slice_index_or m.old.read.items i false ≡ false → Falls (dictionary_of d.now) 1 m.old result m.new }
 {
     let a = d.definition(i);
     let frame = top_frame(alloc, a.targets.as_slice(), i)?;
@@ -125,7 +130,8 @@ fn define<'a>(alloc: Global, d: &'a Dictionary, m: &mut Machine<'a>, i: usize) -
 }
 
 fn read_name<'a>(alloc: Global, d: &'a Dictionary, m: &mut Machine<'a>, name: &[u8]) -> Result<(), Stop<'a>>
-    ensures { Continues (name_first (dictionary_of d.now) name.now m.old) result (means (dictionary_of d.now) m.new) }
+    ensures continues { Continues (name_first (dictionary_of d.now) name.now m.old) result (means (dictionary_of d.now) m.new) }
+    ensures falls { Falls (dictionary_of d.now) 1 m.old result m.new }
 {
     if m.frame.own.has(name) {
         return Ok(());
@@ -143,7 +149,8 @@ fn read_name<'a>(alloc: Global, d: &'a Dictionary, m: &mut Machine<'a>, name: &[
 }
 
 fn do_names<'a>(alloc: Global, d: &'a Dictionary, m: &mut Machine<'a>, names: &'a [Bytes]) -> Result<(), Stop<'a>>
-    ensures { Continues (job_first (dictionary_of d.now) (NamesJob names.now) m.old) result (means (dictionary_of d.now) m.new) }
+    ensures continues { Continues (job_first (dictionary_of d.now) (NamesJob names.now) m.old) result (means (dictionary_of d.now) m.new) }
+    ensures falls { Falls (dictionary_of d.now) (suc (length names.now)) m.old result m.new }
 {
     match names.split_first() {
         None => Ok(()),
@@ -155,7 +162,8 @@ fn do_names<'a>(alloc: Global, d: &'a Dictionary, m: &mut Machine<'a>, names: &'
 }
 
 fn do_enter<'a>(alloc: Global, d: &'a Dictionary, m: &mut Machine<'a>, x: &'a MacroDef, step: Step<'a>) -> Result<(), Stop<'a>>
-    ensures { Continues (job_first (dictionary_of d.now) (EnterJob (plain_macro x.now) (plain_step step.entry)) m.old) result (means (dictionary_of d.now) m.new) }
+    ensures continues { Continues (job_first (dictionary_of d.now) (EnterJob (plain_macro x.now) (plain_step step.entry)) m.old) result (means (dictionary_of d.now) m.new) }
+    ensures falls { Falls (dictionary_of d.now) (macro_weight (plain_macro x.now)) m.old result m.new }
 {
     if m.frame.left == 0 {
         return Ok(());
@@ -168,7 +176,8 @@ fn do_enter<'a>(alloc: Global, d: &'a Dictionary, m: &mut Machine<'a>, x: &'a Ma
 /// The call's arguments and its macro's body are to come.
 fn accept<'a>(alloc: Global, d: &'a Dictionary, m: &mut Machine<'a>, callee: Callee<'a>, step: Step<'a>, c: &'a Call) -> Result<(), Stop<'a>>
     requires { m.old.calls < 65536 }
-    ensures { Continues (accepted (dictionary_of d.now) (plain_callee callee.entry) (plain_step step.entry) (out-Call c.now).name (plain_args (out-Call c.now).args) m.old) result (means (dictionary_of d.now) m.new) }
+    ensures continues { Continues (accepted (dictionary_of d.now) (plain_callee callee.entry) (plain_step step.entry) (out-Call c.now).name (plain_args (out-Call c.now).args) m.old) result (means (dictionary_of d.now) m.new) }
+    ensures pays { Pays (dictionary_of d.now) (args_weight (plain_args (out-Call c.now).args) + callee_weight (plain_callee callee.entry)) m.old result m.new }
 {
     counted(alloc, m, c.name.bytes())?;
     match callee {
@@ -198,7 +207,8 @@ fn faulty<'a>(alloc: Global, base: &[Step<'a>], step: Step<'a>, fault: StaticFau
 
 /// A call is checked at its step, the k-th call of its name in the text.
 fn do_call<'a>(alloc: Global, d: &'a Dictionary, m: &mut Machine<'a>, targets: usize, c: &'a Call) -> Result<(), Stop<'a>>
-    ensures { Continues (job_first (dictionary_of d.now) (CallJob targets (plain_call c.now)) m.old) result (means (dictionary_of d.now) m.new) }
+    ensures continues { Continues (job_first (dictionary_of d.now) (CallJob targets (plain_call c.now)) m.old) result (means (dictionary_of d.now) m.new) }
+    ensures falls { Falls (dictionary_of d.now) (call_weight (plain_call c.now)) m.old result m.new }
 {
     let name = c.name.bytes();
     let args = c.args.as_slice();
@@ -212,7 +222,8 @@ fn do_call<'a>(alloc: Global, d: &'a Dictionary, m: &mut Machine<'a>, targets: u
 }
 
 fn do_expr<'a>(alloc: Global, d: &'a Dictionary, m: &mut Machine<'a>, targets: usize, e: &'a Expr) -> Result<(), Stop<'a>>
-    ensures { Continues (job_first (dictionary_of d.now) (ExprJob targets (plain_expr e.now)) m.old) result (means (dictionary_of d.now) m.new) }
+    ensures continues { Continues (job_first (dictionary_of d.now) (ExprJob targets (plain_expr e.now)) m.old) result (means (dictionary_of d.now) m.new) }
+    ensures falls { Falls (dictionary_of d.now) (expr_weight (plain_expr e.now)) m.old result m.new }
 {
     match e {
         Expr::Constant(_) => Ok(()),
@@ -224,7 +235,8 @@ fn do_expr<'a>(alloc: Global, d: &'a Dictionary, m: &mut Machine<'a>, targets: u
 
 /// Does a job.
 pub fn do_job<'a>(alloc: Global, d: &'a Dictionary, m: &mut Machine<'a>, job: Job<'a>) -> Result<(), Stop<'a>>
-    ensures { Continues (job_first (dictionary_of d.now) (plain_job job.entry) m.old) result (means (dictionary_of d.now) m.new) }
+    ensures continues { Continues (job_first (dictionary_of d.now) (plain_job job.entry) m.old) result (means (dictionary_of d.now) m.new) }
+    ensures falls { Falls (dictionary_of d.now) (job_weight (plain_job job.entry)) m.old result m.new }
 {
     match job {
         Job::Expr(targets, e) => do_expr(alloc, d, m, targets, e),

@@ -8,9 +8,9 @@ use Rattle.dx_macros.proofs.check.run.Goals as goal
 pub loop-preserved : goal.loop-preserved
 loop-preserved c =
     let d = dictionary_of c.args.d.now in
-    sym (popped d c.loop.m c.pop.new.self c.in-Some.job c.in-Some.ensures.items ∙ c.in-Ok.ensures) ∙ c.loop.invariant
+    sym (popped d c.loop.m c.pop.new.self c.in-Some.job c.in-Some.ensures.items ∙ c.in-Ok.ensures.continues) ∙ c.loop.invariant
 
 pub returns-in-Err : goal.returns-in-Err
 returns-in-Err c =
     let d = dictionary_of c.args.d.now in
-    fails {A = Unit {0}} c.do_job.result (Err c.in-Err.stop) c.in-Err.stop (means d c.args.m) _ _ (sym c.loop.invariant ∙ popped d c.loop.m c.pop.new.self c.in-Some.job c.in-Some.ensures.items) c.do_job.ensures c.in-Err.is refl
+    fails {A = Unit {0}} c.do_job.result (Err c.in-Err.stop) c.in-Err.stop (means d c.args.m) _ _ (sym c.loop.invariant ∙ popped d c.loop.m c.pop.new.self c.in-Some.job c.in-Some.ensures.items) c.do_job.ensures.continues c.in-Err.is refl

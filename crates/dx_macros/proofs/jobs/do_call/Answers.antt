@@ -7,10 +7,15 @@ use Rattle.dx_macros.specs.Steps.{plain_steps}
 use Rattle.dx_macros.specs.MachineView.{FaultIs}
 use Rattle.dx_macros.proofs.Pushes.{by_call}
 use Rattle.dx_macros.proofs.Doing.{call_faulty, call_accepted, by_fault}
+use Rattle.dx_ast.specs.declared.expressions.Call.{out-Call}
+use Rattle.dx_ast.specs.Plain.{plain_args}
+use Rattle.dx_macros.specs.Weight.{args_weight}
+use Rattle.dx_macros.proofs.Weights.{call_falls}
+use Rattle.dx_macros.proofs.Falling.{call_parts}
 use Rattle.dx_macros.proofs.jobs.do_call.Goals as goal
 
-pub returns-in-Some : goal.returns-in-Some
-returns-in-Some c =
+pub returns-in-Some-clause-continues : goal.returns-in-Some-clause-continues
+returns-in-Some-clause-continues c =
     let d = dictionary_of c.args.d.now in
     let old = c.args.m.now in
     let name = c.bytes-name.result.now in
@@ -24,8 +29,8 @@ returns-in-Some c =
         c.bytes-name.ensures c.as_slice-args.ensures c.called-callee.ensures k c.in_ok-fault.ensures.fault c.in-Some.is)
       told
 
-pub returns-in-None : goal.returns-in-None
-returns-in-None c =
+pub returns-in-None-clause-continues : goal.returns-in-None-clause-continues
+returns-in-None-clause-continues c =
     let d = dictionary_of c.args.d.now in
     let old = c.args.m.now in
     let name = c.bytes-name.result.now in
@@ -34,4 +39,9 @@ returns-in-None c =
     by_call c.accept.result _ _ _
       (call_accepted d old c.args.targets c.args.c.now name c.as_slice-args.result.now (plain_callee c.called-callee.result) (c.count-k.result + 1) c.in_ok-fault.field-0
         c.bytes-name.ensures c.as_slice-args.ensures c.called-callee.ensures k c.in_ok-fault.ensures.fault c.in-None.is)
-      c.accept.ensures
+      c.accept.ensures.continues
+
+pub returns-in-None-clause-falls : goal.returns-in-None-clause-falls
+returns-in-None-clause-falls c =
+    call_falls (dictionary_of c.args.d.now) c.args.m.now c.accept.new.m c.bytes-name.result.now (plain_callee c.called-callee.result) (args_weight (plain_args (out-Call c.args.c.now).args)) _ c.accept.result
+      c.called-callee.ensures c.accept.ensures.pays (call_parts c.args.c.now)
