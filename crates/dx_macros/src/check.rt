@@ -7,6 +7,7 @@ ghost use Rattle.dx_macros.specs.Machine.{do_job, at_end};
 ghost use Rattle.dx_macros.specs.MachineView.{plain_frame, plain_job, means, Ends, Finds};
 ghost use Rattle.dx_macros.specs.Shown.{text_of};
 ghost use Rattle.dx_macros.specs.Walk.{walk_of, walk_begins, fault_in, first_fault};
+ghost use Rattle.dx_macros.specs.Weight.{IsFit};
 ghost use Rattle.dx_macros.specs.Checking.{Checks};
 
 use crate::dictionary::Dictionary;
@@ -19,10 +20,11 @@ use std::alloc::{AllocError, Global};
 
 /// Does all jobs.
 fn run<'a>(alloc: Global, d: &'a Dictionary, m: Machine<'a>) -> Result<(), Stop<'a>>
+    requires { IsFit (dictionary_of d.now) m }
     ensures { Ends (means (dictionary_of d.now) m.entry) result }
 {
     let mut m = m;
-    for _ in 0..u64::MAX {
+    loop {
         match m.jobs.pop() {
             None => return Ok(()),
             Some(job) => match do_job(alloc, d, &mut m, job) {
@@ -31,11 +33,11 @@ fn run<'a>(alloc: Global, d: &'a Dictionary, m: Machine<'a>) -> Result<(), Stop<
             },
         }
     }
-    Err(Stop::Memory)
 }
 
 fn begin<'a>(alloc: Global, d: &'a Dictionary, frame: Frame<'a>, job: Job<'a>) -> Result<Machine<'a>, AllocError>
-    ensures { IfOk result (λ m. means (dictionary_of d.now) m ≡ do_job (dictionary_of d.now) (plain_job job.entry) at_end (plain_frame frame.entry) (walk_begins (dictionary_of d.now))) }
+    ensures fit { IfOk result (λ m. IsFit (dictionary_of d.now) m) }
+    ensures means { IfOk result (λ m. means (dictionary_of d.now) m ≡ do_job (dictionary_of d.now) (plain_job job.entry) at_end (plain_frame frame.entry) (walk_begins (dictionary_of d.now))) }
 {
     let read = vec![in alloc; false; d.len()]?;
     let mut jobs = Vec::new(alloc);
