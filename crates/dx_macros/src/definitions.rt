@@ -1,10 +1,13 @@
-ghost use Rattle.std.specs.Prelude.{◌≡◌, ◌<◌, ◌∷◌, ◌++◌, [], map, length, OnOk, OnErr, IfSome, slice_get};
+ghost use Rattle.std.specs.Prelude.{◌≡◌, ◌<◌, ◌≤◌, ◌+◌, ◌∷◌, ◌++◌, [], List, Some, map, min, length, OnOk, OnErr, IfSome};
+ghost use Rattle.dx_base.specs.NameTable.{under_name, changed_at};
 ghost use Rattle.dx_macros.specs.Names.{has};
 ghost use Rattle.dx_macros.specs.Machine.{last_named};
-ghost use Rattle.dx_macros.specs.Shown.{text_of};
+ghost use Rattle.dx_macros.specs.Dictionary.{TopText};
+ghost use Rattle.dx_macros.specs.Shown.{text_of, noted, IsLast};
 
 use dx_ast::Assign;
 use dx_base::Bytes;
+use indexmap::IndexMap;
 use std::alloc::{AllocError, Global};
 use std::marker::Model;
 
@@ -12,6 +15,8 @@ use std::marker::Model;
 #[derive(Drop)]
 pub struct Definitions {
     list: Vec<Assign>,
+    /// No definition of a name stands behind the place that is under it, and none of a name that is missing.
+    last: IndexMap<Vec<u8>, usize>,
 }
 
 impl Model for Definitions {
@@ -24,7 +29,12 @@ impl Model for Definitions {
 
     ghost coded = { coded_list assign.the_row.coded };
 
+    ghost use Rattle.std.specs.Prelude.{map};
+    ghost use Rattle.dx_macros.specs.Shown.{text_of, IsLast};
+
     ghost view = { λ d. d.list.items };
+
+    ghost invariant = { λ d. IsLast d.last (map text_of d.list.items) };
 }
 
 fn has_text(names: &[Bytes], name: &[u8]) -> bool
@@ -55,6 +65,37 @@ fn last_named(definitions: &[Assign], place: usize, name: &[u8]) -> Option<usize
     None
 }
 
+/// Where a search down from a place begins, if no definition stands behind the last one.
+fn begin_of_search(place: usize, last: usize) -> usize
+    ensures { result ≡ min place (last + 1) }
+{
+    if last < place {
+        last + 1
+    } else {
+        place
+    }
+}
+
+/// A name is defined at a place behind all definitions.
+fn note(alloc: Global, last: &mut IndexMap<Vec<u8>, usize>, name: &[u8], place: usize) -> Result<(), AllocError>
+    ensures ok { OnOk result (under_name last.new ≡ changed_at (under_name last.old) name.now (Some place)) }
+    ensures keeps { (defs : List TopText) → length defs ≤ place → IsLast last.old defs → IsLast last.new defs }
+{
+    let key = Vec::from_slice(alloc, name)?;
+    last.insert(key, place)?;
+    Ok(())
+}
+
+fn note_all(alloc: Global, last: &mut IndexMap<Vec<u8>, usize>, names: &[Bytes], place: usize) -> Result<(), AllocError>
+    ensures ok { OnOk result (under_name last.new ≡ noted (under_name last.old) names.now place) }
+    ensures keeps { (defs : List TopText) → length defs ≤ place → IsLast last.old defs → IsLast last.new defs }
+{
+    for n in names {
+        note(alloc, last, n.bytes(), place)?;
+    }
+    Ok(())
+}
+
 impl Definitions {
     /// No definitions, which take no memory.
     pub fn new(alloc: Global) -> Definitions
@@ -62,6 +103,7 @@ impl Definitions {
     {
         Definitions {
             list: Vec::new(alloc),
+            last: IndexMap::new(alloc),
         }
     }
 
@@ -72,19 +114,24 @@ impl Definitions {
     }
 
     /// Puts a definition at the end. Where memory runs out the list stays as it was.
-    pub fn push(&mut self, a: Assign) -> Result<(), AllocError>
+    pub fn push(&mut self, alloc: Global, a: Assign) -> Result<(), AllocError>
         ensures ok { OnOk result (self.new ≡ self.old ++ a ∷ []) }
         ensures err { OnErr result (self.new ≡ self.old) }
     {
+        note_all(alloc, &mut self.last, a.targets.as_slice(), self.list.len())?;
         self.list.push(a)?;
         Ok(())
     }
 
-    /// The place of the last definition of a name before a place.
+    /// The place of the last definition of a name before a place. Where that is the name's last definition, or the name
+    /// has none, it is found without a search.
     pub fn last_before(&self, place: usize, name: &[u8]) -> Option<usize>
         ensures last { result ≡ last_named (map text_of self.now) place name.now }
         ensures below { IfSome result (λ i. i < length self.now) }
     {
-        last_named(&self.list, place, name)
+        match self.last.get(name) {
+            None => None,
+            Some(last) => last_named(&self.list, begin_of_search(place, *last), name),
+        }
     }
 }

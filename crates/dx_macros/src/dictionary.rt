@@ -51,7 +51,7 @@ impl Dictionary {
         ensures ok { OnOk result (dictionary_of self.new ≡ with_definition (text_of s) (dictionary_of self.old)) }
         ensures err { OnErr result (dictionary_of self.new ≡ dictionary_of self.old) }
     {
-        self.definitions.push(s)
+        self.definitions.push(self.alloc, s)
     }
 
     /// The macro of this name; None exactly where no macro has it.
