@@ -1,5 +1,5 @@
 -- The grammar of scripts: which tokens stand for which trees, and which are refused by name.
-use Rattle.std.specs.Prelude.{◌≡◌, ℕ, zero, suc, ℤ, pos, Bool, true, false, List, [], ◌∷◌, ◌++◌, length, map, Option, Some, None, ◌==◌, codes}
+use Rattle.std.specs.Prelude.{ℕ, zero, suc, ℤ, pos, Bool, true, false, List, [], ◌∷◌, length, map, Option, Some, None, ◌==◌, codes}
 use Rattle.dx_base.specs.declared.token.Place.{Place}
 use Rattle.dx_base.specs.declared.token.Lexeme.{Lexeme}
 use Rattle.dx_base.specs.declared.token.SyntaxError.{SyntaxError}
@@ -13,10 +13,8 @@ use Rattle.dx_ast.specs.declared.expressions.Expr.TheVariants as expr
 use Rattle.dx_ast.specs.declared.expressions.Call.{Call, roll-Call}
 use Rattle.dx_ast.specs.declared.expressions.Arg.{Arg, roll-Arg}
 use Rattle.dx_ast.specs.declared.sequencing.FrameVar.{FrameVar}
-use Rattle.dx_ast.specs.declared.sequencing.Word.{Word}
 use Rattle.dx_ast.specs.declared.statements.Param.{Param}
-use Rattle.dx_ast.specs.declared.statements.Assign.{Assign}
-use Rattle.dx_ast.specs.declared.statements.MacroDef.{MacroDef, roll-MacroDef}
+use Rattle.dx_ast.specs.declared.statements.MacroDef.{roll-MacroDef}
 use Rattle.dx_ast.specs.declared.statements.Stmt.{Stmt}
 use Rattle.dx_ast.specs.declared.statements.Stmt.TheVariants as stmt
 use Rattle.dx_ast.specs.Classes.{Text, fault, fault_if, sign_of, key_of, name_of, int_of, text_of, frame_of, word_of, switch_of, state_of}

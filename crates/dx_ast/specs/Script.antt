@@ -1,5 +1,5 @@
 -- What a text is: the tokens that it is read as, and the statements that it stands for or its first error.
-use Rattle.std.specs.Prelude.{◌≡◌, ℕ, zero, suc, ◌-◌, true, false, List, [], ◌∷◌, length, Result, Ok, Err}
+use Rattle.std.specs.Prelude.{ℕ, zero, suc, ◌-◌, true, false, List, [], ◌∷◌, length, Result, Ok, Err}
 use Rattle.dx_base.specs.declared.token.Place.{Place}
 use Rattle.dx_base.specs.declared.token.LexKind.{LexKind}
 use Rattle.dx_base.specs.declared.token.LexKind.TheVariants as token

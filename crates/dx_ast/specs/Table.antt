@@ -1,6 +1,6 @@
 -- The functions that a call may name: a row for each, with its named parameters, how many further arguments it takes,
 -- and how many results it has.
-use Rattle.std.specs.Prelude.{◌≡◌, ℕ, Bool, List, [], ◌∷◌, length, Option, find, codes}
+use Rattle.std.specs.Prelude.{ℕ, List, [], ◌∷◌, Option, find, codes}
 use Rattle.std.specs.Str.{bytes_eq}
 use Rattle.dx_base.specs.declared.function.Module.{Module}
 use Rattle.dx_base.specs.declared.function.Module.TheVariants as computing

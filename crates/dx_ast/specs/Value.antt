@@ -1,7 +1,7 @@
 -- The value that a constant stands for.
 use Rattle.std.specs.Prelude.{ℕ, ℤ, pos, List, [], ◌∷◌, length, Option, Some, None, IsTrue}
 use Rattle.dx_base.specs.declared.elem.ElemType.TheVariants as elem
-use Rattle.dx_base.specs.Array.{ArrayData, plain}
+use Rattle.dx_base.specs.Array.{plain}
 use Rattle.dx_base.specs.Object.{Tree, PartList, array, text, group, no_parts, part}
 use Rattle.dx_base.specs.ObjectLimits.{fits}
 use Rattle.dx_ast.specs.declared.constants.Const.{Const}

@@ -1,5 +1,5 @@
 -- What the grammar's rules make and test: lists of elements, ranges, caches, names that differ.
-use Rattle.std.specs.Prelude.{◌≡◌, ℕ, zero, suc, ℤ, pos, negsuc, Bool, true, false, not, ◌||◌, ◌&&◌, List, [], ◌∷◌, ◌++◌, length, map, Option, Some, None, is_some, if◌then◌else◌, ◌==◌, nat_lt, int_lt, unsigned_abs, ◌-ℤ◌, ◌+ℤ◌, ◌/◌, ◌+◌, codes}
+use Rattle.std.specs.Prelude.{ℕ, zero, suc, ℤ, pos, negsuc, Bool, true, false, not, ◌||◌, ◌&&◌, List, [], ◌∷◌, ◌++◌, length, Option, Some, None, is_some, if◌then◌else◌, ◌==◌, nat_lt, int_lt, unsigned_abs, ◌-ℤ◌, ◌+ℤ◌, ◌/◌, ◌+◌, codes}
 use Rattle.std.specs.Str.{bytes_eq}
 use Rattle.dx_base.specs.declared.token.Place.{Place}
 use Rattle.dx_base.specs.declared.token.SyntaxError.{SyntaxError}

@@ -6,6 +6,8 @@ mod expressions;
 mod sequencing;
 mod statements;
 mod table;
+#[cfg(test)]
+mod tests;
 
 pub use constants::{Const, Ints, TextList};
 pub use expressions::{Arg, Args, Call, Expr};

@@ -137,7 +137,9 @@ pub fn results(f: Function) -> u32
 {
     match f {
         Function::Module(m) => results_of_module(m),
-        Function::Effect(Effect::Print) | Function::Effect(Effect::Echo) | Function::Effect(Effect::Export) => 0,
+        Function::Effect(Effect::Print)
+        | Function::Effect(Effect::Echo)
+        | Function::Effect(Effect::Export) => 0,
         Function::Effect(_) | Function::Switch => 1,
         Function::Route => 64,
         Function::GetLocal | Function::GetGlobal => 2,

@@ -1,13 +1,2 @@
-pub mod Taken
-pub mod Reached
 pub mod NameTables
-pub mod Spans
-pub mod GapLaw
-pub mod Fronts
-pub mod WordLaw
-pub mod NumberLaw
-pub mod StringLaw
-pub mod SignLaw
-pub mod FrontLaw
-pub mod StandingLaw
-pub mod PlaceLaw
+pub mod Tokens

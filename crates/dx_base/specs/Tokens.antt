@@ -1,4 +1,5 @@
 -- The tokens of scripts. Gaps, Spelling, Refusals and Standing say what stands at a place of a text; Reading computes it.
+pub mod Ascii
 pub mod Places
 pub mod Classes
 pub mod Gaps

@@ -1,10 +1,10 @@
 -- What was answered stands at the place, lies in the text, and ends at a place that is reached.
-use Rattle.std.proofs.Common.{◌≡◌, ℕ, List, Result, Ok, Err, IfOk}
+use Rattle.std.proofs.Common.{ℕ, List, Result, Ok, Err, IfOk}
 use Rattle.dx_base.specs.declared.token.Place.{Place}
 use Rattle.dx_base.specs.declared.token.Lexeme.{Lexeme}
 use Rattle.dx_base.specs.Tokens.Reading.{IsReached, behind_token, lexeme_at}
-use Rattle.dx_base.proofs.PlaceLaw.{lexeme_places, error_place, reached_place}
-use Rattle.dx_base.proofs.StandingLaw.{only_lexeme, only_error}
+use Rattle.dx_base.proofs.Tokens.PlaceLaw.{lexeme_places, error_place, reached_place}
+use Rattle.dx_base.proofs.Tokens.StandingLaw.{only_lexeme, only_error}
 use Rattle.dx_lexer.specs.declared.fail.LexFail.{LexFail}
 use Rattle.dx_lexer.specs.declared.fail.LexFail.TheVariants as fail
 use Rattle.dx_lexer.specs.Answers.{Answers, Stands, LiesIn}

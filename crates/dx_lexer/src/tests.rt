@@ -1,6 +1,6 @@
 //! Tables of texts with their tokens and refusals, and of the places of both.
 
-use crate::{LexFail, LexKind, Place, next};
+use crate::{LexFail, LexKind, Place, SyntaxError, SyntaxKind, next};
 use std::alloc::Global;
 use std::test::Fail;
 
@@ -189,5 +189,24 @@ fn longest_names(rt: HostRuntime) -> Result<(), Fail> {
     );
     name.push_str("n")?;
     assert_eq!(rt; shown(alloc, name.as_bytes())?.as_str(), "1:1 Syntax");
+    Ok(())
+}
+
+#[test]
+fn texts_of_failures(rt: HostRuntime) -> Result<(), Fail> {
+    let alloc = rt.alloc();
+    let error = SyntaxError {
+        kind: SyntaxKind::NumberRange,
+        line: 3,
+        column: 14,
+    };
+    assert_eq!(rt;
+        format!(in alloc; "{}", LexFail::Refused(error))?.as_str(),
+        "3:14: NumberRange"
+    );
+    assert_eq!(rt;
+        format!(in alloc; "{}", LexFail::Memory)?.as_str(),
+        "out of memory"
+    );
     Ok(())
 }

@@ -1,5 +1,5 @@
 -- What the reading answers, in the words of the grammar.
-use Rattle.std.proofs.Common.{◌≡◌, List, Result, Ok, Err, sym, ap, ◌∙◌}
+use Rattle.std.proofs.Common.{ℕ, ◌≤◌, length, List, Result, Ok, Err, sym, ap, ◌∙◌}
 use Rattle.std.specs.Prelude.{IfOk, IfErr}
 use Rattle.dx_base.specs.declared.token.SyntaxError.{SyntaxError}
 use Rattle.dx_grammar.specs.FirstError.{IsText, FirstError}
@@ -9,6 +9,10 @@ use Rattle.dx_ast.specs.declared.statements.Stmt.{Stmt}
 use Rattle.dx_ast.specs.Classes.{misfit}
 use Rattle.dx_ast.specs.Grammar as grammar
 use Rattle.dx_script_grammar.specs.Reading.{Tokens, script}
+use Rattle.dx_ast.specs.Script.{IsScript}
+use Rattle.dx_ast.specs.Plain.{plain_stmts}
+use Rattle.dx_ast.specs.Lawful.{AreLawful}
+use Rattle.dx_script_laws.proofs.LawfulScripts.{lawful}
 use Rattle.dx_script_laws.proofs.Script.{sound, only, exact, determined}
 use Rattle.dx_parser.specs.declared.fail.ParseFail.{ParseFail}
 use Rattle.dx_parser.specs.declared.fail.ParseFail.TheVariants.{Refused, Memory}
@@ -32,3 +36,7 @@ pub is_error : (s left : Tokens) (r : Result (List Stmt) ParseFail) → Reads (s
 is_error s left (Ok found) h f d = d.none found (sound s found left h)
 is_error s left (Err (Refused g)) h f d = determined s f g d (exact s g left h)
 is_error s left (Err Memory) h f d = tt
+
+pub is_lawful : (text : List ℕ) (r : Result (List Stmt) ParseFail) → IfOk r (IsScript text) → length text ≤ 16777216 → IfOk r (λ statements. AreLawful (plain_stmts statements))
+is_lawful text (Ok found) h short = lawful text found h short
+is_lawful text (Err e) h short = tt

@@ -128,11 +128,7 @@ fn elements(
 }
 
 #[tactic(auto, unfolding(dx_script_grammar::specs::Reading::elements_after))]
-fn elements_after(
-    alloc: Global,
-    cursor: &mut Cursor<'_>,
-    first: Const,
-) -> Result<Const, ParseFail>
+fn elements_after(alloc: Global, cursor: &mut Cursor<'_>, first: Const) -> Result<Const, ParseFail>
     requires { IsShort first }
     ensures { Reads (reading.elements_after first cursor.old) result cursor.new }
 {

@@ -91,10 +91,12 @@ impl<'a> Cursor<'a> {
         ensures { result ≡ reading.sees sign.now self.now }
     {
         match &self.current {
-            Ok(Lexeme {
-                kind: LexKind::Sign(found),
-                ..
-            }) => is_word(found.bytes(), sign),
+            Ok(
+                Lexeme {
+                    kind: LexKind::Sign(found),
+                    ..
+                },
+            ) => is_word(found.bytes(), sign),
             _ => false,
         }
     }
@@ -105,10 +107,12 @@ impl<'a> Cursor<'a> {
         ensures { result ≡ reading.sees_key word.now self.now }
     {
         match &self.current {
-            Ok(Lexeme {
-                kind: LexKind::Name(found),
-                ..
-            }) => is_word(found.bytes(), word),
+            Ok(
+                Lexeme {
+                    kind: LexKind::Name(found),
+                    ..
+                },
+            ) => is_word(found.bytes(), word),
             _ => false,
         }
     }
@@ -119,10 +123,12 @@ impl<'a> Cursor<'a> {
         ensures { result ≡ reading.sees_name self.now }
     {
         match &self.current {
-            Ok(Lexeme {
-                kind: LexKind::Name(found),
-                ..
-            }) => !is_reserved(found.bytes()),
+            Ok(
+                Lexeme {
+                    kind: LexKind::Name(found),
+                    ..
+                },
+            ) => !is_reserved(found.bytes()),
             _ => false,
         }
     }
@@ -133,10 +139,12 @@ impl<'a> Cursor<'a> {
         ensures { result ≡ reading.sees_int self.now }
     {
         match &self.current {
-            Ok(Lexeme {
-                kind: LexKind::Int(_),
-                ..
-            }) => true,
+            Ok(
+                Lexeme {
+                    kind: LexKind::Int(_),
+                    ..
+                },
+            ) => true,
             _ => false,
         }
     }
@@ -147,10 +155,12 @@ impl<'a> Cursor<'a> {
         ensures { result ≡ reading.sees_text self.now }
     {
         match &self.current {
-            Ok(Lexeme {
-                kind: LexKind::Text(_),
-                ..
-            }) => true,
+            Ok(
+                Lexeme {
+                    kind: LexKind::Text(_),
+                    ..
+                },
+            ) => true,
             _ => false,
         }
     }
@@ -161,10 +171,12 @@ impl<'a> Cursor<'a> {
         ensures { result ≡ reading.sees_frame self.now }
     {
         match &self.current {
-            Ok(Lexeme {
-                kind: LexKind::Frame(found),
-                ..
-            }) => frame_named(found.bytes()).is_some(),
+            Ok(
+                Lexeme {
+                    kind: LexKind::Frame(found),
+                    ..
+                },
+            ) => frame_named(found.bytes()).is_some(),
             _ => false,
         }
     }
@@ -175,9 +187,12 @@ impl<'a> Cursor<'a> {
         ensures { result ≡ reading.ended self.now }
     {
         match &self.current {
-            Ok(Lexeme {
-                kind: LexKind::End, ..
-            }) => true,
+            Ok(
+                Lexeme {
+                    kind: LexKind::End,
+                    ..
+                },
+            ) => true,
             Ok(_) => false,
             Err(_) => true,
         }
@@ -240,11 +255,13 @@ impl<'a> Cursor<'a> {
         ensures { Reads (reading.int self.old) result self.new }
     {
         match &self.current {
-            Ok(Lexeme {
-                kind: LexKind::Int(n),
-                from,
-                to,
-            }) => {
+            Ok(
+                Lexeme {
+                    kind: LexKind::Int(n),
+                    from,
+                    to,
+                },
+            ) => {
                 let found = (*from, *n);
                 self.current = read(alloc, self.text, *to)?;
                 Ok(found)
@@ -259,11 +276,13 @@ impl<'a> Cursor<'a> {
         ensures { Reads (reading.frame self.old) result self.new }
     {
         match &self.current {
-            Ok(Lexeme {
-                kind: LexKind::Frame(word),
-                from,
-                to,
-            }) => match frame_named(word.bytes()) {
+            Ok(
+                Lexeme {
+                    kind: LexKind::Frame(word),
+                    from,
+                    to,
+                },
+            ) => match frame_named(word.bytes()) {
                 Some(frame) => {
                     let found = (*from, frame);
                     self.current = read(alloc, self.text, *to)?;
@@ -281,11 +300,13 @@ impl<'a> Cursor<'a> {
         ensures { Reads (reading.sign sign.now self.old) result self.new }
     {
         match &self.current {
-            Ok(Lexeme {
-                kind: LexKind::Sign(found),
-                from,
-                to,
-            }) if is_word(found.bytes(), sign) => {
+            Ok(
+                Lexeme {
+                    kind: LexKind::Sign(found),
+                    from,
+                    to,
+                },
+            ) if is_word(found.bytes(), sign) => {
                 let place = *from;
                 self.current = read(alloc, self.text, *to)?;
                 Ok(place)
@@ -300,11 +321,13 @@ impl<'a> Cursor<'a> {
         ensures { Reads (reading.key word.now self.old) result self.new }
     {
         match &self.current {
-            Ok(Lexeme {
-                kind: LexKind::Name(found),
-                from,
-                to,
-            }) if is_word(found.bytes(), word) => {
+            Ok(
+                Lexeme {
+                    kind: LexKind::Name(found),
+                    from,
+                    to,
+                },
+            ) if is_word(found.bytes(), word) => {
                 let place = *from;
                 self.current = read(alloc, self.text, *to)?;
                 Ok(place)
@@ -319,11 +342,13 @@ impl<'a> Cursor<'a> {
         ensures { Reads (reading.state switch self.old) result self.new }
     {
         match &self.current {
-            Ok(Lexeme {
-                kind: LexKind::Name(word),
-                from,
-                to,
-            }) => match state_named(switch, word.bytes()) {
+            Ok(
+                Lexeme {
+                    kind: LexKind::Name(word),
+                    from,
+                    to,
+                },
+            ) => match state_named(switch, word.bytes()) {
                 Some(state) => {
                     let found = (*from, state);
                     self.current = read(alloc, self.text, *to)?;
@@ -351,9 +376,12 @@ impl<'a> Cursor<'a> {
         ensures { Reads (stream.end class.misfit self.old) result self.new }
     {
         match &self.current {
-            Ok(Lexeme {
-                kind: LexKind::End, ..
-            }) => Ok(()),
+            Ok(
+                Lexeme {
+                    kind: LexKind::End,
+                    ..
+                },
+            ) => Ok(()),
             _ => Err(refusal(&self.current)),
         }
     }

@@ -9,6 +9,8 @@ mod lists;
 mod macros;
 mod script;
 mod statements;
+#[cfg(test)]
+mod tests;
 mod words;
 
 pub use fail::ParseFail;

@@ -78,7 +78,11 @@ pub fn join(list: &mut Const, e: Const) -> Result<(), AllocError>
 fn is_passed(a: i64, b: i32, d: i32) -> bool
     ensures { result ≡ values.is_passed a b d }
 {
-    if d < 0 { a < i64::from(b) } else { i64::from(b) < a }
+    if d < 0 {
+        a < i64::from(b)
+    } else {
+        i64::from(b) < a
+    }
 }
 
 /// How many of a, a + d and so on aren't past b.

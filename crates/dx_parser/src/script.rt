@@ -1,10 +1,12 @@
 //! Items and whole scripts.
 
-ghost use Rattle.std.specs.Prelude.{◌≡◌, [], List, IfOk, IfErr};
+ghost use Rattle.std.specs.Prelude.{◌≡◌, ◌≤◌, [], List, length, IfOk, IfErr};
 ghost use Rattle.dx_script_grammar.specs.Reading as reading;
 ghost use Rattle.dx_base.specs.declared.token.SyntaxError.{SyntaxError};
 ghost use Rattle.dx_ast.specs.declared.statements.Stmt.{Stmt};
 ghost use Rattle.dx_ast.specs.Script.{IsScript, IsFirstError};
+ghost use Rattle.dx_ast.specs.Plain.{plain_stmts};
+ghost use Rattle.dx_ast.specs.Lawful.{AreLawful};
 ghost use Rattle.dx_parser.specs.Answers.{Reads, IsOnly, IsOnlyError, OnRefused};
 
 use crate::cursor::Cursor;
@@ -95,6 +97,8 @@ pub fn parse(alloc: Global, text: &[u8]) -> Result<Stmts, ParseFail>
     ensures refused { IfErr result (OnRefused (IsFirstError text.now)) }
     // The first error of the text is answered, unless memory runs out.
     ensures error { (f : SyntaxError) → IsFirstError text.now f → IsOnlyError f result }
+    // The statements of a text that isn't too long are lawful.
+    ensures lawful { length text.now ≤ 16777216 → IfOk result (λ statements. AreLawful (plain_stmts statements)) }
 {
     let mut cursor = Cursor::new(alloc, text)?;
     script(alloc, &mut cursor)

@@ -1,5 +1,5 @@
 -- How the parser reads, with one token in hand: a function for each rule, which looks at the next token to choose.
-use Rattle.std.specs.Prelude.{◌≡◌, ℕ, zero, suc, ℤ, pos, Bool, true, false, not, ◌&&◌, List, [], ◌∷◌, ◌++◌, length, map, Option, Some, None, is_some, ◌==◌, codes}
+use Rattle.std.specs.Prelude.{ℕ, zero, suc, ℤ, pos, Bool, true, false, not, List, [], ◌∷◌, length, map, Option, Some, None, is_some, ◌==◌, codes}
 use Rattle.std.specs.Str.{bytes_eq}
 use Rattle.dx_base.specs.declared.token.Place.{Place}
 use Rattle.dx_base.specs.declared.token.Lexeme.{Lexeme}
@@ -17,8 +17,7 @@ use Rattle.dx_ast.specs.declared.expressions.Arg.{Arg, roll-Arg}
 use Rattle.dx_ast.specs.declared.sequencing.FrameVar.{FrameVar}
 use Rattle.dx_ast.specs.declared.sequencing.Word.{Word}
 use Rattle.dx_ast.specs.declared.statements.Param.{Param}
-use Rattle.dx_ast.specs.declared.statements.Assign.{Assign}
-use Rattle.dx_ast.specs.declared.statements.MacroDef.{MacroDef, roll-MacroDef}
+use Rattle.dx_ast.specs.declared.statements.MacroDef.{roll-MacroDef}
 use Rattle.dx_ast.specs.declared.statements.Stmt.{Stmt}
 use Rattle.dx_ast.specs.declared.statements.Stmt.TheVariants as stmt
 use Rattle.dx_ast.specs.Classes.{Text, misfit, fault, fault_if, is_sign, is_key, name_in, int_in, text_in, frame_in, sign_of, key_of, name_of, int_of, text_of, frame_of, state_of, word_named, switch_named}

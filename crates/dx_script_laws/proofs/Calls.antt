@@ -1,8 +1,8 @@
 -- The laws of attributes, expressions and calls.
-use Rattle.std.proofs.Common.{◌≡◌, ℕ, zero, suc, Bool, true, false, List, [], ◌∷◌, ◌++◌, ◌⊎◌, inl, inr, Option, Some, None, refl}
+use Rattle.std.proofs.Common.{◌≡◌, ℕ, zero, suc, Bool, true, false, List, [], ◌∷◌, ◌⊎◌, inl, inr, Some, None, refl}
 use Rattle.std.specs.Prelude.{codes}
 use Rattle.std.specs.Str.{bytes_eq}
-use Rattle.dx_grammar.specs.Rule.{nothing, ◌∣◌, ◌>>=◌, ◌>>◌, snoc, more}
+use Rattle.dx_grammar.specs.Rule.{nothing, ◌∣◌, ◌>>=◌, ◌>>◌, snoc}
 use Rattle.dx_grammar.proofs.Read.{Any, Opens, Same}
 use Rattle.dx_grammar.proofs.Compose as compose
 use Rattle.dx_grammar.proofs.Many.{Past}
@@ -16,7 +16,7 @@ use Rattle.dx_ast.specs.Grammar as grammar
 use Rattle.dx_ast.specs.Grammar.{Rule}
 use Rattle.dx_script_grammar.specs.Reading as reading
 use Rattle.dx_script_grammar.specs.Reading.{Tokens, sees}
-use Rattle.dx_script_laws.proofs.Tokens.{Reads, done, check, refuses, next, after, either, first, second, both, nothing_more, anything, ends, twice, fills, fills_first, commas, in_other_words, where_less, more_opens, name, int, text, frame, sign, sees_near, name_near, int_near, frame_near, sign_has, sign_lacks, name_lacks, name_name, int_int, text_int, frame_frame, frame_lacks, frame_name, sees_only}
+use Rattle.dx_script_laws.proofs.Tokens.{Reads, done, check, refuses, next, after, either, first, second, both, nothing_more, anything, ends, twice, commas, in_other_words, where_less, more_opens, name, int, text, frame, sign, sees_near, name_near, int_near, frame_near, sign_has, sign_lacks, name_lacks, name_name, int_int, text_int, frame_frame, frame_lacks, frame_name, sees_only}
 use Rattle.dx_script_laws.proofs.Constants.{constant, constant_lacks, constant_name, constant_frame}
 
 -- ---- attributes

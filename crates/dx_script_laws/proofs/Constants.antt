@@ -1,9 +1,9 @@
 -- The laws of constants.
-use Rattle.std.proofs.Common.{◌≡◌, ℕ, ℤ, pos, Bool, true, false, not, List, [], ◌∷◌, ◌++◌, length, Option, Some, None, refl, sym, ap, ◌∙◌}
+use Rattle.std.proofs.Common.{◌≡◌, ℤ, false, List, [], ◌∷◌, refl}
 use Rattle.std.specs.Prelude.{codes}
 use Rattle.std.specs.Str.{bytes_eq}
 use Rattle.dx_base.specs.declared.token.Place.{Place}
-use Rattle.dx_grammar.specs.Rule.{nothing, ◌∣◌, ◌>>=◌, ◌>>◌, snoc, more}
+use Rattle.dx_grammar.specs.Rule.{nothing, ◌∣◌, ◌>>=◌, snoc}
 use Rattle.dx_grammar.proofs.Read.{Any, Opens, Same}
 use Rattle.dx_grammar.proofs.Compose as compose
 use Rattle.dx_grammar.proofs.Compose.{Fills}
@@ -16,7 +16,7 @@ use Rattle.dx_ast.specs.Grammar as grammar
 use Rattle.dx_ast.specs.Grammar.{Rule}
 use Rattle.dx_script_grammar.specs.Reading as reading
 use Rattle.dx_script_grammar.specs.Reading.{sees}
-use Rattle.dx_script_laws.proofs.Tokens.{Reads, done, check, next, after, either, first, second, both, nothing_more, anything, fills, fills_first, fills_second, fills_both, until, more_opens, in_other_words, name, int, text, sign, key, sees_near, key_near, int_near, text_near, sign_has, sign_lacks, sign_int, sign_text, sign_name, sign_key, sign_frame, int_lacks, int_int, int_name, int_key, int_frame, text_lacks, text_int, text_text, text_name, text_key, text_frame, key_has, key_lacks, key_name, key_frame}
+use Rattle.dx_script_laws.proofs.Tokens.{Reads, done, check, next, after, either, first, second, both, nothing_more, anything, fills, fills_first, fills_second, fills_both, until, more_opens, in_other_words, int, text, sign, key, sees_near, key_near, int_near, text_near, sign_has, sign_lacks, sign_int, sign_text, sign_name, sign_key, sign_frame, int_lacks, int_int, int_name, int_key, int_frame, text_lacks, text_int, text_text, text_name, text_key, text_frame, key_has, key_lacks, key_name, key_frame}
 
 -- [ ',' ]
 pub comma : Reads grammar.comma reading.comma (λ u. sees (codes ",") u ≡ false)

@@ -7,3 +7,9 @@ pub mod Script
 pub mod Texts
 pub mod Loops
 pub mod Ranges
+pub mod Sizes
+pub mod Plain
+pub mod Gives
+pub mod LawfulConstants
+pub mod LawfulCalls
+pub mod LawfulScripts

@@ -1,10 +1,9 @@
 -- What the loops of the parser do in a turn, and that each turn takes a token.
-use Rattle.std.proofs.Common.{◌≡◌, ℕ, ℤ, Bool, true, false, not, List, [], ◌∷◌, ◌++◌, Option, refl}
+use Rattle.std.proofs.Common.{◌≡◌, ℕ, ℤ, Bool, List, [], ◌∷◌, ◌++◌, refl}
 use Rattle.std.specs.Prelude.{codes, is_some}
-use Rattle.dx_grammar.specs.Stream.{◌>>=◌, ◌>>◌, pure, choose, while}
+use Rattle.dx_grammar.specs.Stream.{◌>>=◌, pure, choose}
 use Rattle.dx_grammar.specs.Rule.{snoc}
 use Rattle.dx_grammar.proofs.Many.{Shrinks}
-use Rattle.dx_ast.specs.declared.constants.Const.{Const}
 use Rattle.dx_ast.specs.declared.expressions.Arg.{Arg, out-Arg}
 use Rattle.dx_ast.specs.declared.statements.Param.{Param}
 use Rattle.dx_ast.specs.declared.statements.Stmt.{Stmt}

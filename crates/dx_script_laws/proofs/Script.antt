@@ -1,9 +1,7 @@
 -- The laws of items and scripts, and the theorem: what is read of a text is its statements, or its first error.
-use Rattle.std.proofs.Common.{◌≡◌, Bool, true, false, not, List, [], ◌∷◌, Option, Some, None, Result, Ok, Err, refl, ap}
+use Rattle.std.proofs.Common.{◌≡◌, true, false, not, List, [], Ok, Err, refl, ap}
 use Rattle.std.specs.Prelude.{codes}
-use Rattle.std.specs.Str.{bytes_eq}
 use Rattle.dx_base.specs.declared.token.SyntaxError.{SyntaxError}
-use Rattle.dx_grammar.specs.Rule.{nothing, ◌∣◌, ◌>>=◌, ◌>>◌, more}
 use Rattle.dx_grammar.specs.Stream.{looks_from}
 use Rattle.dx_grammar.specs.FirstError.{IsText, FirstError}
 use Rattle.dx_grammar.proofs.Read.{Any, Opens}
@@ -12,12 +10,12 @@ use Rattle.dx_grammar.proofs.Many.{Past}
 use Rattle.dx_grammar.proofs.Exact as exactly
 use Rattle.dx_grammar.proofs.Exact.{emptied}
 use Rattle.dx_ast.specs.declared.statements.Stmt.{Stmt}
-use Rattle.dx_ast.specs.Classes.{Text, is_reserved, misfit}
+use Rattle.dx_ast.specs.Classes.{misfit}
 use Rattle.dx_ast.specs.Values.{with_statement}
 use Rattle.dx_ast.specs.Grammar as grammar
 use Rattle.dx_script_grammar.specs.Reading as reading
 use Rattle.dx_script_grammar.specs.Reading.{Tokens, sees, sees_key, ended, goes_on}
-use Rattle.dx_script_laws.proofs.Tokens.{Reads, done, next, after, either, first, both, anything, not_so, loop, fills, fills_first, fills_both, int, text, frame, sign, key, sees_near, key_near, int_near, frame_near, end_near, sign_has, sign_lacks, sign_key, sign_frame, sign_goes_on, key_has, key_key, key_lacks, key_frame, key_goes_on, name_lacks, name_key, name_frame, name_goes_on, frame_lacks, frame_key, frame_frame, frame_int, frame_goes_on, int_int}
+use Rattle.dx_script_laws.proofs.Tokens.{Reads, done, next, either, first, both, anything, not_so, loop, fills, fills_first, fills_both, int, text, frame, sign, key, sees_near, key_near, int_near, frame_near, end_near, sign_has, sign_goes_on, key_has, key_key, key_lacks, key_goes_on, name_lacks, name_key, name_frame, name_goes_on, frame_lacks, frame_key, frame_frame, frame_int, frame_goes_on, int_int}
 use Rattle.dx_script_laws.proofs.Statements.{definition, statement_fills}
 use Rattle.dx_script_laws.proofs.Words.{named, named_opens}
 

@@ -1,5 +1,5 @@
 -- The laws of statements and macros.
-use Rattle.std.proofs.Common.{◌≡◌, ℕ, Bool, true, false, List, [], ◌∷◌, Option, Some, None, refl}
+use Rattle.std.proofs.Common.{◌≡◌, true, false, List, [], ◌∷◌, Option, Some, refl}
 use Rattle.std.specs.Prelude.{codes}
 use Rattle.std.specs.Str.{bytes_eq}
 use Rattle.dx_grammar.specs.Rule.{nothing, ◌∣◌, ◌>>=◌, ◌>>◌, snoc, more}
@@ -19,7 +19,7 @@ use Rattle.dx_script_grammar.specs.Reading as reading
 use Rattle.dx_script_grammar.specs.Reading.{Tokens, Parser, sees}
 use Rattle.dx_script_laws.proofs.Tokens.{Reads, done, check, next, after, either, first, second, both, nothing_more, anything, ends, twice, fills, fills_first, fills_both, loop, until, commas, in_other_words, where_less, more_opens, name, sign, key, sees_near, name_near, sign_has, sign_lacks, sign_name, name_lacks, name_name, sees_only, sees_no_name}
 use Rattle.dx_script_laws.proofs.Constants.{constant}
-use Rattle.dx_script_laws.proofs.Calls.{call, expression, call_has, Closed, sign_closes}
+use Rattle.dx_script_laws.proofs.Calls.{call, expression, call_has, sign_closes}
 
 -- ---- statements, after their first name
 

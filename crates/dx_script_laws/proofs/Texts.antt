@@ -1,12 +1,12 @@
 -- The tokens of a text one after the other: a token stands before those from its end on.
-use Rattle.std.proofs.Common.{◌≡◌, ℕ, zero, suc, ◌+◌, ◌-◌, ◌<◌, ◌≤◌, List, [], ◌∷◌, length, Result, Ok, Err, refl, sym, ap, ◌∙◌, arith}
+use Rattle.std.proofs.Common.{◌≡◌, ℕ, zero, suc, ◌-◌, ◌<◌, List, length, Result, Ok, Err, refl, ap, arith}
 use Rattle.dx_base.specs.declared.token.Place.{Place}
 use Rattle.dx_base.specs.declared.token.LexKind.{LexKind}
 use Rattle.dx_base.specs.declared.token.LexKind.TheVariants as token
 use Rattle.dx_base.specs.declared.token.Lexeme.{Lexeme}
 use Rattle.dx_base.specs.declared.token.SyntaxError.{SyntaxError}
 use Rattle.dx_base.specs.Tokens.Reading.{lexeme_at, IsReached, behind_token}
-use Rattle.dx_base.proofs.Reached.{reached_placed, goes_on}
+use Rattle.dx_base.proofs.Tokens.Reached.{reached_placed, goes_on}
 use Rattle.dx_ast.specs.Script.{Tokens, with_token, with_lexeme, tokens_by, tokens_from}
 
 -- what stands behind the end doesn't matter

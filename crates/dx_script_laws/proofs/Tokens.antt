@@ -1,5 +1,5 @@
 -- The classes of tokens: each is read, and what its tokens look like to the looks of the reading functions.
-use Rattle.std.proofs.Common.{◌≡◌, ℕ, ℤ, pos, Bool, true, false, not, ◌||◌, cond, List, [], ◌∷◌, ◌++◌, ◌⊎◌, inl, inr, Option, Some, None, Result, Ok, Err, refl, sym, ap, subst, ◌∙◌, eqb, arith}
+use Rattle.std.proofs.Common.{◌≡◌, pos, Bool, true, false, not, cond, List, [], ◌∷◌, Option, Some, None, refl, sym, ap, subst}
 use Rattle.std.specs.Prelude.{is_some, codes}
 use Rattle.std.specs.Str.{bytes_eq}
 use Rattle.std.proofs.lemmas.Slice.Eq.{bytes_eq-Decides}
@@ -8,17 +8,16 @@ use Rattle.dx_base.specs.declared.token.LexKind.{LexKind}
 use Rattle.dx_base.specs.declared.token.LexKind.TheVariants as token
 use Rattle.dx_base.specs.declared.token.Lexeme.{Lexeme}
 use Rattle.dx_base.specs.declared.token.SyntaxError.{SyntaxError}
-use Rattle.dx_grammar.specs.Stream.{◌>>=◌, ◌>>◌, pure, fail, passes, choose, looks, looks_from, while}
+use Rattle.dx_grammar.specs.Stream.{◌>>◌, looks, looks_from, while}
 use Rattle.dx_grammar.specs.Rule.{nothing, refused, one, unless, more, ◌∣◌}
 use Rattle.dx_grammar.specs.Rule as rule
 use Rattle.dx_grammar.proofs.Read as read
 use Rattle.dx_grammar.proofs.Read.{Any, Opens, Alike, Same}
-use Rattle.dx_grammar.proofs.Many.{Past, Shrinks}
+use Rattle.dx_grammar.proofs.Many.{Past}
 use Rattle.dx_grammar.proofs.Compose as compose
 use Rattle.dx_grammar.proofs.Compose.{Fills, opens_one, looks_near}
 use Rattle.dx_grammar.proofs.Laws as laws
 pub use Rattle.dx_grammar.proofs.Laws.{done, check, refuses, next, after, either, loop, in_other_words, where_less, turn, less, first, second, both, nothing_more, ends, anything, not_so, opens_in_other_words, twice, more_opens, fills, fills_first, fills_second, fills_both}
-use Rattle.dx_ast.specs.declared.sequencing.FrameVar.{FrameVar}
 use Rattle.dx_ast.specs.declared.sequencing.FrameVar.TheVariants as frames
 use Rattle.dx_ast.specs.declared.sequencing.Word.{Word}
 use Rattle.dx_ast.specs.Classes.{Text, misfit, is_sign, is_key, is_reserved, place_if, at, name_text, name_in, int_in, text_in, frame_in, spelled, state_named, sign_of, key_of, name_of, int_of, text_of, frame_of, state_of}
@@ -65,14 +64,6 @@ end_near s u same = ap not (looks_near (λ t. true) s u same)
 -- two texts that differ: what is written as one isn't written as the other
 apart : (c d x : Text) → bytes_eq c d ≡ false → bytes_eq x c ≡ true → bytes_eq x d ≡ false
 apart c d x e h = subst (λ (y : Text). bytes_eq y d ≡ false) (sym ((bytes_eq-Decides x c).0 h)) e
-
-or_left : (a b : Bool) → a || b ≡ false → a ≡ false
-or_left true b e = e
-or_left false b e = refl
-
-or_right : (a b : Bool) → a || b ≡ false → b ≡ false
-or_right true b e = absurd cc
-or_right false b e = e
 
 signs_apart : (c d : Text) → bytes_eq c d ≡ false → (k : LexKind) → is_sign c k ≡ true → is_sign d k ≡ false
 signs_apart c d e (token.Sign x) h = apart c d x e h

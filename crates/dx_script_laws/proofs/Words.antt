@@ -1,5 +1,5 @@
 -- The laws of items that begin with a name: the words of the sequencer, which are names elsewhere, and statements.
-use Rattle.std.proofs.Common.{◌≡◌, ℕ, Bool, true, false, cond, List, [], ◌∷◌, ◌++◌, ◌⊎◌, inl, inr, Option, Some, None, refl, sym, ap, subst, ◌∙◌}
+use Rattle.std.proofs.Common.{◌≡◌, Bool, true, false, cond, List, ◌⊎◌, inl, inr, Option, Some, None, refl, sym, ap, subst, ◌∙◌}
 use Rattle.std.specs.Prelude.{codes, is_some}
 use Rattle.std.specs.Str.{bytes_eq}
 use Rattle.std.proofs.lemmas.Slice.Eq.{bytes_eq-Decides}
@@ -15,7 +15,7 @@ use Rattle.dx_grammar.proofs.Words.{same_refl, same_trans, same_then}
 use Rattle.dx_ast.specs.declared.sequencing.Word.{Word}
 use Rattle.dx_ast.specs.declared.statements.Stmt.{Stmt}
 use Rattle.dx_ast.specs.declared.statements.Stmt.TheVariants as stmt
-use Rattle.dx_ast.specs.Classes.{Text, is_reserved, is_key, name_text, name_in, name_of, key_of, place_if, at, spelled, word_named, switch_named, word_of, switch_of, state_of}
+use Rattle.dx_ast.specs.Classes.{Text, is_reserved, is_key, name_in, name_of, key_of, place_if, at, spelled, word_named, switch_named, word_of, switch_of, state_of}
 use Rattle.dx_ast.specs.Grammar as grammar
 use Rattle.dx_ast.specs.Grammar.{Rule}
 use Rattle.dx_script_grammar.specs.Reading as reading

@@ -1,4 +1,4 @@
-pub mod Grammar
-pub mod Loop
+pub mod Ending
 pub mod Outcomes
 pub mod Playing
+pub mod Reading

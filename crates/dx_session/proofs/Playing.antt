@@ -3,7 +3,7 @@ use Rattle.std.proofs.Common.{◌≡◌, ℕ, suc, ◌+◌, ◌<◌, List, [], �
 use Rattle.std.proofs.Math.Seq.{drop-cons}
 use Rattle.dx_io.specs.Devices.{Grows, GrowsInto, with_more}
 use Rattle.dx_io.proofs.Growing.{with_more-nil, with_more-with_more}
-use Rattle.dx_session.specs.declared.script.Item.{Item}
+use Rattle.dx_session.specs.declared.items.Item.{Item}
 use Rattle.dx_session.specs.Printing.{Assigned, unbound, item_text, after, printed}
 
 -- the items before place i printed what was told since, and the others print the rest

@@ -1,10 +1,7 @@
+pub mod Built
 pub mod Computed
 pub mod Ends
-pub mod Fails
 pub mod Lines
 pub mod Outcome
-pub mod Position
 pub mod Printing
-pub mod Reading
-pub mod Script
 pub mod Values

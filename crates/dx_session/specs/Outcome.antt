@@ -6,10 +6,13 @@ use Rattle.std.specs.Bool.{MatchBool}
 use Rattle.std.specs.declared.alloc.Global.{Global}
 use Rattle.dx_session.specs.declared.end.End.{End}
 use Rattle.dx_io.specs.Devices.{FileMap, Grows, GrowsInto}
-use Rattle.dx_session.specs.declared.script.Item.{Item}
+use Rattle.dx_include.specs.declared.fail.LoadFail.{LoadFail}
+use Rattle.dx_include.specs.declared.loaded.Loaded.{Loaded}
+use Rattle.dx_include.specs.Loading.{Loading, IsLoading}
+use Rattle.dx_session.specs.declared.items.Item.{Item}
+use Rattle.dx_session.specs.Built.{items_of}
 use Rattle.dx_session.specs.Printing.{printed, unbound}
-use Rattle.dx_session.specs.Script.{IsScript}
-use Rattle.dx_session.specs.Lines.{usage_line, missing_line, not_built_line}
+use Rattle.dx_session.specs.Lines.{usage_line, refusal_line, not_built_line}
 
 -- the words as texts
 abbrev pub texts : List (String Global) → List (List ℕ)
@@ -25,19 +28,21 @@ line [] = None
 line (word ∷ []) = if is_session word then Some word else None
 line (word ∷ other ∷ words) = None
 
+-- everything that the outside can see of a session
 pub record Outcome : Type 0 where
   pub text : List ℕ
   pub reads : List (List ℕ)
   pub status : ℕ
 
--- What a session comes to. It reads the file that it names, and prints what its script says.
+-- What a session comes to. It loads the file that it names with its includes, and then performs the statements.
 pub data IsOutcome (words : List (List ℕ)) (files : FileMap) : Outcome → Type 0 where
   no_line : line words ≡ None → IsOutcome words files (record { text = usage_line; reads = []; status = 3 })
-  missing : (name : List ℕ) → line words ≡ Some name → files name ≡ None → IsOutcome words files (record { text = missing_line name; reads = name ∷ []; status = 2 })
-  not_built : (name bytes : List ℕ) → line words ≡ Some name → files name ≡ Some bytes → ((items : List Item) → IsScript bytes items → ⊥)
-      → IsOutcome words files (record { text = not_built_line name; reads = name ∷ []; status = 2 })
-  performed : (name bytes : List ℕ) (items : List Item) → line words ≡ Some name → files name ≡ Some bytes → IsScript bytes items
-      → IsOutcome words files (record { text = printed unbound items; reads = name ∷ []; status = 0 })
+  refused : (name : List ℕ) (loading : Loading) (why : LoadFail) → line words ≡ Some name → IsLoading files name loading → loading.ends ≡ Err why
+      → IsOutcome words files (record { text = refusal_line why; reads = loading.reads; status = 2 })
+  not_built : (name : List ℕ) (loading : Loading) (loaded : Loaded) → line words ≡ Some name → IsLoading files name loading → loading.ends ≡ Ok loaded → items_of loaded.statements ≡ None
+      → IsOutcome words files (record { text = not_built_line name; reads = loading.reads; status = 2 })
+  performed : (name : List ℕ) (loading : Loading) (loaded : Loaded) (items : List Item) → line words ≡ Some name → IsLoading files name loading → loading.ends ≡ Ok loaded → items_of loaded.statements ≡ Some items
+      → IsOutcome words files (record { text = printed unbound items; reads = loading.reads; status = 0 })
 
 -- the status of a session that was cut short by a device or by want of memory
 abbrev pub is_cut : ℕ → Bool

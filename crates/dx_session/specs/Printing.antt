@@ -1,9 +1,9 @@
--- What a small script prints.
+-- What the statements that are built print.
 use Rattle.std.specs.Prelude.{ℕ, List, [], ◌∷◌, ◌++◌, Option, Some, None, ℤ, codes}
 use Rattle.std.specs.Fmt.{signed_decimal}
 use Rattle.dx_base.specs.NameTable.{changed_at}
-use Rattle.dx_session.specs.declared.script.Item.{Item}
-use Rattle.dx_session.specs.declared.script.Item.TheVariants.{Empty, Assign, Print}
+use Rattle.dx_session.specs.declared.items.Item.{Item}
+use Rattle.dx_session.specs.declared.items.Item.TheVariants.{Assign, Print}
 
 -- the last value that each name was assigned, if any
 abbrev pub Assigned : Type 0
@@ -23,13 +23,11 @@ value_lines (Some value) = codes "array plain int rank 0 items 1\n" ++ signed_de
 
 -- what an item prints
 abbrev pub item_text : Assigned → Item → List ℕ
-item_text values Empty = []
 item_text values (Assign name value) = []
 item_text values (Print name) = value_lines (values name)
 
 -- the values behind an item
 abbrev pub after : Assigned → Item → Assigned
-after values Empty = values
 after values (Assign name value) = bind values name value
 after values (Print name) = values
 

@@ -2,12 +2,10 @@
 #![tactic(auto)]
 
 mod end;
-mod fail;
+mod items;
 mod lines;
 mod play;
 mod run;
-mod script;
-mod tokens;
 mod values;
 
 pub use run::{one_outcome, run_dxi};

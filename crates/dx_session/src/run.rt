@@ -1,14 +1,20 @@
-ghost use Rattle.std.specs.Prelude.{◌≡◌, ◌⊎◌, List, ℕ, Some, None, IfOk, IsErrOf, IsTrue, option_map};
-ghost use Rattle.dx_io.specs.Devices.{FileMap, Rose};
-ghost use Rattle.dx_session.specs.Computed.{outcome_of, of_text};
+ghost use Rattle.std.specs.Prelude.{◌≡◌, ◌⊎◌, List, [], ℕ, Some, None, IfOk, IsErrOf, IsTrue, option_map};
+ghost use Rattle.dx_io.specs.Devices.{FileMap, Rose, Writes};
+ghost use Rattle.dx_include.specs.Answers.{LoadCause, Loads};
+ghost use Rattle.dx_include.specs.Computed.{loading_of};
+ghost use Rattle.dx_session.specs.Built.{items_of};
+ghost use Rattle.dx_session.specs.Computed.{of_items, of_loading, outcome_of};
+ghost use Rattle.dx_session.specs.Ends.{PrintCause, end_of};
+ghost use Rattle.dx_session.specs.Lines.{refusal_line};
 ghost use Rattle.dx_session.specs.Outcome.{Outcome, IsOutcome, Ends, EndsAs, IsWhole, is_cut, texts, line};
 
 use crate::end::End;
-use crate::fail::ScriptFail;
+use crate::items::items;
 use crate::lines;
 use crate::play::play;
-use crate::script::parse;
+use dx_ast::Stmts;
 use dx_base::Bytes;
+use dx_include::{LoadFail, load};
 use dx_io::{Files, Sink, write_all};
 use std::alloc::Global;
 
@@ -95,43 +101,82 @@ fn session<F: Files, O: Sink>(
             write_all(out, USAGE)?;
             Ok(3)
         }
-        Some(name) => load(alloc, name, files, out),
+        Some(name) => load_and_play(alloc, name, files, out),
     }
 }
 
-// Reads the session of this name.
-fn load<F: Files, O: Sink>(
+// Loads the session of this name, and performs its statements.
+fn load_and_play<F: Files, O: Sink>(
     alloc: Global,
     name: &[u8],
     files: &mut F,
     out: &mut O,
 ) -> Result<u8, End>
     ensures session { (map : FileMap) → F.content files.old ≡ Some map →
-        Ends result (of_text name.now (map name.now))
+        Ends result (of_loading name.now (loading_of map name.now))
         (O.written out.old) (O.written out.new) (F.asked files.old) (F.asked files.new) }
     ensures own_status { IfOk result (λ status. (status ≡ 0) ⊎ (status ≡ 2)) }
     ensures read_fault { IsErrOf result End.ReadFault → Rose (F.faults files.old) (F.faults files.new) }
     ensures write_fault { IsErrOf result End.WriteFault → Rose (O.faults out.old) (O.faults out.new) }
 {
     let name = Bytes::copy_of(alloc, name)?;
-    match files.read(alloc, &name)? {
+    match load_session(alloc, files, &name) {
+        Ok(statements) => perform(alloc, &name, &statements, out),
+        Err(why) => match cut_by(&why) {
+            Some(end) => Err(end),
+            None => refuse(alloc, &why, out),
+        },
+    }
+}
+
+// What cut a loading short, if it wasn't refused.
+fn cut_by(why: &LoadFail) -> Option<End>
+    ensures { result ≡ end_of why.now }
+{
+    match why {
+        LoadFail::ReadFault => Some(End::ReadFault),
+        LoadFail::Memory => Some(End::Memory),
+        _ => None,
+    }
+}
+
+// Loads the session, as it is computed.
+fn load_session<F: Files>(alloc: Global, files: &mut F, name: &Bytes) -> Result<Stmts, LoadFail>
+    ensures loading { (map : FileMap) → F.content files.old ≡ Some map →
+        Loads (loading_of map name.now) result (F.asked files.old) (F.asked files.new) }
+    ensures cause { LoadCause (F.faults files.old) (F.faults files.new) result }
+{
+    load(alloc, files, name)
+}
+
+fn refuse<O: Sink>(alloc: Global, why: &LoadFail, out: &mut O) -> Result<u8, End>
+    ensures writes { Writes (O.written out.old) (O.written out.new) (refusal_line why.now) result }
+    ensures status { IfOk result (λ status. status ≡ 2) }
+    ensures own_status { IfOk result (λ status. (status ≡ 0) ⊎ (status ≡ 2)) }
+    ensures cause { PrintCause (O.faults out.old) (O.faults out.new) result }
+{
+    let line = lines::refusal(alloc, why)?;
+    write_all(out, &line)?;
+    Ok(2)
+}
+
+// Performs the statements, if all of them are built.
+fn perform<O: Sink>(alloc: Global, name: &Bytes, statements: &Stmts, out: &mut O) -> Result<u8, End>
+    ensures writes { Writes (O.written out.old) (O.written out.new) (of_items name.now [] (items_of statements.now)).text result }
+    ensures status { IfOk result (λ status. status ≡ (of_items name.now [] (items_of statements.now)).status) }
+    ensures own_status { IfOk result (λ status. (status ≡ 0) ⊎ (status ≡ 2)) }
+    ensures cause { PrintCause (O.faults out.old) (O.faults out.new) result }
+{
+    match items(alloc, statements.as_slice())? {
         None => {
-            let line = lines::missing(alloc, name.bytes())?;
+            let line = lines::not_built(alloc, name.bytes())?;
             write_all(out, &line)?;
             Ok(2)
         }
-        Some(text) => match parse(alloc, text.bytes()) {
-            Ok(items) => {
-                play(alloc, &items, out)?;
-                Ok(0)
-            }
-            Err(ScriptFail::NotBuilt) => {
-                let line = lines::not_built(alloc, name.bytes())?;
-                write_all(out, &line)?;
-                Ok(2)
-            }
-            Err(ScriptFail::Memory) => Err(End::Memory),
-        },
+        Some(items) => {
+            play(alloc, &items, out)?;
+            Ok(0)
+        }
     }
 }
 

@@ -1,24 +1,25 @@
 -- Classes of bytes, and what a text begins with.
+use Rattle.dx_base.specs.Tokens.Ascii as ascii
 use Rattle.std.specs.Prelude.{◌≡◌, ℕ, Bool, true, false, not, List, [], ◌∷◌, ◌==◌, ◌||◌, ◌&&◌}
 use Rattle.std.specs.Char.{is_ascii_digit, is_ascii_alphabetic}
 
 -- space, tab, carriage return and newline
 abbrev pub is_white : ℕ → Bool
-is_white b = b == 32 || b == 9 || b == 13 || b == 10
+is_white b = b == ascii.space || b == ascii.tab || b == ascii.carriage_return || b == ascii.newline
 
 abbrev pub is_digit : ℕ → Bool
 is_digit b = is_ascii_digit b
 
 abbrev pub is_zero : ℕ → Bool
-is_zero b = b == 48
+is_zero b = b == ascii.zero_digit
 
 -- '+' and '-'
 abbrev pub is_plus_or_minus : ℕ → Bool
-is_plus_or_minus b = b == 43 || b == 45
+is_plus_or_minus b = b == ascii.plus || b == ascii.minus
 
 -- a letter or '_'
 abbrev pub is_name_start : ℕ → Bool
-is_name_start b = is_ascii_alphabetic b || b == 95
+is_name_start b = is_ascii_alphabetic b || b == ascii.underscore
 
 -- a letter, a digit or '_'
 abbrev pub is_name_byte : ℕ → Bool
@@ -26,11 +27,11 @@ is_name_byte b = is_name_start b || is_digit b
 
 -- the byte behind a backslash in a string: a quote, a backslash or 'n'
 abbrev pub is_escape : ℕ → Bool
-is_escape b = b == 34 || b == 92 || b == 110
+is_escape b = b == ascii.quote || b == ascii.backslash || b == ascii.letter_n
 
 -- any byte but a newline
 abbrev pub is_in_line : ℕ → Bool
-is_in_line b = not (b == 10)
+is_in_line b = not (b == ascii.newline)
 
 -- ';' '=' '(' ')' ',' '[' ']' '{' '}' ':'
 abbrev pub is_sign : ℕ → Bool

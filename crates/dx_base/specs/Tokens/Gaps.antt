@@ -1,5 +1,6 @@
 -- What stands between tokens: white space, comments, and lines that begin with a dollar sign.
 use Rattle.std.specs.Prelude.{◌≡◌, ℕ, Bool, true, false, ◌==◌, ◌||◌, List, [], ◌∷◌, ◌++◌}
+use Rattle.dx_base.specs.Tokens.Ascii as ascii
 use Rattle.dx_base.specs.Tokens.Classes.{is_white, is_in_line, Each, Stops, begins}
 
 -- A byte of white space, a comment, or a line that is skipped. Of the last two the bytes are those behind the two
@@ -13,8 +14,8 @@ pub data Piece : Type 0 where
 abbrev pub gap_bytes : List Piece → List ℕ
 gap_bytes [] = []
 gap_bytes (White b ∷ more) = b ∷ gap_bytes more
-gap_bytes (Comment line ∷ more) = 47 ∷ 47 ∷ (line ++ gap_bytes more)
-gap_bytes (Skipped line ∷ more) = 36 ∷ (line ++ gap_bytes more)
+gap_bytes (Comment line ∷ more) = ascii.slash ∷ ascii.slash ∷ (line ++ gap_bytes more)
+gap_bytes (Skipped line ∷ more) = ascii.dollar ∷ (line ++ gap_bytes more)
 
 -- the rest of a line: up to a newline, or up to the end of the text
 pub record IsLineRest (line behind : List ℕ) : Type 0 where
@@ -24,11 +25,11 @@ pub record IsLineRest (line behind : List ℕ) : Type 0 where
 -- No piece begins here. In a fresh line only white space has come.
 abbrev pub EndsGap : Bool → List ℕ → Type 0
 EndsGap fresh [] = Unit {0}
-EndsGap fresh (b ∷ rest) = (is_white b ≡ false) × (b ≡ 47 → begins 47 rest ≡ false) × (fresh ≡ true → b ≡ 36 → ⊥)
+EndsGap fresh (b ∷ rest) = (is_white b ≡ false) × (b ≡ ascii.slash → begins ascii.slash rest ≡ false) × (fresh ≡ true → b ≡ ascii.dollar → ⊥)
 
 -- These pieces stand in front of the rest, and no further one.
 abbrev pub IsGap : Bool → List Piece → List ℕ → Type 0
 IsGap fresh [] rest = EndsGap fresh rest
-IsGap fresh (White b ∷ more) rest = (is_white b ≡ true) × IsGap (fresh || b == 10) more rest
+IsGap fresh (White b ∷ more) rest = (is_white b ≡ true) × IsGap (fresh || b == ascii.newline) more rest
 IsGap fresh (Comment line ∷ more) rest = IsLineRest line (gap_bytes more ++ rest) × IsGap fresh more rest
 IsGap fresh (Skipped line ∷ more) rest = (fresh ≡ true) × IsLineRest line (gap_bytes more ++ rest) × IsGap fresh more rest

@@ -1,5 +1,6 @@
 -- Places in a text: the first one, the one behind some bytes, and the error that stands at one.
 use Rattle.std.specs.Prelude.{◌≡◌, ℕ, ◌+◌, ◌<◌, ◌≤◌, ◌^◌, ◌==◌, List, fold, take, if◌then◌else◌}
+use Rattle.dx_base.specs.Tokens.Ascii as ascii
 use Rattle.dx_base.specs.declared.token.Place.{Place}
 use Rattle.dx_base.specs.declared.token.SyntaxKind.{SyntaxKind}
 use Rattle.dx_base.specs.declared.token.SyntaxError.{SyntaxError}
@@ -11,7 +12,7 @@ first = record { offset = 0; line = 1; column = 1 }
 -- the place behind a byte, which a newline puts into the next line
 abbrev pub behind : Place → ℕ → Place
 behind p b =
-    if b == 10 then record { offset = p.offset + 1; line = p.line + 1; column = 1 }
+    if b == ascii.newline then record { offset = p.offset + 1; line = p.line + 1; column = 1 }
     else record { offset = p.offset + 1; line = p.line; column = p.column + 1 }
 
 -- the place behind these bytes

@@ -1,7 +1,8 @@
 -- The token at a place of a text as a function, which contracts cite.
-use Rattle.std.specs.Prelude.{◌≡◌, ℕ, ◌+◌, ◌-◌, ◌*◌, Bool, true, false, not, ◌==◌, ◌||◌, ◌&&◌, nat_lt, nat_le, List, [], ◌∷◌, ◌++◌, length, take, drop, fold, Option, Some, None, Result, Ok, Err, ℤ, pos, neg_ℤ, if◌then◌else◌, codes}
+use Rattle.std.specs.Prelude.{◌≡◌, ℕ, ◌+◌, Bool, true, false, not, ◌==◌, ◌||◌, ◌&&◌, nat_lt, nat_le, List, [], ◌∷◌, ◌++◌, length, take, drop, Option, Some, None, Result, Ok, Err, ℤ, pos, neg_ℤ, if◌then◌else◌, codes}
 use Rattle.std.specs.List.{prefix_len}
 use Rattle.std.specs.Str.{bytes_eq}
+use Rattle.dx_base.specs.Tokens.Ascii as ascii
 use Rattle.dx_base.specs.declared.token.Place.{Place}
 use Rattle.dx_base.specs.declared.token.Lexeme.{Lexeme}
 use Rattle.dx_base.specs.declared.token.LexKind.{LexKind}
@@ -23,10 +24,10 @@ Front = Result (LexKind × ℕ) (SyntaxKind × ℕ)
 -- the line is passed over.
 unfoldable pub after_gap : Bool → Bool → Place → List ℕ → Place × List ℕ
 after_gap fresh passing at [] = (at, [])
-after_gap fresh true at (b ∷ rest) = if b == 10 then after_gap true false (behind at b) rest else after_gap fresh true (behind at b) rest
+after_gap fresh true at (b ∷ rest) = if b == ascii.newline then after_gap true false (behind at b) rest else after_gap fresh true (behind at b) rest
 after_gap fresh false at (b ∷ rest) =
-    if is_white b then after_gap (fresh || b == 10) false (behind at b) rest
-    else if fresh && b == 36 || b == 47 && begins 47 rest then after_gap fresh true (behind at b) rest
+    if is_white b then after_gap (fresh || b == ascii.newline) false (behind at b) rest
+    else if fresh && b == ascii.dollar || b == ascii.slash && begins ascii.slash rest then after_gap fresh true (behind at b) rest
     else (at, b ∷ rest)
 
 -- ---- names and frames
@@ -44,7 +45,7 @@ is_frame word =
 
 -- behind an '@', the word that names a frame
 abbrev pub frame_of : List ℕ → Front
-frame_of word = if is_frame word then Ok (kind.Frame (64 ∷ word), 1 + length word) else Err (fault.Syntax, 0)
+frame_of word = if is_frame word then Ok (kind.Frame (ascii.at_sign ∷ word), 1 + length word) else Err (fault.Syntax, 0)
 
 unfoldable pub frame_front : List ℕ → Front
 frame_front text = frame_of (take (prefix_len is_name_byte text) text)
@@ -62,8 +63,8 @@ int_value false digits = if nat_lt (value_of digits) int_limit then Some (pos (v
 -- how many bytes a point and zeros have behind the digits; none where two points follow
 unfoldable pub fraction_len : List ℕ → ℕ
 fraction_len text =
-    if begins_two 46 text then 0
-    else if begins 46 text then 1 + prefix_len is_zero (drop 1 text)
+    if begins_two ascii.point text then 0
+    else if begins ascii.point text then 1 + prefix_len is_zero (drop 1 text)
     else 0
 
 abbrev pub int_of : Option ℤ → ℕ → Front
@@ -91,9 +92,9 @@ number_front negative before text =
 unfoldable pub closed_at : ℕ → Bool → List ℕ → Option ℕ
 closed_at n escape [] = None
 closed_at n escape (b ∷ rest) =
-    if b == 10 then None
-    else if b == 34 && not escape then Some n
-    else closed_at (n + 1) (b == 92 && not escape) rest
+    if b == ascii.newline then None
+    else if b == ascii.quote && not escape then Some n
+    else closed_at (n + 1) (b == ascii.backslash && not escape) rest
 
 -- The bytes that the inside of a string stands for, or how many are before the backslash that is bad. Found is what
 -- the n bytes before stand for, and the flag says that a backslash followed these.
@@ -101,7 +102,7 @@ unfoldable pub text_from : List ℕ → ℕ → Bool → List ℕ → Result (Li
 text_from found n true [] = Err n
 text_from found n false [] = Ok found
 text_from found n true (b ∷ rest) = if is_escape b then text_from (found ++ unescaped b ∷ []) (n + 2) false rest else Err n
-text_from found n false (b ∷ rest) = if b == 92 then text_from found n true rest else text_from (found ++ b ∷ []) (n + 1) false rest
+text_from found n false (b ∷ rest) = if b == ascii.backslash then text_from found n true rest else text_from (found ++ b ∷ []) (n + 1) false rest
 
 abbrev pub string_of : ℕ → Result (List ℕ) ℕ → Front
 string_of n (Ok found) = Ok (kind.Text found, n + 2)
@@ -122,7 +123,7 @@ abbrev pub sign_len : List ℕ → ℕ
 sign_len [] = 0
 sign_len (b ∷ rest) =
     if is_sign b then 1
-    else if b == 45 && begins 62 rest || b == 46 && begins 46 rest then 2
+    else if b == ascii.minus && begins ascii.greater rest || b == ascii.point && begins ascii.point rest then 2
     else 0
 
 abbrev pub sign_of : ℕ → List ℕ → Front
@@ -137,10 +138,10 @@ front [] = Ok (kind.End, 0)
 front (b ∷ rest) =
     if is_name_start b then name_front (b ∷ rest)
     else if is_digit b then number_front false 0 (b ∷ rest)
-    else if is_plus_or_minus b && begins_digit rest then number_front (b == 45) 1 rest
-    else if b == 46 && begins_digit rest then Err (fault.FloatNumber, 0)
-    else if b == 34 then string_front rest
-    else if b == 64 then frame_front rest
+    else if is_plus_or_minus b && begins_digit rest then number_front (b == ascii.minus) 1 rest
+    else if b == ascii.point && begins_digit rest then Err (fault.FloatNumber, 0)
+    else if b == ascii.quote then string_front rest
+    else if b == ascii.at_sign then frame_front rest
     else sign_front (b ∷ rest)
 
 -- at its place

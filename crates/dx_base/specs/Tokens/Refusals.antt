@@ -1,5 +1,6 @@
 -- Which texts begin with no token, of which kind the fault is, and which bytes are before it.
-use Rattle.std.specs.Prelude.{◌≡◌, ◌⊎◌, ℕ, ◌<◌, Bool, true, false, ◌&&◌, List, [], ◌∷◌, ◌++◌, length}
+use Rattle.std.specs.Prelude.{◌≡◌, ℕ, ◌<◌, true, false, List, [], ◌∷◌, ◌++◌, length}
+use Rattle.dx_base.specs.Tokens.Ascii as ascii
 use Rattle.dx_base.specs.declared.token.SyntaxKind.{SyntaxKind}
 use Rattle.dx_base.specs.declared.token.SyntaxKind.TheVariants as fault
 use Rattle.dx_base.specs.Tokens.Classes.{is_digit, is_plus_or_minus, is_name_start, is_name_byte, is_escape, is_sign, Each, Stops, begins, begins_digit, begins_float}
@@ -18,7 +19,7 @@ pub record IsLongName (text : List ℕ) : Type 0 where
 pub record IsNoFrame (text : List ℕ) : Type 0 where
   pub word : List ℕ
   pub behind : List ℕ
-  pub parts : text ≡ 64 ∷ (word ++ behind)
+  pub parts : text ≡ ascii.at_sign ∷ (word ++ behind)
   pub bytes : Each is_name_byte word
   pub end : Stops is_name_byte behind
   pub none : IsFrame word → ⊥
@@ -26,8 +27,8 @@ pub record IsNoFrame (text : List ℕ) : Type 0 where
 -- a quote that no quote in its line closes
 pub record IsOpen (text : List ℕ) : Type 0 where
   pub inside : List ℕ
-  pub parts : text ≡ 34 ∷ inside
-  pub unclosed : (items : List Item) (behind : List ℕ) → AreItems items → inside ≡ item_bytes items ++ 34 ∷ behind → ⊥
+  pub parts : text ≡ ascii.quote ∷ inside
+  pub unclosed : (items : List Item) (behind : List ℕ) → AreItems items → inside ≡ item_bytes items ++ ascii.quote ∷ behind → ⊥
 
 -- A string that is closed, with a backslash before another byte than it may be before; the first such one counts.
 pub record HasBadBackslash (text before : List ℕ) : Type 0 where
@@ -35,11 +36,11 @@ pub record HasBadBackslash (text before : List ℕ) : Type 0 where
   pub bad : ℕ
   pub back : List Item
   pub behind : List ℕ
-  pub parts : text ≡ 34 ∷ (item_bytes (front ++ Escaped bad ∷ back) ++ 34 ∷ behind)
+  pub parts : text ≡ ascii.quote ∷ (item_bytes (front ++ Escaped bad ∷ back) ++ ascii.quote ∷ behind)
   pub lawful : AreItems (front ++ Escaped bad ∷ back)
   pub good : AreGood front
   pub wrong : is_escape bad ≡ false
-  pub place : before ≡ 34 ∷ item_bytes front
+  pub place : before ≡ ascii.quote ∷ item_bytes front
 
 -- a byte with which no token begins
 pub record IsStray (text : List ℕ) : Type 0 where
@@ -49,12 +50,12 @@ pub record IsStray (text : List ℕ) : Type 0 where
   pub no_name : is_name_start byte ≡ false
   pub no_number : is_digit byte ≡ false
   pub no_signed : is_plus_or_minus byte ≡ true → begins_digit behind ≡ false
-  pub no_point : byte ≡ 46 → begins_digit behind ≡ false
-  pub no_string : byte ≡ 34 → ⊥
-  pub no_frame : byte ≡ 64 → ⊥
+  pub no_point : byte ≡ ascii.point → begins_digit behind ≡ false
+  pub no_string : byte ≡ ascii.quote → ⊥
+  pub no_frame : byte ≡ ascii.at_sign → ⊥
   pub no_sign : is_sign byte ≡ false
-  pub no_arrow : byte ≡ 45 → begins 62 behind ≡ false
-  pub no_range : byte ≡ 46 → begins 46 behind ≡ false
+  pub no_arrow : byte ≡ ascii.minus → begins ascii.greater behind ≡ false
+  pub no_range : byte ≡ ascii.point → begins ascii.point behind ≡ false
 
 -- digits with a fraction that isn't zero, or with an exponent
 pub record IsFraction (text : List ℕ) : Type 0 where
@@ -67,7 +68,7 @@ pub record IsFraction (text : List ℕ) : Type 0 where
 -- a point with a digit behind it
 pub record IsPoint (text : List ℕ) : Type 0 where
   pub behind : List ℕ
-  pub parts : text ≡ 46 ∷ behind
+  pub parts : text ≡ ascii.point ∷ behind
   pub digit : begins_digit behind ≡ true
 
 -- a whole number that is no int

@@ -1,5 +1,6 @@
 -- Which bytes are which token. The bytes behind a token are named beside, since a token is as long as it can be.
-use Rattle.std.specs.Prelude.{◌≡◌, ◌⊎◌, ℕ, ◌*◌, ◌+◌, ◌-◌, ◌≤◌, ◌<◌, Bool, true, false, not, List, [], ◌∷◌, ◌++◌, length, map, flat_map, fold, replicate, Option, Some, None, ℤ, pos, negsuc, neg_ℤ, ◌≤ℤ◌, ◌==◌, ◌||◌, if◌then◌else◌, codes}
+use Rattle.std.specs.Prelude.{◌≡◌, ◌⊎◌, ℕ, ◌*◌, ◌+◌, ◌-◌, ◌≤◌, ◌<◌, Bool, true, false, not, List, [], ◌∷◌, ◌++◌, length, fold, replicate, Option, Some, None, ℤ, pos, negsuc, neg_ℤ, ◌≤ℤ◌, ◌==◌, ◌||◌, if◌then◌else◌, codes}
+use Rattle.dx_base.specs.Tokens.Ascii as ascii
 use Rattle.dx_base.specs.declared.token.LexKind.{LexKind}
 use Rattle.dx_base.specs.declared.token.LexKind.TheVariants as kind
 use Rattle.dx_base.specs.Tokens.Classes.{is_digit, is_zero, is_name_start, is_name_byte, is_escape, is_sign, is_in_line, Each, Stops, begins, begins_two, begins_float}
@@ -37,20 +38,20 @@ pub record Numeral : Type 0 where
 
 abbrev pub sign_bytes : Sign → List ℕ
 sign_bytes Unsigned = []
-sign_bytes Plus = 43 ∷ []
-sign_bytes Minus = 45 ∷ []
+sign_bytes Plus = ascii.plus ∷ []
+sign_bytes Minus = ascii.minus ∷ []
 
 abbrev pub fraction_bytes : Option ℕ → List ℕ
 fraction_bytes None = []
-fraction_bytes (Some zeros) = 46 ∷ replicate zeros 48
+fraction_bytes (Some zeros) = ascii.point ∷ replicate zeros ascii.zero_digit
 
 abbrev pub numeral_bytes : Numeral → List ℕ
 numeral_bytes n = sign_bytes n.sign ++ (n.digits ++ fraction_bytes n.fraction)
 
 -- No more digits follow, and no point does but before another one.
 abbrev pub EndsFraction : Option ℕ → List ℕ → Type 0
-EndsFraction None behind = Stops is_digit behind × (begins 46 behind ≡ true → begins_two 46 behind ≡ true)
-EndsFraction (Some zeros) behind = Stops is_zero behind × (zeros ≡ 0 → begins 46 behind ≡ false)
+EndsFraction None behind = Stops is_digit behind × (begins ascii.point behind ≡ true → begins_two ascii.point behind ≡ true)
+EndsFraction (Some zeros) behind = Stops is_zero behind × (zeros ≡ 0 → begins ascii.point behind ≡ false)
 
 -- the longest numeral in front of these bytes
 pub record IsNumeral (n : Numeral) (behind : List ℕ) : Type 0 where
@@ -59,7 +60,7 @@ pub record IsNumeral (n : Numeral) (behind : List ℕ) : Type 0 where
   pub end : EndsFraction n.fraction behind
 
 abbrev pub add_digit : ℕ → ℕ → ℕ
-add_digit n b = 10 * n + (b - 48)
+add_digit n b = 10 * n + (b - ascii.zero_digit)
 
 -- the number of the digits
 abbrev pub value_of : List ℕ → ℕ
@@ -85,11 +86,11 @@ pub data Item : Type 0 where
 abbrev pub item_bytes : List Item → List ℕ
 item_bytes [] = []
 item_bytes (Plain b ∷ more) = b ∷ item_bytes more
-item_bytes (Escaped b ∷ more) = 92 ∷ b ∷ item_bytes more
+item_bytes (Escaped b ∷ more) = ascii.backslash ∷ b ∷ item_bytes more
 
 -- a byte that stands for itself: no quote, no backslash and no newline
 abbrev pub is_plain : ℕ → Bool
-is_plain b = not (b == 34 || b == 92 || b == 10)
+is_plain b = not (b == ascii.quote || b == ascii.backslash || b == ascii.newline)
 
 abbrev pub AreItems : List Item → Type 0
 AreItems [] = Unit {0}
@@ -104,7 +105,7 @@ AreGood (Escaped b ∷ more) = (is_escape b ≡ true) × AreGood more
 
 -- a backslash and an 'n' stand for a newline
 abbrev pub unescaped : ℕ → ℕ
-unescaped b = if b == 110 then 10 else b
+unescaped b = if b == ascii.letter_n then ascii.newline else b
 
 -- the bytes that they stand for
 abbrev pub meaning : List Item → List ℕ
@@ -140,7 +141,7 @@ pub record IsInteger (v : ℤ) (bytes behind : List ℕ) : Type 0 where
 
 pub record IsString (text bytes : List ℕ) : Type 0 where
   pub items : List Item
-  pub spelled : bytes ≡ 34 ∷ (item_bytes items ++ 34 ∷ [])
+  pub spelled : bytes ≡ ascii.quote ∷ (item_bytes items ++ ascii.quote ∷ [])
   pub lawful : AreItems items
   pub good : AreGood items
   pub same : meaning items ≡ text
@@ -151,5 +152,5 @@ IsToken kind.End bytes behind = (bytes ≡ []) × (behind ≡ [])
 IsToken (kind.Name name) bytes behind = (bytes ≡ name) × IsName name behind
 IsToken (kind.Int v) bytes behind = IsInteger v bytes behind
 IsToken (kind.Text text) bytes behind = IsString text bytes
-IsToken (kind.Frame spelled) bytes behind = (bytes ≡ spelled) × (word : List ℕ) × (spelled ≡ 64 ∷ word) × IsFrameWord word behind
+IsToken (kind.Frame spelled) bytes behind = (bytes ≡ spelled) × (word : List ℕ) × (spelled ≡ ascii.at_sign ∷ word) × IsFrameWord word behind
 IsToken (kind.Sign sign) bytes behind = (bytes ≡ sign) × IsSign sign

@@ -1,5 +1,5 @@
 use Rattle.std.proofs.Common.{arith}
-use Rattle.dx_base.proofs.Reached.{reached_placed}
+use Rattle.dx_base.proofs.Tokens.Reached.{reached_placed}
 use Rattle.dx_lexer.proofs.token.read.Goals as goal
 
 pub split_at-requires : goal.split_at-requires

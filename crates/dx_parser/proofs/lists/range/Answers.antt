@@ -1,7 +1,6 @@
-use Rattle.std.proofs.Common.{◌≡◌, ◌++◌, ◌∷◌, [], ◌+ℤ◌, ℤ, false, rules, arith, sym, ap, ◌∙◌, append_assoc, append-nil, to_z, of_z, w32, w64, FitsSigned}
+use Rattle.std.proofs.Common.{◌≡◌, ◌++◌, ◌∷◌, [], ◌+ℤ◌, false, arith, sym, ap, ◌∙◌, to_z, of_z, w32, w64}
 use Rattle.std.proofs.lemmas.Int.{ints, to_z-of_z}
-use Rattle.dx_ast.specs.Values.{is_passed, range, range_count}
-use Rattle.dx_script_laws.proofs.Ranges.{range-passed}
+use Rattle.dx_ast.specs.Values.{is_passed}
 use Rattle.dx_parser.proofs.Ranging.{IsStep, is_step, moved_on, ended}
 use Rattle.dx_parser.proofs.lists.range.Goals as goal
 

@@ -2,7 +2,7 @@ use Rattle.std.proofs.Common.{subst}
 use Rattle.dx_ast.specs.Script.{Tokens, tokens_of}
 use Rattle.dx_script_grammar.specs.Reading.{script}
 use Rattle.dx_parser.specs.Answers.{Reads}
-use Rattle.dx_parser.proofs.Answered.{is_found, is_only, is_error, is_refused}
+use Rattle.dx_parser.proofs.Answered.{is_found, is_only, is_error, is_refused, is_lawful}
 use Rattle.dx_parser.proofs.script.parse.Goals as goal
 use Rattle.dx_parser.proofs.script.parse.Goals.{After-script}
 
@@ -20,3 +20,8 @@ returns-clause-refused c = is_refused _ _ _ (reads (goal.at.returns-clause-refus
 
 pub returns-clause-error : goal.returns-clause-error
 returns-clause-error c = is_error _ _ _ (reads (goal.at.returns-clause-error c).After-script)
+
+pub returns-clause-lawful : goal.returns-clause-lawful
+returns-clause-lawful c =
+    let s = (goal.at.returns-clause-lawful c).After-script in
+    is_lawful _ _ (is_found _ _ _ (reads s))

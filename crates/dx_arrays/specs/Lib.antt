@@ -1,0 +1,6 @@
+pub mod Classes
+pub mod Makes
+pub mod View
+pub mod Reach
+pub mod Corner
+pub mod Laws

@@ -1,0 +1,20 @@
+-- What a maker of arrays answers.
+use Rattle.std.specs.Prelude.{◌≡◌, not, if◌then◌else◌, Option, Some, None, Result, Ok, Err}
+use Rattle.dx_base.specs.Array.{ArrayData}
+use Rattle.dx_base.specs.ArrayLimits.{has_shape, has_room, has_lengths, is_in_type}
+use Rattle.dx_arrays.specs.declared.array.ArrayError.{ArrayError}
+use Rattle.dx_arrays.specs.declared.array.ArrayError.TheVariants.{BadShape, TooManyItems, ItemCount, RangeOfType}
+
+-- why there is no such array, if there is none: the first of these
+abbrev pub refusal : ArrayData → Option ArrayError
+refusal a =
+    if not (has_shape a) then Some BadShape
+    else if not (has_room a) then Some TooManyItems
+    else if not (has_lengths a) then Some ItemCount
+    else if is_in_type a then None
+    else Some RangeOfType
+
+-- the array itself, or the reason why it is refused
+abbrev pub Makes : ArrayData → Result ArrayData ArrayError → Type 0
+Makes a (Ok made) = (made ≡ a) × (refusal a ≡ None)
+Makes a (Err e) = refusal a ≡ Some e

@@ -1,0 +1,4 @@
+pub mod LawfulParts
+pub mod Loadings
+pub mod Splicing
+pub mod Texts

@@ -1,0 +1,4 @@
+pub mod Answers
+pub mod Computed
+pub mod Loading
+pub mod ReadFails

@@ -1,0 +1,5 @@
+pub mod PartsLaws
+pub mod PutLaws
+pub mod TakeLaws
+pub mod LawfulLaws
+pub mod FindLaws

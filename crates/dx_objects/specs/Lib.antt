@@ -1,0 +1,9 @@
+pub mod Nodes
+pub mod Shown
+pub mod PartsFall
+pub mod View
+pub mod Falls
+pub mod Kinds
+pub mod Makes
+pub mod With
+pub mod Values

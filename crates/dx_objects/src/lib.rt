@@ -1,0 +1,24 @@
+//! Objects: arrays and texts, fields, groups and series of them, each with attributes. Objects don't change and are
+//! shared.
+#![tactic(auto)]
+
+mod kinds;
+mod laws;
+mod lookup;
+mod makers;
+mod names;
+mod object;
+mod outs;
+mod sums;
+mod with;
+
+pub use dx_arrays::{Array, ArrayClass, ArrayError, ElemType, Shape, in_range};
+pub use kinds::Kind;
+pub use laws::component_law;
+pub use makers::ObjectError;
+pub use object::{Object, Part, Parts};
+pub use outs::{Outs, Value};
+pub use with::WithError;
+
+#[cfg(test)]
+mod tests;
