@@ -306,7 +306,7 @@ of_text d frames n (Some x) e =
     let p = length d.definitions in
     let g = goes_of (walk_of d x) e in
     let y = expr_at_top d.macros frames d.definitions n p (reader_at d.macros d.definitions p) _ _ (reader_fits d.macros frames d.definitions n p) x.value (first_target x.targets) (top_spot x.targets) (length x.targets) (walk_begins d) g.0 g.1
-      (begins_ready d.macros frames d.definitions n p p (walk_begins d) refl) in
+    (begins_ready d.macros frames d.definitions n p p (walk_begins d) refl) in
     ap (λ (z : Expanded). z.effects) y.1
 
 -- the law

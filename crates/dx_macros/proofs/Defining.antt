@@ -71,7 +71,7 @@ pub macros_changed : (old new : Text → Option MacroDef) (name : Text) (m : Mac
 macros_changed old new name m e h =
     let before : Macros = λ n. option_map plain_macro (old n) in
     let each : (n : Text) → option_map plain_macro (new n) ≡ with_macro (plain_macro m) before n =
-      λ n. ap (λ (t : Text → Option MacroDef). option_map plain_macro (t n)) h
-        ∙ through_by (old n) m (bytes_eq name n)
-        ∙ ap (λ (x : Text). if bytes_eq x n then Some (plain_macro m) else before n) (e ∙ sym (name_out m)) in
+    λ n. ap (λ (t : Text → Option MacroDef). option_map plain_macro (t n)) h
+    ∙ through_by (old n) m (bytes_eq name n)
+    ∙ ap (λ (x : Text). if bytes_eq x n then Some (plain_macro m) else before n) (e ∙ sym (name_out m)) in
     λ i n. each n i

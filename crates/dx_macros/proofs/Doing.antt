@@ -128,7 +128,7 @@ module _ (d : Dictionary) (old : Machine) where
       call_out targets c
       ∙ ap₂ (λ u v. job_first d (m.CallJob targets (MakeCall u (out-Call c).cache (plain_args v))) old) (sym n) (sym a)
       ∙ call_fault_step d (rest d old) (plain_frame old.frame) (walk_now old) targets name (out-Call c).cache (plain_args args) x
-        (ap (λ y. fault_of_call old.calls y old.frame.left (arg_names (plain_args args)) targets) (sym e) ∙ sym g ∙ h)
+      (ap (λ y. fault_of_call old.calls y old.frame.left (arg_names (plain_args args)) targets) (sym e) ∙ sym g ∙ h)
       ∙ ap (λ j. Faulty ((plain_frame old.frame).base ++ Nth name j ∷ []) x) (sym l)
 
   -- a call with no fault
@@ -171,16 +171,16 @@ module _ (d : Dictionary) (old : Machine) (name : Text) (mid : Machine) (p : IsC
   pub accepted_macro : (mid1 new : Machine) (x : plain.Macro) (s : Step) (args : Args) (j i : Job) → IsPushed mid j mid1 → IsPushed mid1 i new → plain_job j ≡ m.EnterJob x s → plain_job i ≡ m.ArgsJob args → accepted d (CallsMacro x) s name args old ≡ means d new
   accepted_macro mid1 new x s args j i q r e f =
       sym (pushed_twice d mid mid1 new j i q r
-        ∙ ap₂ (λ a b. m.do_job d a (m.do_job d b (rest d mid)) (plain_frame mid.frame) (walk_now mid)) f e
-        ∙ ap₂ (λ k g. m.do_job d (m.ArgsJob args) (m.do_job d (m.EnterJob x s) k) g (walk_now mid)) counted_rest p.frame
-        ∙ ap (m.do_job d (m.ArgsJob args) (m.do_job d (m.EnterJob x s) (rest d old)) (m.met (name ∷ []) (plain_frame old.frame))) counted_walk)
+      ∙ ap₂ (λ a b. m.do_job d a (m.do_job d b (rest d mid)) (plain_frame mid.frame) (walk_now mid)) f e
+      ∙ ap₂ (λ k g. m.do_job d (m.ArgsJob args) (m.do_job d (m.EnterJob x s) k) g (walk_now mid)) counted_rest p.frame
+      ∙ ap (m.do_job d (m.ArgsJob args) (m.do_job d (m.EnterJob x s) (rest d old)) (m.met (name ∷ []) (plain_frame old.frame))) counted_walk)
 
   pub accepted_plain : (new : Machine) (args : Args) (i : Job) → IsPushed mid i new → plain_job i ≡ m.ArgsJob args → m.do_job d (m.ArgsJob args) (rest d old) (m.met (name ∷ []) (plain_frame old.frame)) (record { calls = suc old.calls; read = old.read.items }) ≡ means d new
   accepted_plain new args i r f =
       sym (pushed d mid new i r
-        ∙ ap (λ a. m.do_job d a (rest d mid) (plain_frame mid.frame) (walk_now mid)) f
-        ∙ ap₂ (λ k g. m.do_job d (m.ArgsJob args) k g (walk_now mid)) counted_rest p.frame
-        ∙ ap (m.do_job d (m.ArgsJob args) (rest d old) (m.met (name ∷ []) (plain_frame old.frame))) counted_walk)
+      ∙ ap (λ a. m.do_job d a (rest d mid) (plain_frame mid.frame) (walk_now mid)) f
+      ∙ ap₂ (λ k g. m.do_job d (m.ArgsJob args) k g (walk_now mid)) counted_rest p.frame
+      ∙ ap (m.do_job d (m.ArgsJob args) (rest d old) (m.met (name ∷ []) (plain_frame old.frame))) counted_walk)
 
 pub ok_counted : {A : Type 0} (old new : Machine) (name : Text) (r : Result A Stop) (a : A) → r ≡ Ok a → CountsCall old name r new → IsCounted old name new
 ok_counted {A = A} old new name r a e p = let P : Result A Stop → Type 0 = λ r. CountsCall old name r new in subst P e p
@@ -196,8 +196,8 @@ defined d i old mid new read f n j a r p q e l g h =
     let w : List Bool → Walk = λ bs. record { calls = old.calls; read = bs } in
     ap (λ (x : TopText). m.do_job d (m.ExprJob (length x.targets) x.value) k (m.frame_at_top (first_target x.targets) i) (w (slice_set old.read.items i true))) h
     ∙ sym (entered d (record { jobs = old.jobs; frame = old.frame; calls = old.calls; read = read }) mid new f j p q
-      ∙ ap₂ (λ x y. m.do_job d x k y (w read.items)) e g
-      ∙ ap₂ (λ (c : ℕ) (bs : List Bool). m.do_job d (m.ExprJob c (plain_expr a.value)) k (m.frame_at_top (first_target a.targets) i) (w bs)) l r)
+    ∙ ap₂ (λ x y. m.do_job d x k y (w read.items)) e g
+    ∙ ap₂ (λ (c : ℕ) (bs : List Bool). m.do_job d (m.ExprJob c (plain_expr a.value)) k (m.frame_at_top (first_target a.targets) i) (w bs)) l r)
 
 -- a macro is walked in a frame of its own
 pub entered_macro : (d : Dictionary) (old mid new : Machine) (f : Frame) (j : Job) (x : MacroDef) (s : Step) (ps : List Param) (rs : List Text) (ss : List Stmt) (left : ℕ) →
@@ -209,9 +209,9 @@ entered_macro d old mid new f j x s ps rs ss left p q e a r b l g =
     ap (λ y. job_first d (m.EnterJob y s) old) (plain_macro_out x)
     ∙ enter_step d (rest d old) (plain_frame old.frame) (walk_now old) left (out-MacroDef x).name (out-MacroDef x).params (out-MacroDef x).results (plain_stmts (out-MacroDef x).body) s l
     ∙ sym (entered d old mid new f j p q
-      ∙ ap₂ (λ y z. m.do_job d y k z (walk_now old)) e g
-      ∙ ap (λ (us : List Param). m.do_job d (m.BodyJob rs (plain_stmts ss)) k (m.frame_in_macro (plain_frame old.frame) left (param_names us) s) (walk_now old)) a
-      ∙ ap₂ (λ (us : List Text) (vs : List Stmt). m.do_job d (m.BodyJob us (plain_stmts vs)) k (m.frame_in_macro (plain_frame old.frame) left (param_names (out-MacroDef x).params) s) (walk_now old)) r b)
+    ∙ ap₂ (λ y z. m.do_job d y k z (walk_now old)) e g
+    ∙ ap (λ (us : List Param). m.do_job d (m.BodyJob rs (plain_stmts ss)) k (m.frame_in_macro (plain_frame old.frame) left (param_names us) s) (walk_now old)) a
+    ∙ ap₂ (λ (us : List Text) (vs : List Stmt). m.do_job d (m.BodyJob us (plain_stmts vs)) k (m.frame_in_macro (plain_frame old.frame) left (param_names (out-MacroDef x).params) s) (walk_now old)) r b)
 
 -- a job popped
 pub popped : (d : Dictionary) (old : Machine) (jobs : Vec Job Global) (j : Job) → old.jobs.items ≡ jobs.items ++ j ∷ [] → means d old ≡ job_first d (plain_job j) (record { jobs = jobs; frame = old.frame; calls = old.calls; read = old.read })

@@ -52,7 +52,7 @@ module _ (d : Dictionary) (k : Rest) (f : Frame) (w : Walk) where
   args_step n e args =
       then_assoc (walk_expr (under d f) f.base (reads d f) f.before 0 e w) _ _
       ∙ then_same (walk_expr (under d f) f.base (reads d f) f.before 0 e w) _ _
-        (λ w1. ap (λ g. and_then (walk_args (under d f) f.base (reads d f) (f.before ++ calls_in e) args w1) (k g)) (sym (met_twice f (calls_in e) (calls_in_args args))))
+      (λ w1. ap (λ g. and_then (walk_args (under d f) f.base (reads d f) (f.before ++ calls_in e) args w1) (k g)) (sym (met_twice f (calls_in e) (calls_in_args args))))
 
   pub enter_step : (left : ℕ) (name : Text) (params : List Param) (results : List Text) (body : Stmts) (step : Step) → f.left ≡ suc left →
       do_job d (EnterJob (MakeMacro name params results body) step) k f w ≡ do_job d (BodyJob results body) (do_job d (LeaveJob f) k) (frame_in_macro f left (param_names params) step) w
@@ -95,7 +95,7 @@ module _ (d : Dictionary) (k : Rest) (f : Frame) (w : Walk) where
       rw (e, c)
       (then_assoc (walk_args (under d f) f.base (reads d f) (f.before ++ name ∷ []) args w1) _ _
       ∙ then_same (walk_args (under d f) f.base (reads d f) (f.before ++ name ∷ []) args w1) _ _
-        (λ w2. ap (λ g. and_then (walk_macro d.macros (top_reader d f) f.left m (f.base ++ next_step name f.before ∷ []) w2) (k g)) (sym (met_twice f (name ∷ []) (calls_in_args args)))))
+      (λ w2. ap (λ g. and_then (walk_macro d.macros (top_reader d f) f.left m (f.base ++ next_step name f.before ∷ []) w2) (k g)) (sym (met_twice f (name ∷ []) (calls_in_args args)))))
 
   pub call_function_step : (targets : ℕ) (name : Text) (cache : ℕ) (args : Args) (h : Function) →
       fault_of_call w.calls (callee d.macros name) f.left (arg_names args) targets ≡ None →
@@ -107,7 +107,7 @@ module _ (d : Dictionary) (k : Rest) (f : Frame) (w : Walk) where
       rw (e, c)
       (then_assoc (walk_args (under d f) f.base (reads d f) (f.before ++ name ∷ []) args w1) _ _
       ∙ then_same (walk_args (under d f) f.base (reads d f) (f.before ++ name ∷ []) args w1) _ _
-        (λ w2. ap (λ g. k g w2) (sym (met_twice f (name ∷ []) (calls_in_args args)))))
+      (λ w2. ap (λ g. k g w2) (sym (met_twice f (name ∷ []) (calls_in_args args)))))
 
 -- Reading a name.
 

@@ -35,7 +35,12 @@ fn run<'a>(alloc: Global, d: &'a Dictionary, m: Machine<'a>) -> Result<(), Stop<
     }
 }
 
-fn begin<'a>(alloc: Global, d: &'a Dictionary, frame: Frame<'a>, job: Job<'a>) -> Result<Machine<'a>, AllocError>
+fn begin<'a>(
+    alloc: Global,
+    d: &'a Dictionary,
+    frame: Frame<'a>,
+    job: Job<'a>,
+) -> Result<Machine<'a>, AllocError>
     ensures fit { IfOk result (λ m. IsFit (dictionary_of d.now) m) }
     ensures means { IfOk result (λ m. means (dictionary_of d.now) m ≡ do_job (dictionary_of d.now) (plain_job job.entry) at_end (plain_frame frame.entry) (walk_begins (dictionary_of d.now))) }
 {

@@ -69,15 +69,16 @@ fn last_named(definitions: &[Assign], place: usize, name: &[u8]) -> Option<usize
 fn begin_of_search(place: usize, last: usize) -> usize
     ensures { result ≡ min place (last + 1) }
 {
-    if last < place {
-        last + 1
-    } else {
-        place
-    }
+    if last < place { last + 1 } else { place }
 }
 
 /// A name is defined at a place behind all definitions.
-fn note(alloc: Global, last: &mut IndexMap<Vec<u8>, usize>, name: &[u8], place: usize) -> Result<(), AllocError>
+fn note(
+    alloc: Global,
+    last: &mut IndexMap<Vec<u8>, usize>,
+    name: &[u8],
+    place: usize,
+) -> Result<(), AllocError>
     ensures ok { OnOk result (under_name last.new ≡ changed_at (under_name last.old) name.now (Some place)) }
     ensures keeps { (defs : List TopText) → length defs ≤ place → IsLast last.old defs → IsLast last.new defs }
 {
@@ -86,7 +87,12 @@ fn note(alloc: Global, last: &mut IndexMap<Vec<u8>, usize>, name: &[u8], place: 
     Ok(())
 }
 
-fn note_all(alloc: Global, last: &mut IndexMap<Vec<u8>, usize>, names: &[Bytes], place: usize) -> Result<(), AllocError>
+fn note_all(
+    alloc: Global,
+    last: &mut IndexMap<Vec<u8>, usize>,
+    names: &[Bytes],
+    place: usize,
+) -> Result<(), AllocError>
     ensures ok { OnOk result (under_name last.new ≡ noted (under_name last.old) names.now place) }
     ensures keeps { (defs : List TopText) → length defs ≤ place → IsLast last.old defs → IsLast last.new defs }
 {

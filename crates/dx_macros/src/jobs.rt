@@ -35,7 +35,12 @@ fn do_args<'a>(d: &'a Dictionary, m: &mut Machine<'a>, args: &'a [Arg]) -> Resul
     }
 }
 
-fn do_body<'a>(d: &'a Dictionary, m: &mut Machine<'a>, results: &'a [Bytes], stmts: &'a [Stmt]) -> Result<(), Stop<'a>>
+fn do_body<'a>(
+    d: &'a Dictionary,
+    m: &mut Machine<'a>,
+    results: &'a [Bytes],
+    stmts: &'a [Stmt],
+) -> Result<(), Stop<'a>>
     ensures continues { Continues (job_first (dictionary_of d.now) (BodyJob results.now (plain_stmts stmts.now)) m.old) result (means (dictionary_of d.now) m.new) }
     ensures falls { Falls (dictionary_of d.now) (body_weight results.now (plain_stmts stmts.now)) m.old result m.new }
 {
@@ -74,7 +79,12 @@ fn put_params<'a>(alloc: Global, params: &'a [Param]) -> Result<Names<'a>, Alloc
     Ok(names)
 }
 
-fn do_own<'a>(alloc: Global, d: &'a Dictionary, m: &mut Machine<'a>, names: &'a [Bytes]) -> Result<(), Stop<'a>>
+fn do_own<'a>(
+    alloc: Global,
+    d: &'a Dictionary,
+    m: &mut Machine<'a>,
+    names: &'a [Bytes],
+) -> Result<(), Stop<'a>>
     ensures continues { Continues (job_first (dictionary_of d.now) (OwnJob names.now) m.old) result (means (dictionary_of d.now) m.new) }
     ensures falls { Falls (dictionary_of d.now) (1) m.old result m.new }
 {
@@ -83,7 +93,11 @@ fn do_own<'a>(alloc: Global, d: &'a Dictionary, m: &mut Machine<'a>, names: &'a 
 }
 
 /// The frame of a text of the top level at a place.
-pub fn top_frame<'a>(alloc: Global, targets: &'a [Bytes], place: usize) -> Result<Frame<'a>, AllocError>
+pub fn top_frame<'a>(
+    alloc: Global,
+    targets: &'a [Bytes],
+    place: usize,
+) -> Result<Frame<'a>, AllocError>
     ensures { IfOk result (λ f. plain_frame f ≡ frame_at_top (first_target targets.now) place) }
 {
     let mut base = Vec::new(alloc);
@@ -100,7 +114,12 @@ pub fn top_frame<'a>(alloc: Global, targets: &'a [Bytes], place: usize) -> Resul
 }
 
 /// The frame of a macro's body, where a macro step is left.
-fn macro_frame<'a>(alloc: Global, f: &Frame<'a>, params: &'a [Param], step: Step<'a>) -> Result<Frame<'a>, AllocError>
+fn macro_frame<'a>(
+    alloc: Global,
+    f: &Frame<'a>,
+    params: &'a [Param],
+    step: Step<'a>,
+) -> Result<Frame<'a>, AllocError>
     requires { 0 < f.now.left }
     ensures { IfOk result (λ g. plain_frame g ≡ frame_in_macro (plain_frame f.now) (f.now.left - 1) (param_names params.now) (plain_step step.entry)) }
 {
@@ -117,7 +136,12 @@ fn macro_frame<'a>(alloc: Global, f: &Frame<'a>, params: &'a [Param], step: Step
 }
 
 /// A definition is walked at its first reading.
-fn define<'a>(alloc: Global, d: &'a Dictionary, m: &mut Machine<'a>, i: usize) -> Result<(), Stop<'a>>
+fn define<'a>(
+    alloc: Global,
+    d: &'a Dictionary,
+    m: &mut Machine<'a>,
+    i: usize,
+) -> Result<(), Stop<'a>>
     requires { i < length (dictionary_of d.now).definitions }
     ensures continues { Continues (definition_first (dictionary_of d.now) i m.old) result (means (dictionary_of d.now) m.new) }
     ensures falls { slice_index_or m.old.read.items i false ≡ false → Falls (dictionary_of d.now) 1 m.old result m.new }
@@ -129,7 +153,12 @@ fn define<'a>(alloc: Global, d: &'a Dictionary, m: &mut Machine<'a>, i: usize) -
     push(m, Job::Expr(a.targets.len(), &a.value))
 }
 
-fn read_name<'a>(alloc: Global, d: &'a Dictionary, m: &mut Machine<'a>, name: &[u8]) -> Result<(), Stop<'a>>
+fn read_name<'a>(
+    alloc: Global,
+    d: &'a Dictionary,
+    m: &mut Machine<'a>,
+    name: &[u8],
+) -> Result<(), Stop<'a>>
     ensures continues { Continues (name_first (dictionary_of d.now) name.now m.old) result (means (dictionary_of d.now) m.new) }
     ensures falls { Falls (dictionary_of d.now) 1 m.old result m.new }
 {
@@ -148,7 +177,12 @@ fn read_name<'a>(alloc: Global, d: &'a Dictionary, m: &mut Machine<'a>, name: &[
     }
 }
 
-fn do_names<'a>(alloc: Global, d: &'a Dictionary, m: &mut Machine<'a>, names: &'a [Bytes]) -> Result<(), Stop<'a>>
+fn do_names<'a>(
+    alloc: Global,
+    d: &'a Dictionary,
+    m: &mut Machine<'a>,
+    names: &'a [Bytes],
+) -> Result<(), Stop<'a>>
     ensures continues { Continues (job_first (dictionary_of d.now) (NamesJob names.now) m.old) result (means (dictionary_of d.now) m.new) }
     ensures falls { Falls (dictionary_of d.now) (suc (length names.now)) m.old result m.new }
 {
@@ -161,7 +195,13 @@ fn do_names<'a>(alloc: Global, d: &'a Dictionary, m: &mut Machine<'a>, names: &'
     }
 }
 
-fn do_enter<'a>(alloc: Global, d: &'a Dictionary, m: &mut Machine<'a>, x: &'a MacroDef, step: Step<'a>) -> Result<(), Stop<'a>>
+fn do_enter<'a>(
+    alloc: Global,
+    d: &'a Dictionary,
+    m: &mut Machine<'a>,
+    x: &'a MacroDef,
+    step: Step<'a>,
+) -> Result<(), Stop<'a>>
     ensures continues { Continues (job_first (dictionary_of d.now) (EnterJob (plain_macro x.now) (plain_step step.entry)) m.old) result (means (dictionary_of d.now) m.new) }
     ensures falls { Falls (dictionary_of d.now) (macro_weight (plain_macro x.now)) m.old result m.new }
 {
@@ -174,7 +214,14 @@ fn do_enter<'a>(alloc: Global, d: &'a Dictionary, m: &mut Machine<'a>, x: &'a Ma
 }
 
 /// The call's arguments and its macro's body are to come.
-fn accept<'a>(alloc: Global, d: &'a Dictionary, m: &mut Machine<'a>, callee: Callee<'a>, step: Step<'a>, c: &'a Call) -> Result<(), Stop<'a>>
+fn accept<'a>(
+    alloc: Global,
+    d: &'a Dictionary,
+    m: &mut Machine<'a>,
+    callee: Callee<'a>,
+    step: Step<'a>,
+    c: &'a Call,
+) -> Result<(), Stop<'a>>
     requires { m.old.calls < 65536 }
     ensures continues { Continues (accepted (dictionary_of d.now) (plain_callee callee.entry) (plain_step step.entry) (out-Call c.now).name (plain_args (out-Call c.now).args) m.old) result (means (dictionary_of d.now) m.new) }
     ensures pays { Pays (dictionary_of d.now) (args_weight (plain_args (out-Call c.now).args) + callee_weight (plain_callee callee.entry)) m.old result m.new }
@@ -206,7 +253,13 @@ fn faulty<'a>(alloc: Global, base: &[Step<'a>], step: Step<'a>, fault: StaticFau
 }
 
 /// A call is checked at its step, the k-th call of its name in the text.
-fn do_call<'a>(alloc: Global, d: &'a Dictionary, m: &mut Machine<'a>, targets: usize, c: &'a Call) -> Result<(), Stop<'a>>
+fn do_call<'a>(
+    alloc: Global,
+    d: &'a Dictionary,
+    m: &mut Machine<'a>,
+    targets: usize,
+    c: &'a Call,
+) -> Result<(), Stop<'a>>
     ensures continues { Continues (job_first (dictionary_of d.now) (CallJob targets (plain_call c.now)) m.old) result (means (dictionary_of d.now) m.new) }
     ensures falls { Falls (dictionary_of d.now) (call_weight (plain_call c.now)) m.old result m.new }
 {
@@ -221,7 +274,13 @@ fn do_call<'a>(alloc: Global, d: &'a Dictionary, m: &mut Machine<'a>, targets: u
     }
 }
 
-fn do_expr<'a>(alloc: Global, d: &'a Dictionary, m: &mut Machine<'a>, targets: usize, e: &'a Expr) -> Result<(), Stop<'a>>
+fn do_expr<'a>(
+    alloc: Global,
+    d: &'a Dictionary,
+    m: &mut Machine<'a>,
+    targets: usize,
+    e: &'a Expr,
+) -> Result<(), Stop<'a>>
     ensures continues { Continues (job_first (dictionary_of d.now) (ExprJob targets (plain_expr e.now)) m.old) result (means (dictionary_of d.now) m.new) }
     ensures falls { Falls (dictionary_of d.now) (expr_weight (plain_expr e.now)) m.old result m.new }
 {
@@ -234,7 +293,12 @@ fn do_expr<'a>(alloc: Global, d: &'a Dictionary, m: &mut Machine<'a>, targets: u
 }
 
 /// Does a job.
-pub fn do_job<'a>(alloc: Global, d: &'a Dictionary, m: &mut Machine<'a>, job: Job<'a>) -> Result<(), Stop<'a>>
+pub fn do_job<'a>(
+    alloc: Global,
+    d: &'a Dictionary,
+    m: &mut Machine<'a>,
+    job: Job<'a>,
+) -> Result<(), Stop<'a>>
     ensures continues { Continues (job_first (dictionary_of d.now) (plain_job job.entry) m.old) result (means (dictionary_of d.now) m.new) }
     ensures falls { Falls (dictionary_of d.now) (job_weight (plain_job job.entry)) m.old result m.new }
 {

@@ -14,5 +14,8 @@ mod signature;
 mod site;
 
 pub use budget::no_budget_runs_out;
+pub use callee::{Callee, called};
 pub use dictionary::Dictionary;
 pub use fault::{CheckFail, StaticFault};
+pub use names::Names;
+pub use site::{Step, site_text};

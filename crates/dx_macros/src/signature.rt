@@ -74,7 +74,13 @@ fn is_beyond(n: usize, a: usize, b: usize) -> bool
     n > a && n - a > b
 }
 
-fn fault_of_signature(named: Vec<&[u8]>, more: usize, results: usize, args: &[Arg], targets: usize) -> Option<StaticFault>
+fn fault_of_signature(
+    named: Vec<&[u8]>,
+    more: usize,
+    results: usize,
+    args: &[Arg],
+    targets: usize,
+) -> Option<StaticFault>
     ensures { result ≡ fault_of_signature (record { named = texts named.entry.items; more = more; results = results }) (arg_names (plain_args args.now)) targets }
 {
     if is_beyond(args.len(), named.len(), more) {
@@ -89,7 +95,13 @@ fn fault_of_signature(named: Vec<&[u8]>, more: usize, results: usize, args: &[Ar
 }
 
 /// The first fault of a call of a macro, where this many macro steps are left.
-fn fault_of_macro<'a>(alloc: Global, m: &'a MacroDef, left: u8, args: &[Arg], targets: usize) -> Result<Option<StaticFault>, AllocError>
+fn fault_of_macro<'a>(
+    alloc: Global,
+    m: &'a MacroDef,
+    left: u8,
+    args: &[Arg],
+    targets: usize,
+) -> Result<Option<StaticFault>, AllocError>
     ensures { IfOk result (λ f. f ≡ fault_of_callee (CallsMacro (plain_macro m.now)) left (arg_names (plain_args args.now)) targets) }
 {
     let named = names_of_params(alloc, m.params.as_slice())?;

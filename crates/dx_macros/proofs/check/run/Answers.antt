@@ -12,7 +12,8 @@ loop-m-preserved c =
     let d = dictionary_of c.args.d.now in
     record {
       same = sym (popped d c.loop-m.m c.pop.new.self c.in-Some.job c.in-Some.ensures.items ∙ c.in-Ok.ensures.continues) ∙ c.loop-m.invariant.same;
-      fit = (c.in-Ok.ensures.falls (bound_of c.args.d.now) (bounded c.args.d.now) c.loop-m.invariant.fit).1 }
+      fit = (c.in-Ok.ensures.falls (bound_of c.args.d.now) (bounded c.args.d.now) c.loop-m.invariant.fit).1;
+    }
 
 pub loop-m-smaller : goal.loop-m-smaller
 loop-m-smaller c =

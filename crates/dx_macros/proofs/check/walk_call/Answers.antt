@@ -9,5 +9,5 @@ pub returns : goal.returns
 returns c =
     let d = dictionary_of c.args.d.now in
     finds c.run.result _ _
-      (c.in_ok-m.ensures.means ∙ started d c.in_ok-frame.frame c.len-place.result 0 [] (of_call (plain_call c.args.c.now)) c.in_ok-frame.ensures c.len-place.ensures refl refl)
-      c.run.ensures
+    (c.in_ok-m.ensures.means ∙ started d c.in_ok-frame.frame c.len-place.result 0 [] (of_call (plain_call c.args.c.now)) c.in_ok-frame.ensures c.len-place.ensures refl refl)
+    c.run.ensures

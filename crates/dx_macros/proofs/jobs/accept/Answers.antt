@@ -21,10 +21,10 @@ returns-in_ok-push-in-Macro-clause-continues c =
     let p = ok_counted old c.counted.new.m name c.counted.result c.in_ok-counted.field-0 c.in_ok-counted.was c.counted.ensures in
     let q = ok_pushed c.counted.new.m c.push.new.m _ c.push.result c.in_ok-push-in-Macro.field-0 c.in_ok-push-in-Macro.was c.push.ensures in
     by_push c.push.new.m c.push-in-Macro.new.m _ c.push-in-Macro.result _ _ c.push-in-Macro.ensures
-      (λ r.
-        sym (ap₂ (λ u v. accepted d (plain_callee c.args.callee) step u (plain_args v) old) c.bytes.ensures c.as_slice.ensures)
-        ∙ ap (λ x. accepted d (plain_callee x) step name (plain_args c.as_slice.result.now) old) c.in-Macro.is
-        ∙ accepted_macro d old name c.counted.new.m p c.push.new.m c.push-in-Macro.new.m (plain_macro c.in-Macro.x.now) step (plain_args c.as_slice.result.now) _ _ q r refl refl)
+    (λ r.
+    sym (ap₂ (λ u v. accepted d (plain_callee c.args.callee) step u (plain_args v) old) c.bytes.ensures c.as_slice.ensures)
+    ∙ ap (λ x. accepted d (plain_callee x) step name (plain_args c.as_slice.result.now) old) c.in-Macro.is
+    ∙ accepted_macro d old name c.counted.new.m p c.push.new.m c.push-in-Macro.new.m (plain_macro c.in-Macro.x.now) step (plain_args c.as_slice.result.now) _ _ q r refl refl)
 
 pub returns-in-Function-clause-continues : goal.returns-in-Function-clause-continues
 returns-in-Function-clause-continues c =
@@ -34,10 +34,10 @@ returns-in-Function-clause-continues c =
     let step = plain_step c.args.step in
     let p = ok_counted old c.counted.new.m name c.counted.result c.in_ok-counted.field-0 c.in_ok-counted.was c.counted.ensures in
     by_push c.counted.new.m c.push-in-Function.new.m _ c.push-in-Function.result _ _ c.push-in-Function.ensures
-      (λ r.
-        sym (ap₂ (λ u v. accepted d (plain_callee c.args.callee) step u (plain_args v) old) c.bytes.ensures c.as_slice-in-Function.ensures)
-        ∙ ap (λ x. accepted d (plain_callee x) step name (plain_args c.as_slice-in-Function.result.now) old) c.in-Function.is
-        ∙ accepted_plain d old name c.counted.new.m p c.push-in-Function.new.m (plain_args c.as_slice-in-Function.result.now) _ r refl)
+    (λ r.
+    sym (ap₂ (λ u v. accepted d (plain_callee c.args.callee) step u (plain_args v) old) c.bytes.ensures c.as_slice-in-Function.ensures)
+    ∙ ap (λ x. accepted d (plain_callee x) step name (plain_args c.as_slice-in-Function.result.now) old) c.in-Function.is
+    ∙ accepted_plain d old name c.counted.new.m p c.push-in-Function.new.m (plain_args c.as_slice-in-Function.result.now) _ r refl)
 
 pub returns-in-Unknown-clause-continues : goal.returns-in-Unknown-clause-continues
 returns-in-Unknown-clause-continues c =
@@ -47,10 +47,10 @@ returns-in-Unknown-clause-continues c =
     let step = plain_step c.args.step in
     let p = ok_counted old c.counted.new.m name c.counted.result c.in_ok-counted.field-0 c.in_ok-counted.was c.counted.ensures in
     by_push c.counted.new.m c.push-in-Unknown.new.m _ c.push-in-Unknown.result _ _ c.push-in-Unknown.ensures
-      (λ r.
-        sym (ap₂ (λ u v. accepted d (plain_callee c.args.callee) step u (plain_args v) old) c.bytes.ensures c.as_slice-in-Unknown.ensures)
-        ∙ ap (λ x. accepted d (plain_callee x) step name (plain_args c.as_slice-in-Unknown.result.now) old) c.in-Unknown.is
-        ∙ accepted_plain d old name c.counted.new.m p c.push-in-Unknown.new.m (plain_args c.as_slice-in-Unknown.result.now) _ r refl)
+    (λ r.
+    sym (ap₂ (λ u v. accepted d (plain_callee c.args.callee) step u (plain_args v) old) c.bytes.ensures c.as_slice-in-Unknown.ensures)
+    ∙ ap (λ x. accepted d (plain_callee x) step name (plain_args c.as_slice-in-Unknown.result.now) old) c.in-Unknown.is
+    ∙ accepted_plain d old name c.counted.new.m p c.push-in-Unknown.new.m (plain_args c.as_slice-in-Unknown.result.now) _ r refl)
 
 pub returns-in_ok-push-in-Macro-clause-pays : goal.returns-in_ok-push-in-Macro-clause-pays
 returns-in_ok-push-in-Macro-clause-pays c =

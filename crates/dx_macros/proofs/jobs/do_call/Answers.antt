@@ -25,9 +25,9 @@ returns-in-Some-clause-continues c =
     let site = ap (λ (xs : List site.Step). xs ++ site.Nth name (c.count-k.result + 1) ∷ []) base in
     let told = subst (λ x. FaultIs x c.in-Some.fault c.faulty.result) site c.faulty.ensures in
     by_fault {A = Unit {0}} (Err c.faulty.result) c.faulty.result _ _ _ c.in-Some.fault refl
-      (call_faulty d old c.args.targets c.args.c.now name c.as_slice-args.result.now (plain_callee c.called-callee.result) (c.count-k.result + 1) c.in_ok-fault.field-0 c.in-Some.fault
-        c.bytes-name.ensures c.as_slice-args.ensures c.called-callee.ensures k c.in_ok-fault.ensures.fault c.in-Some.is)
-      told
+    (call_faulty d old c.args.targets c.args.c.now name c.as_slice-args.result.now (plain_callee c.called-callee.result) (c.count-k.result + 1) c.in_ok-fault.field-0 c.in-Some.fault
+    c.bytes-name.ensures c.as_slice-args.ensures c.called-callee.ensures k c.in_ok-fault.ensures.fault c.in-Some.is)
+    told
 
 pub returns-in-None-clause-continues : goal.returns-in-None-clause-continues
 returns-in-None-clause-continues c =
@@ -37,11 +37,11 @@ returns-in-None-clause-continues c =
     let kth : c.count-k.result + 1 ≡ suc c.count-k.result = omega arith in
     let k = kth ∙ ap suc c.count-k.ensures.times in
     by_call c.accept.result _ _ _
-      (call_accepted d old c.args.targets c.args.c.now name c.as_slice-args.result.now (plain_callee c.called-callee.result) (c.count-k.result + 1) c.in_ok-fault.field-0
-        c.bytes-name.ensures c.as_slice-args.ensures c.called-callee.ensures k c.in_ok-fault.ensures.fault c.in-None.is)
-      c.accept.ensures.continues
+    (call_accepted d old c.args.targets c.args.c.now name c.as_slice-args.result.now (plain_callee c.called-callee.result) (c.count-k.result + 1) c.in_ok-fault.field-0
+    c.bytes-name.ensures c.as_slice-args.ensures c.called-callee.ensures k c.in_ok-fault.ensures.fault c.in-None.is)
+    c.accept.ensures.continues
 
 pub returns-in-None-clause-falls : goal.returns-in-None-clause-falls
 returns-in-None-clause-falls c =
     call_falls (dictionary_of c.args.d.now) c.args.m.now c.accept.new.m c.bytes-name.result.now (plain_callee c.called-callee.result) (args_weight (plain_args (out-Call c.args.c.now).args)) _ c.accept.result
-      c.called-callee.ensures c.accept.ensures.pays (call_parts c.args.c.now)
+    c.called-callee.ensures c.accept.ensures.pays (call_parts c.args.c.now)

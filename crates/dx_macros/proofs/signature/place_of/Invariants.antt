@@ -5,4 +5,5 @@ use Rattle.dx_macros.proofs.signature.place_of.Given as goal
 abbrev pub invariant-loop-n : goal.invariant-loop-n
 invariant-loop-n l = record {
   counted : l.i ≡ l.n-index;
-  so_far : option_map (λ k. l.n-index + k) (place_of (map (λ n. n.now) (drop l.n-index l.names)) l.name) ≡ place_of (map (λ n. n.now) l.names) l.name }
+  so_far : option_map (λ k. l.n-index + k) (place_of (map (λ n. n.now) (drop l.n-index l.names)) l.name) ≡ place_of (map (λ n. n.now) l.names) l.name;
+}
