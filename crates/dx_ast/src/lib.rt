@@ -13,4 +13,4 @@ pub use constants::{Const, Ints, TextList};
 pub use expressions::{Arg, Args, Call, Expr};
 pub use sequencing::{FrameVar, Frames, Word};
 pub use statements::{Assign, MacroDef, Param, Params, Stmt, Stmts};
-pub use table::{function, more, named, param, results};
+pub use table::{function, more, named, param, params, results};

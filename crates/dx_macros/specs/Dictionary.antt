@@ -24,6 +24,13 @@ top_text (Calls c) = Some (of_call c)
 top_text (Sequences c) = Some (of_call c)
 top_text other = None
 
+-- an assignment, a call or a sequence call
+abbrev pub IsExecuted : Stmt → Type 0
+IsExecuted (Assigns targets e) = Unit {0}
+IsExecuted (Calls c) = Unit {0}
+IsExecuted (Sequences c) = Unit {0}
+IsExecuted other = ⊥
+
 -- each name has at most one macro
 abbrev pub Macros : Type 0
 Macros = Text → Option Macro
@@ -44,6 +51,9 @@ macro_name (MakeMacro name params results body) = name
 -- a macro replaces an earlier one of its name
 abbrev pub with_macro : Macro → Macros → Macros
 with_macro m macros = changed_at macros (macro_name m) (Some m)
+
+abbrev pub defining : Macro → Dictionary → Dictionary
+defining m d = record { macros = with_macro m d.macros; definitions = d.definitions }
 
 -- a definition joins behind the others
 abbrev pub with_definition : TopText → Dictionary → Dictionary

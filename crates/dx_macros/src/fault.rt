@@ -1,3 +1,7 @@
+use dx_base::Bytes;
+use std::alloc::AllocError;
+use thiserror::Error;
+
 /// What can be wrong with a call before its statement is executed. At one call the order is `Calls`, and then that of
 /// this list.
 #[derive(Clone, Copy, Debug, PartialEq, Eq)]
@@ -14,4 +18,26 @@ pub enum StaticFault {
     Nesting,
     /// The call is the 65,537th of the walk.
     Calls,
+}
+
+/// Why a statement isn't found to be without a static fault.
+#[derive(Debug, Drop, Error)]
+pub enum CheckFail {
+    /// The first static fault, and the text of the site of the call that has it: the steps that lead to the call, and its
+    /// own, joined by `/`.
+    #[error("static fault {:?}", .1)]
+    Fault(Bytes, StaticFault),
+    #[error("out of memory")]
+    Memory,
+}
+
+impl From<AllocError> for CheckFail {
+    ghost use Rattle.std.specs.Prelude.{◌≡◌};
+    ghost use Rattle.dx_macros.specs.declared.fault.CheckFail.TheVariants.{Memory};
+
+    ghost from_gives = { λ _ f. f ≡ Memory };
+
+    fn from(_: AllocError) -> CheckFail {
+        CheckFail::Memory
+    }
 }

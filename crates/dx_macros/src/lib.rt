@@ -1,6 +1,21 @@
 //! The dictionary of macros and definitions, what the names of a script mean, and the first static fault of a statement.
 #![tactic(auto)]
 
+mod budget;
+mod callee;
+mod check;
+mod definitions;
+mod dictionary;
 mod fault;
+mod jobs;
+mod machine;
+mod names;
+mod signature;
+mod site;
 
-pub use fault::StaticFault;
+pub use budget::no_budget_runs_out;
+pub use callee::{Callee, called};
+pub use dictionary::Dictionary;
+pub use fault::{CheckFail, StaticFault};
+pub use names::Names;
+pub use site::{Step, site_text};

@@ -1,0 +1,11 @@
+use Rattle.std.proofs.Common.{◌≡◌, ◌<◌, ◌∙◌, sym, ap, List, get_or, length, arith}
+use Rattle.dx_ast.specs.declared.statements.Assign.{Assign}
+use Rattle.std.proofs.lemmas.List.{length-map}
+use Rattle.dx_macros.specs.Shown.{text_of}
+use Rattle.dx_macros.proofs.Defining.{definition_at}
+use Rattle.dx_macros.proofs.dictionary.Dictionary.definition.Goals as goal
+
+pub returns : goal.returns
+returns c =
+    let below : c.args.i < length c.args.self.now.definitions = omega (arith, c.requires, length-map c.args.self.now.definitions text_of) in
+    sym (definition_at c.args.self.now.definitions c.args.i c.index-as_slice-i.result below (c.index-as_slice-i.is ∙ ap (λ (xs : List Assign). get_or xs c.args.i c.index-as_slice-i.result) c.as_slice.ensures))

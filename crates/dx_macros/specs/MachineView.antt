@@ -1,0 +1,120 @@
+-- The code's walk under way as the jobs that are left, and what each step of it does.
+use Rattle.std.specs.Prelude.{◌≡◌, ℕ, suc, length, true, slice_set, List, [], ◌∷◌, ◌++◌, map, Result, Ok, Err, Option, Some, None}
+use Rattle.dx_ast.specs.Classes.{Text}
+use Rattle.dx_ast.specs.Plain.{plain_expr, plain_call, plain_args, plain_macro, plain_stmts}
+use Rattle.dx_ast.specs.Syntax.{Args}
+use Rattle.dx_macros.specs.declared.fault.StaticFault.{StaticFault}
+use Rattle.dx_macros.specs.Site as site
+use Rattle.dx_macros.specs.Dictionary.{Dictionary, Callee, CallsMacro, definition}
+use Rattle.dx_macros.specs.Walk.{Walk, Walked, Goes, Faulty, and_then, Fault}
+use Rattle.dx_macros.specs.Machine as m
+use Rattle.dx_macros.specs.Steps.{plain_step, plain_steps}
+use Rattle.dx_macros.specs.declared.machine.Frame.{Frame}
+use Rattle.dx_macros.specs.declared.machine.Job.{Job}
+use Rattle.dx_macros.specs.declared.machine.Job.TheVariants as job
+use Rattle.dx_macros.specs.declared.machine.Machine.{Machine}
+use Rattle.dx_macros.specs.declared.machine.Stop.{Stop}
+use Rattle.dx_macros.specs.declared.machine.Stop.TheVariants as stop
+
+abbrev pub plain_frame : Frame → m.Frame
+plain_frame f = record { base = plain_steps f.base.items; left = f.left; place = f.place; own = f.own; before = f.before }
+
+abbrev pub plain_job : Job → m.Job
+plain_job (job.Expr targets e) = m.ExprJob targets (plain_expr e.now)
+plain_job (job.Call targets c) = m.CallJob targets (plain_call c.now)
+plain_job (job.Args args) = m.ArgsJob (plain_args args.now)
+plain_job (job.Enter x s) = m.EnterJob (plain_macro x.now) (plain_step s)
+plain_job (job.Body results ss) = m.BodyJob results.now (plain_stmts ss.now)
+plain_job (job.Own names) = m.OwnJob names.now
+plain_job (job.Names names) = m.NamesJob names.now
+plain_job (job.Leave f) = m.LeaveJob (plain_frame f)
+
+abbrev pub walk_now : Machine → Walk
+walk_now x = record { calls = x.calls; read = x.read.items }
+
+-- what the jobs of a machine lead to
+abbrev pub rest : Dictionary → Machine → m.Rest
+rest d x = m.rest_of d (map plain_job x.jobs.items)
+
+abbrev pub means : Dictionary → Machine → Walked
+means d x = rest d x (plain_frame x.frame) (walk_now x)
+
+-- the machine goes on to the same end, or has come to the fault
+abbrev pub Continues : {A : Type 0} → Walked → Result A Stop → Walked → Type 0
+Continues before (Ok a) after = before ≡ after
+Continues before (Err (stop.Fault s f)) after = before ≡ Faulty (plain_steps s.items) f
+Continues before (Err stop.Memory) after = Unit {0}
+
+-- the walk ends without a fault, or at the fault
+abbrev pub Ends : {A : Type 0} → Walked → Result A Stop → Type 0
+Ends walked (Ok a) = (w : Walk) × (walked ≡ Goes w)
+Ends walked (Err (stop.Fault s f)) = walked ≡ Faulty (plain_steps s.items) f
+Ends walked (Err stop.Memory) = Unit {0}
+
+-- one more job, and nothing else is changed
+pub record IsPushed (old : Machine) (j : Job) (new : Machine) : Type 0 where
+  pub jobs : new.jobs.items ≡ old.jobs.items ++ j ∷ []
+  pub frame : new.frame ≡ old.frame
+  pub calls : new.calls ≡ old.calls
+  pub read : new.read ≡ old.read
+
+abbrev pub PushesJob : {A : Type 0} → Machine → Job → Result A Stop → Machine → Type 0
+PushesJob old j (Ok a) new = IsPushed old j new
+PushesJob old j (Err (stop.Fault s f)) new = ⊥
+PushesJob old j (Err stop.Memory) new = Unit {0}
+
+-- a job, before what is left of a machine
+abbrev pub job_first : Dictionary → m.Job → Machine → Walked
+job_first d j x = m.do_job d j (rest d x) (plain_frame x.frame) (walk_now x)
+
+-- the reading of a name, before what is left of a machine
+abbrev pub name_first : Dictionary → Text → Machine → Walked
+name_first d n x = and_then (m.reads d (plain_frame x.frame) n (walk_now x)) (rest d x (plain_frame x.frame))
+
+-- the walk of definition i in a frame of its own, before what is left of a machine
+abbrev pub definition_first : Dictionary → ℕ → Machine → Walked
+definition_first d i x =
+    let t = definition d.definitions i in
+    m.do_job d (m.ExprJob (length t.targets) t.value) (m.do_job d (m.LeaveJob (plain_frame x.frame)) (rest d x))
+    (m.frame_at_top (site.first_target t.targets) i) (record { calls = x.calls; read = slice_set x.read.items i true })
+
+-- what comes after a call that has no fault: its arguments, and then its macro
+abbrev pub accepted : Dictionary → Callee → site.Step → Text → Args → Machine → Walked
+accepted d (CallsMacro x) s name args y =
+    m.do_job d (m.ArgsJob args) (m.do_job d (m.EnterJob x s) (rest d y)) (m.met (name ∷ []) (plain_frame y.frame)) (record { calls = suc y.calls; read = y.read.items })
+accepted d _ s name args y =
+    m.do_job d (m.ArgsJob args) (rest d y) (m.met (name ∷ []) (plain_frame y.frame)) (record { calls = suc y.calls; read = y.read.items })
+
+abbrev pub FaultIs : List site.Step → StaticFault → Stop → Type 0
+FaultIs s f (stop.Fault s' f') = (plain_steps s'.items ≡ s) × (f' ≡ f)
+FaultIs s f stop.Memory = Unit {0}
+
+-- a frame takes the place of the old one, to which the new last job leads back
+pub record IsEntered (old : Machine) (f : Frame) (new : Machine) : Type 0 where
+  pub jobs : new.jobs.items ≡ old.jobs.items ++ job.Leave old.frame ∷ []
+  pub frame : new.frame ≡ f
+  pub calls : new.calls ≡ old.calls
+  pub read : new.read ≡ old.read
+
+abbrev pub EntersFrame : {A : Type 0} → Machine → Frame → Result A Stop → Machine → Type 0
+EntersFrame old f (Ok a) new = IsEntered old f new
+EntersFrame old f (Err (stop.Fault s x)) new = ⊥
+EntersFrame old f (Err stop.Memory) new = Unit {0}
+
+-- a call of this name is counted, and nothing else is changed
+pub record IsCounted (old : Machine) (name : Text) (new : Machine) : Type 0 where
+  pub jobs : new.jobs ≡ old.jobs
+  pub frame : plain_frame new.frame ≡ m.met (name ∷ []) (plain_frame old.frame)
+  pub calls : new.calls ≡ suc old.calls
+  pub read : new.read ≡ old.read
+
+abbrev pub CountsCall : {A : Type 0} → Machine → Text → Result A Stop → Machine → Type 0
+CountsCall old name (Ok a) new = IsCounted old name new
+CountsCall old name (Err (stop.Fault s f)) new = ⊥
+CountsCall old name (Err stop.Memory) new = Unit {0}
+
+-- the first fault, or none
+abbrev pub Finds : {A : Type 0} → Option Fault → Result A Stop → Type 0
+Finds found (Ok a) = found ≡ None
+Finds found (Err (stop.Fault s f)) = found ≡ Some (record { site = plain_steps s.items; fault = f })
+Finds found (Err stop.Memory) = Unit {0}

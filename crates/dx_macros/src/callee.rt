@@ -1,0 +1,29 @@
+ghost use Rattle.std.specs.Prelude.{◌≡◌};
+ghost use Rattle.dx_macros.specs.Dictionary.{callee};
+ghost use Rattle.dx_macros.specs.DictionaryView.{dictionary_of};
+ghost use Rattle.dx_macros.specs.CalleeView.{plain_callee};
+
+use crate::dictionary::Dictionary;
+use dx_ast::{MacroDef, function};
+use dx_base::Function;
+
+/// What the name of a call means.
+#[derive(Clone, Copy)]
+pub enum Callee<'a> {
+    Unknown,
+    Macro(&'a MacroDef),
+    Function(Function),
+}
+
+/// A macro hides a function of its name.
+pub fn called<'a>(d: &'a Dictionary, name: &[u8]) -> Callee<'a>
+    ensures { plain_callee result ≡ callee (dictionary_of d.now).macros name.now }
+{
+    match d.macro_of(name) {
+        Some(m) => Callee::Macro(m),
+        None => match function(name) {
+            Some(f) => Callee::Function(f),
+            None => Callee::Unknown,
+        },
+    }
+}

@@ -1,0 +1,105 @@
+ghost use Rattle.std.specs.Prelude.{◌≡◌, IfOk};
+ghost use Rattle.dx_ast.specs.Lawful.{IsLawful};
+ghost use Rattle.dx_ast.specs.Plain.{plain_call, plain_stmt};
+ghost use Rattle.dx_macros.specs.Dictionary.{of_call, IsExecuted};
+ghost use Rattle.dx_macros.specs.DictionaryView.{dictionary_of};
+ghost use Rattle.dx_macros.specs.Machine.{do_job, at_end};
+ghost use Rattle.dx_macros.specs.MachineView.{plain_frame, plain_job, means, Ends, Finds};
+ghost use Rattle.dx_macros.specs.Shown.{text_of};
+ghost use Rattle.dx_macros.specs.Walk.{walk_of, walk_begins, fault_in, first_fault};
+ghost use Rattle.dx_macros.specs.Weight.{IsFit};
+ghost use Rattle.dx_macros.specs.Checking.{Checks};
+
+use crate::dictionary::Dictionary;
+use crate::fault::CheckFail;
+use crate::jobs::{do_job, top_frame};
+use crate::machine::{Frame, Job, Machine, Stop, put};
+use crate::site::site_text;
+use dx_ast::{Assign, Call, Stmt};
+use std::alloc::{AllocError, Global};
+
+/// Does all jobs.
+fn run<'a>(alloc: Global, d: &'a Dictionary, m: Machine<'a>) -> Result<(), Stop<'a>>
+    requires { IsFit (dictionary_of d.now) m }
+    ensures { Ends (means (dictionary_of d.now) m.entry) result }
+{
+    let mut m = m;
+    loop {
+        match m.jobs.pop() {
+            None => return Ok(()),
+            Some(job) => match do_job(alloc, d, &mut m, job) {
+                Ok(()) => (),
+                Err(stop) => return Err(stop),
+            },
+        }
+    }
+}
+
+fn begin<'a>(
+    alloc: Global,
+    d: &'a Dictionary,
+    frame: Frame<'a>,
+    job: Job<'a>,
+) -> Result<Machine<'a>, AllocError>
+    ensures fit { IfOk result (λ m. IsFit (dictionary_of d.now) m) }
+    ensures means { IfOk result (λ m. means (dictionary_of d.now) m ≡ do_job (dictionary_of d.now) (plain_job job.entry) at_end (plain_frame frame.entry) (walk_begins (dictionary_of d.now))) }
+{
+    let read = vec![in alloc; false; d.len()]?;
+    let mut jobs = Vec::new(alloc);
+    put(&mut jobs, job)?;
+    Ok(Machine {
+        jobs,
+        frame,
+        calls: 0,
+        read,
+    })
+}
+
+fn walk_call<'a>(alloc: Global, d: &'a Dictionary, c: &'a Call) -> Result<(), Stop<'a>>
+    ensures { Finds (fault_in (walk_of (dictionary_of d.now) (of_call (plain_call c.now)))) result }
+{
+    let place = d.len();
+    let frame = top_frame(alloc, &[], place)?;
+    let m = begin(alloc, d, frame, Job::Call(0, c))?;
+    run(alloc, d, m)
+}
+
+fn walk_assign<'a>(alloc: Global, d: &'a Dictionary, a: &'a Assign) -> Result<(), Stop<'a>>
+    ensures { Finds (fault_in (walk_of (dictionary_of d.now) (text_of a.now))) result }
+{
+    let place = d.len();
+    let frame = top_frame(alloc, a.targets.as_slice(), place)?;
+    let m = begin(alloc, d, frame, Job::Expr(a.targets.len(), &a.value))?;
+    run(alloc, d, m)
+}
+
+fn walk<'a>(alloc: Global, d: &'a Dictionary, s: &'a Stmt) -> Result<(), Stop<'a>>
+    requires { IsExecuted (plain_stmt s.now) }
+    ensures { Finds (first_fault (dictionary_of d.now) (plain_stmt s.now)) result }
+{
+    match s {
+        Stmt::Call(c) => walk_call(alloc, d, c),
+        Stmt::Sequence(c) => walk_call(alloc, d, c),
+        Stmt::Assign(a) => walk_assign(alloc, d, a),
+        _ => unreachable!(),
+    }
+}
+
+impl Dictionary {
+    /// The first static fault of a statement that is to be executed, and the text of the site of the call that has it:
+    /// an Ok where there is none.
+    pub fn check(&self, alloc: Global, s: &Stmt) -> Result<(), CheckFail>
+        requires lawful { IsLawful (plain_stmt s.now) }
+        requires executed { IsExecuted (plain_stmt s.now) }
+        ensures { Checks (first_fault (dictionary_of self.now) (plain_stmt s.now)) result }
+    {
+        match walk(alloc, self, s) {
+            Ok(()) => Ok(()),
+            Err(Stop::Memory) => Err(CheckFail::Memory),
+            Err(Stop::Fault(site, fault)) => match site_text(alloc, site.as_slice()) {
+                Ok(text) => Err(CheckFail::Fault(text, fault)),
+                Err(_) => Err(CheckFail::Memory),
+            },
+        }
+    }
+}

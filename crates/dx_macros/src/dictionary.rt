@@ -1,0 +1,86 @@
+ghost use Rattle.std.specs.Prelude.{◌≡◌, ◌<◌, length, OnOk, OnErr, option_map, IfSome};
+ghost use Rattle.dx_ast.specs.Lawful.{IsLawfulMacro, IsLawfulAssign};
+ghost use Rattle.dx_ast.specs.Plain.{plain_macro, plain_expr};
+ghost use Rattle.dx_macros.specs.Dictionary.{empty, defining, with_definition, definition};
+ghost use Rattle.dx_macros.specs.Machine.{last_named};
+ghost use Rattle.dx_macros.specs.Shown.{text_of, AreLawfulMacros, AreLawfulDefinitions};
+
+use crate::definitions::Definitions;
+use dx_ast::{Assign, MacroDef};
+use indexmap::IndexMap;
+use std::alloc::{AllocError, Global};
+
+/// The macros of a session by their names, and its definitions in the order in which they joined. All of them are lawful.
+#[derive(Drop)]
+pub struct Dictionary {
+    alloc: Global,
+    macros: IndexMap<Vec<u8>, MacroDef>,
+    definitions: Definitions,
+    pub ghost lawful_macros: { ∥ AreLawfulMacros macros ∥₁ },
+    pub ghost lawful_definitions: { ∥ AreLawfulDefinitions definitions ∥₁ },
+}
+
+impl Dictionary {
+    ghost use Rattle.dx_macros.specs.DictionaryView.{dictionary_of};
+
+    /// The dictionary without macros and definitions, which takes no memory.
+    pub fn new(alloc: Global) -> Dictionary
+        ensures { dictionary_of result ≡ empty }
+    {
+        Dictionary {
+            alloc,
+            macros: IndexMap::new(alloc),
+            definitions: Definitions::new(alloc),
+        }
+    }
+
+    /// The macro joins and replaces an earlier one of its name. Where memory runs out the dictionary stays as it was.
+    pub fn define(&mut self, m: MacroDef) -> Result<(), AllocError>
+        requires { IsLawfulMacro (plain_macro m) }
+        ensures ok { OnOk result (dictionary_of self.new ≡ defining (plain_macro m) (dictionary_of self.old)) }
+        ensures err { OnErr result (dictionary_of self.new ≡ dictionary_of self.old) }
+    {
+        let key = Vec::from_slice(self.alloc, m.name.bytes())?;
+        self.macros.insert(key, m)?;
+        Ok(())
+    }
+
+    /// The definition joins behind the others. Where memory runs out the dictionary stays as it was.
+    pub fn add(&mut self, s: Assign) -> Result<(), AllocError>
+        requires { IsLawfulAssign s.targets (plain_expr s.value) }
+        ensures ok { OnOk result (dictionary_of self.new ≡ with_definition (text_of s) (dictionary_of self.old)) }
+        ensures err { OnErr result (dictionary_of self.new ≡ dictionary_of self.old) }
+    {
+        self.definitions.push(self.alloc, s)
+    }
+
+    /// The macro of this name; None exactly where no macro has it.
+    pub fn macro_of(&self, name: &[u8]) -> Option<&MacroDef>
+        ensures { option_map (λ m. plain_macro m.now) result ≡ (dictionary_of self.now).macros name.now }
+    {
+        self.macros.get(name)
+    }
+
+    /// How many definitions there are.
+    pub fn len(&self) -> usize
+        ensures { result ≡ length (dictionary_of self.now).definitions }
+    {
+        self.definitions.as_slice().len()
+    }
+
+    /// The place of the last definition of a name before a place.
+    pub fn last_before(&self, place: usize, name: &[u8]) -> Option<usize>
+        ensures last { result ≡ last_named (dictionary_of self.now).definitions place name.now }
+        ensures below { IfSome result (λ i. i < length (dictionary_of self.now).definitions) }
+    {
+        self.definitions.last_before(place, name)
+    }
+
+    /// Definition number i, in the order in which they joined.
+    pub fn definition(&self, i: usize) -> &Assign
+        requires { i < length (dictionary_of self.now).definitions }
+        ensures { text_of result.now ≡ definition (dictionary_of self.now).definitions i }
+    {
+        &self.definitions.as_slice()[i]
+    }
+}

@@ -1,0 +1,45 @@
+ghost use Rattle.std.specs.Prelude.{◌≡◌, ◌++◌, ◌∷◌, map, OnOk, IfOk};
+ghost use Rattle.dx_macros.specs.Site.{step_text, steps_text};
+ghost use Rattle.dx_macros.specs.Steps.{plain_step, plain_steps, joined};
+
+use dx_base::Bytes;
+use itoa::Buffer;
+use std::alloc::{AllocError, Global};
+
+/// A step that leads to a call: the k-th call of a name in its text, or the first target of an assignment at the top
+/// level.
+#[derive(Clone, Copy)]
+pub enum Step<'a> {
+    Nth(&'a [u8], usize),
+    Target(&'a [u8]),
+}
+
+fn write_step<'a>(text: &mut Vec<u8>, step: Step<'a>) -> Result<(), AllocError>
+    ensures { OnOk result (text.new.items ≡ text.old.items ++ step_text (plain_step step.entry)) }
+{
+    match step {
+        Step::Nth(name, k) => {
+            text.extend_from_slice(name)?;
+            text.extend_from_slice(b":")?;
+            let mut buffer = Buffer::new();
+            text.extend_from_slice(buffer.format(k).as_bytes())
+        }
+        Step::Target(name) => text.extend_from_slice(name),
+    }
+}
+
+/// The steps joined by `/`.
+pub fn site_text<'a>(alloc: Global, steps: &[Step<'a>]) -> Result<Bytes, AllocError>
+    ensures { IfOk result (λ text. text ≡ steps_text (plain_steps steps.now)) }
+{
+    let mut text = Vec::new(alloc);
+    let mut is_first = true;
+    for step in steps {
+        if !is_first {
+            text.push(b'/')?;
+        }
+        write_step(&mut text, *step)?;
+        is_first = false;
+    }
+    Ok(Bytes::from_vec(text))
+}
