@@ -1,5 +1,5 @@
 -- The dictionary after a macro or a definition joined.
-use Rattle.std.proofs.Common.{◌≡◌, ◌<◌, ℕ, zero, suc, List, [], ◌∷◌, ◌++◌, length, get_or, map, Option, Some, None, Bool, true, false, Vec, refl, sym, ap, subst, ◌∙◌, option_map, arith}
+use Rattle.std.proofs.Common.{◌≡◌, ◌<◌, ℕ, zero, suc, List, [], ◌∷◌, ◌++◌, length, get_or, map, Option, Some, Bool, true, false, Vec, refl, sym, ap, subst, ◌∙◌, option_map, arith}
 use Rattle.std.specs.Prelude.{Result, Ok, Err, All, OnOk, OnErr, if◌then◌else◌}
 use Rattle.std.specs.Str.{bytes_eq}
 use Rattle.std.specs.declared.alloc.Global.{Global}
@@ -12,9 +12,8 @@ use Rattle.dx_ast.specs.declared.statements.MacroDef.{MacroDef, out-MacroDef}
 use Rattle.dx_ast.specs.Classes.{Text}
 use Rattle.dx_ast.specs.Lawful.{IsLawfulMacro}
 use Rattle.dx_ast.specs.Plain.{plain_macro}
-use Rattle.dx_ast.specs.Syntax as plain
 use Rattle.dx_ast.proofs.PlainLaws.{plain_macro_out}
-use Rattle.dx_macros.specs.Dictionary.{TopText, Macros, macro_name, with_macro, definition}
+use Rattle.dx_macros.specs.Dictionary.{Macros, macro_name, with_macro, definition}
 use Rattle.dx_macros.specs.Shown.{text_of, IsLawfulDefinition, AreLawfulDefinitions, AreLawfulMacros}
 
 -- ---- definitions

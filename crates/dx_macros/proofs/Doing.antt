@@ -9,7 +9,7 @@ use Rattle.dx_macros.specs.declared.fault.StaticFault.{StaticFault}
 use Rattle.dx_macros.specs.declared.fault.StaticFault.TheVariants as fault
 use Rattle.dx_macros.specs.Site.{Step, Nth, next_step, first_target}
 use Rattle.dx_macros.specs.Names.{count}
-use Rattle.dx_macros.specs.Dictionary.{Dictionary, TopText, of_call, param_names, Callee, Unknown, CallsMacro, CallsFunction, callee, definition}
+use Rattle.dx_macros.specs.Dictionary.{Dictionary, TopText, param_names, Callee, Unknown, CallsMacro, CallsFunction, callee, definition}
 use Rattle.dx_macros.specs.Walk.{Walk, Walked, Goes, Faulty, and_then, fault_of_call, arg_names, fault_in, walk_of, walk_begins}
 use Rattle.dx_ast.specs.declared.expressions.Arg.{Arg}
 use Rattle.dx_ast.specs.declared.expressions.Call.{Call, out-Call}
@@ -25,7 +25,6 @@ use Rattle.dx_ast.specs.declared.statements.MacroDef.{MacroDef, out-MacroDef}
 use Rattle.dx_macros.specs.declared.machine.Frame.{Frame}
 use Rattle.dx_ast.proofs.PlainLaws.{plain_call_out, stmt_layer, plain_stmt_out, plain_macro_out}
 use Rattle.dx_macros.specs.Shown.{text_of}
-use Rattle.dx_macros.specs.Steps.{plain_steps}
 use Rattle.dx_macros.specs.Machine as m
 use Rattle.dx_macros.specs.declared.machine.Job.{Job}
 use Rattle.dx_macros.specs.declared.machine.Machine.{Machine}

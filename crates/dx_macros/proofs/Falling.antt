@@ -1,6 +1,6 @@
 -- What the pushes of one step weigh.
-use Rattle.std.proofs.Common.{◌≡◌, ℕ, zero, suc, ◌+◌, ◌<◌, ◌≤◌, List, [], ◌∷◌, length, refl, sym, ap, ap₂, ◌∙◌, arith}
-use Rattle.std.specs.Prelude.{Result, Ok, Err}
+use Rattle.std.proofs.Common.{◌≡◌, ℕ, suc, ◌+◌, ◌<◌, ◌≤◌, List, [], ◌∷◌, length, refl, ap, ap₂, ◌∙◌, arith}
+use Rattle.std.specs.Prelude.{Result, Ok}
 use Rattle.dx_ast.specs.declared.expressions.Arg.{Arg}
 use Rattle.dx_ast.specs.declared.expressions.Call.{Call, out-Call}
 use Rattle.dx_ast.specs.declared.statements.Assign.{Assign}

@@ -1,5 +1,5 @@
 -- The text of steps, written one by one.
-use Rattle.std.proofs.Common.{◌≡◌, ◌≤◌, ℕ, zero, suc, List, [], ◌∷◌, ◌++◌, length, drop, Bool, true, false, refl, ap, sym, ◌∙◌, append-nil, arith}
+use Rattle.std.proofs.Common.{◌≡◌, ◌≤◌, ℕ, zero, suc, List, [], ◌∷◌, ◌++◌, length, drop, Bool, true, refl, ap, sym, ◌∙◌, append-nil, arith}
 use Rattle.dx_ast.specs.Classes.{Text}
 use Rattle.dx_macros.specs.Site as site
 use Rattle.dx_macros.specs.declared.site.Step.{Step}

@@ -1,5 +1,5 @@
 -- Worked examples of what names mean, of effects and of static faults, by computation.
-use Rattle.std.proofs.Common.{◌≡◌, ℕ, zero, suc, ℤ, pos, List, [], ◌∷◌, ◌++◌, Option, Some, None, refl, map, option_map}
+use Rattle.std.proofs.Common.{◌≡◌, ℕ, zero, suc, pos, List, [], ◌∷◌, ◌++◌, Option, Some, None, refl, map, option_map}
 use Rattle.std.specs.Prelude.{codes}
 use Rattle.dx_base.specs.declared.function.Effect.TheVariants as effect
 use Rattle.dx_base.specs.declared.function.Function.{Function}
@@ -13,7 +13,7 @@ use Rattle.dx_ast.specs.Syntax.{Expr, Constant, Name, Frame, CallOf, Call, MakeC
 use Rattle.dx_macros.specs.declared.fault.StaticFault.{StaticFault}
 use Rattle.dx_macros.specs.declared.fault.StaticFault.TheVariants as fault
 use Rattle.dx_macros.specs.Site.{Step, Nth, Target, steps_text}
-use Rattle.dx_macros.specs.Tree.{Tree, ConstantTree, ResultTree, CallTree, TreeCall, Trees, NoTree, AndTree}
+use Rattle.dx_macros.specs.Tree.{ConstantTree, CallTree, TreeCall, Trees, NoTree, AndTree}
 use Rattle.dx_macros.specs.Dictionary.{TopText, Macros, Dictionary, no_macros, with_macro}
 use Rattle.dx_macros.specs.Expansion.{effects, null_tree}
 use Rattle.dx_macros.specs.Walk.{Fault, first_fault}

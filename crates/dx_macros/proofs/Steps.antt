@@ -5,7 +5,7 @@ use Rattle.dx_base.specs.declared.function.Function.{Function}
 use Rattle.dx_ast.specs.declared.constants.Const.{Const}
 use Rattle.dx_ast.specs.declared.sequencing.FrameVar.{FrameVar}
 use Rattle.dx_ast.specs.Classes.{Text}
-use Rattle.dx_ast.specs.Syntax.{Expr, Constant, Name, Frame as FrameOf, CallOf, Call, MakeCall, Args, NoArg, AndArg, Stmt, Assigns, Calls, Macro, MakeMacro, Stmts, NoStmt, AndStmt}
+use Rattle.dx_ast.specs.Syntax.{Expr, Constant, Name, Frame as FrameOf, CallOf, Call, MakeCall, Args, NoArg, AndArg, Assigns, Calls, Macro, MakeMacro, Stmts, NoStmt, AndStmt}
 use Rattle.dx_ast.specs.declared.statements.Param.{Param}
 use Rattle.dx_macros.specs.declared.fault.StaticFault.{StaticFault}
 use Rattle.dx_macros.specs.Site.{Step, first_target, next_step}

@@ -1,5 +1,5 @@
 -- What each step of a walk does to its weight.
-use Rattle.std.proofs.Common.{◌≡◌, ℕ, zero, suc, ◌+◌, ◌-◌, ◌*◌, ◌<◌, ◌≤◌, List, [], ◌∷◌, ◌++◌, length, map, Option, Some, None, Bool, true, false, Vec, refl, sym, ap, ap₂, subst, ◌∙◌, option_map, arith}
+use Rattle.std.proofs.Common.{◌≡◌, ℕ, zero, suc, ◌+◌, ◌*◌, ◌<◌, ◌≤◌, List, [], ◌∷◌, ◌++◌, length, map, Option, Some, None, Bool, true, false, Vec, refl, sym, ap, ap₂, subst, ◌∙◌, option_map, arith}
 use Rattle.std.specs.Prelude.{Result, Ok, Err, slice_index_or, slice_set, cond}
 use Rattle.std.specs.Str.{bytes_eq}
 use Rattle.std.specs.Map.{lookup}
@@ -10,14 +10,14 @@ use Rattle.dx_ast.specs.declared.statements.MacroDef.{MacroDef}
 use Rattle.dx_ast.specs.Classes.{Text}
 use Rattle.dx_base.specs.declared.function.Function.{Function}
 use Rattle.dx_ast.specs.Table.{function_named}
-use Rattle.dx_ast.specs.Plain.{plain_macro, plain_expr}
+use Rattle.dx_ast.specs.Plain.{plain_macro}
 use Rattle.dx_ast.specs.Syntax as plain
 use Rattle.dx_macros.specs.Dictionary.{Dictionary, definition, Callee, callee, callee_by}
 use Rattle.dx_macros.specs.DictionaryView.{dictionary_of}
 use Rattle.dx_macros.specs.Shown.{text_of}
 use Rattle.dx_macros.specs.Machine as m
-use Rattle.dx_macros.specs.MachineView.{plain_job, plain_frame, IsPushed, PushesJob, IsEntered, EntersFrame, IsCounted, CountsCall}
-use Rattle.dx_macros.specs.Weight.{expr_weight, call_weight, args_weight, body_weight, macro_weight, callee_weight, job_weight, jobs_weight, unread, chances, weight, Bounds, IsFit, FallsTo, Falls, PaysTo, Pays}
+use Rattle.dx_macros.specs.MachineView.{plain_job, IsPushed, PushesJob, IsEntered, IsCounted}
+use Rattle.dx_macros.specs.Weight.{expr_weight, call_weight, args_weight, macro_weight, callee_weight, job_weight, jobs_weight, unread, chances, weight, Bounds, IsFit, FallsTo, Falls, Pays}
 use Rattle.dx_macros.specs.Bound.{macros_weight, definitions_weight, bound_of}
 use Rattle.dx_macros.specs.declared.dictionary.Dictionary.{Dictionary as CodeDictionary}
 use Rattle.dx_macros.specs.declared.machine.Frame.{Frame}

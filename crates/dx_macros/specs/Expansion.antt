@@ -1,5 +1,5 @@
 -- What the names of a script mean, and the effects of a statement.
-use Rattle.std.specs.Prelude.{ℕ, zero, suc, ℤ, List, [], ◌∷◌, ◌++◌, length, drop, Option, Some, None, Bool, true, false, nat_lt, if◌then◌else◌}
+use Rattle.std.specs.Prelude.{ℕ, zero, suc, ℤ, List, [], ◌∷◌, ◌++◌, length, drop, Option, Some, None, Bool, false, nat_lt, if◌then◌else◌}
 use Rattle.std.specs.Str.{bytes_eq}
 use Rattle.dx_base.specs.declared.function.Function.{Function}
 use Rattle.dx_base.specs.declared.function.Function.TheVariants as function

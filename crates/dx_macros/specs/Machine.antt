@@ -1,10 +1,10 @@
 -- What is left of a walk: a list of jobs, the next one last.
 use Rattle.std.specs.Prelude.{ℕ, zero, suc, List, [], ◌∷◌, ◌++◌, Option, Some, None, if◌then◌else◌}
 use Rattle.dx_ast.specs.Classes.{Text}
-use Rattle.dx_ast.specs.Syntax.{Expr, Call, Args, Stmt, Macro, MakeMacro, Stmts, NoStmt, AndStmt}
+use Rattle.dx_ast.specs.Syntax.{Expr, Call, Args, Stmt, Macro, Stmts, NoStmt, AndStmt}
 use Rattle.dx_macros.specs.Names.{has, calls_in, calls_of, calls_in_args, calls_after, names_after}
 use Rattle.dx_macros.specs.Site.{Step}
-use Rattle.dx_macros.specs.Dictionary.{TopText, Dictionary, definition, param_names}
+use Rattle.dx_macros.specs.Dictionary.{TopText, Dictionary, definition}
 use Rattle.dx_macros.specs.Walk.{Walk, Walked, Goes, and_then, WalkUnder, Reader, beside, reader_at, walk_macro, walk_call, walk_expr, walk_args, walk_body, read_all}
 
 -- the text that is walked: the steps that lead to it, the macro steps left, the place of its top-level text,

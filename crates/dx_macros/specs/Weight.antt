@@ -1,8 +1,7 @@
 -- How much of a walk is left at most, for any bound on the sizes of the dictionary's macros and definitions: each step
 -- of the walk makes it smaller.
-use Rattle.std.specs.Prelude.{◌≡◌, ℕ, zero, suc, ◌+◌, ◌-◌, ◌*◌, ◌<◌, ◌≤◌, List, [], ◌∷◌, length, map, Option, Some, None, Bool, true, false, Result, Ok, Err, slice_index_or}
+use Rattle.std.specs.Prelude.{◌≡◌, ℕ, suc, ◌+◌, ◌-◌, ◌*◌, ◌<◌, ◌≤◌, List, [], ◌∷◌, length, map, Some, Bool, true, false, Result, Ok, Err}
 use Rattle.dx_ast.specs.Classes.{Text}
-use Rattle.dx_ast.specs.Plain.{plain_macro}
 use Rattle.dx_ast.specs.Syntax.{Expr, Constant, Name, Frame, CallOf, Call, MakeCall, Args, NoArg, AndArg, Stmt, Assigns, Calls, Macro, MakeMacro, Stmts, NoStmt, AndStmt}
 use Rattle.dx_macros.specs.Dictionary.{Dictionary, definition, Callee, Unknown, CallsMacro, CallsFunction}
 use Rattle.dx_macros.specs.Machine.{Job, ExprJob, CallJob, ArgsJob, EnterJob, BodyJob, OwnJob, NamesJob, LeaveJob}

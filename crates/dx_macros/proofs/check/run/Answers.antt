@@ -1,9 +1,9 @@
-use Rattle.std.proofs.Common.{◌≡◌, ◌∙◌, sym, refl, ap, length, arith}
+use Rattle.std.proofs.Common.{◌∙◌, sym, refl, arith}
 use Rattle.std.specs.Prelude.{Err}
 use Rattle.dx_macros.specs.Bound.{bound_of}
 use Rattle.dx_macros.specs.DictionaryView.{dictionary_of}
-use Rattle.dx_macros.specs.MachineView.{means, walk_now}
-use Rattle.dx_macros.proofs.Doing.{popped, fails, none_left}
+use Rattle.dx_macros.specs.MachineView.{means}
+use Rattle.dx_macros.proofs.Doing.{popped, fails}
 use Rattle.dx_macros.proofs.Weights.{bounded, popped_weight}
 use Rattle.dx_macros.proofs.check.run.Goals as goal
 

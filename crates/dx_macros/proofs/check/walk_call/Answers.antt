@@ -1,4 +1,4 @@
-use Rattle.std.proofs.Common.{◌∙◌, [], sym, refl}
+use Rattle.std.proofs.Common.{◌∙◌, [], refl}
 use Rattle.dx_ast.specs.Plain.{plain_call}
 use Rattle.dx_macros.specs.Dictionary.{of_call}
 use Rattle.dx_macros.specs.DictionaryView.{dictionary_of}

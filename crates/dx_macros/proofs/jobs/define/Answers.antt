@@ -1,4 +1,4 @@
-use Rattle.std.proofs.Common.{◌∙◌, List, refl, sym, ap, arith}
+use Rattle.std.proofs.Common.{◌∙◌, List, refl, sym, ap}
 use Rattle.dx_macros.specs.DictionaryView.{dictionary_of}
 use Rattle.dx_macros.proofs.Pushes.{ok_entered, by_push}
 use Rattle.dx_ast.specs.Classes.{Text}

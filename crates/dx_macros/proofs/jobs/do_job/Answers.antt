@@ -1,4 +1,4 @@
-use Rattle.std.proofs.Common.{◌≡◌, ap, arith}
+use Rattle.std.proofs.Common.{ap, arith}
 use Rattle.dx_macros.specs.DictionaryView.{dictionary_of}
 use Rattle.dx_macros.specs.MachineView.{plain_job}
 use Rattle.dx_macros.specs.Weight.{job_weight}

@@ -1,4 +1,4 @@
-use Rattle.std.proofs.Common.{◌≡◌, ◌∙◌, ℕ, List, map, ap, ap₂}
+use Rattle.std.proofs.Common.{◌∙◌, ℕ, List, map, ap, ap₂}
 use Rattle.dx_base.specs.NameTable.{under_name}
 use Rattle.dx_ast.specs.declared.statements.Assign.{Assign}
 use Rattle.dx_macros.specs.Machine.{last_named}

@@ -1,4 +1,4 @@
-use Rattle.std.proofs.Common.{◌≡◌, ◌∙◌, ap, Some, map}
+use Rattle.std.proofs.Common.{ap, Some, map}
 use Rattle.std.proofs.Math.Logic.{∥∥₁_map}
 use Rattle.dx_base.specs.NameTable.{under_name}
 use Rattle.dx_base.proofs.NameTables.{under_changed}

@@ -1,4 +1,4 @@
-use Rattle.std.proofs.Common.{◌≡◌, ◌<◌, ◌∙◌, sym, ap, List, get_or, length, arith}
+use Rattle.std.proofs.Common.{◌<◌, ◌∙◌, sym, ap, List, get_or, length, arith}
 use Rattle.dx_ast.specs.declared.statements.Assign.{Assign}
 use Rattle.std.proofs.lemmas.List.{length-map}
 use Rattle.dx_macros.specs.Shown.{text_of}

@@ -1,4 +1,4 @@
-use Rattle.std.proofs.Common.{◌≡◌, ℕ, List, Bor, Some, ◌+◌, ap, sym, ◌∙◌}
+use Rattle.std.proofs.Common.{ℕ, List, Bor, Some, ◌+◌, ap, sym, ◌∙◌}
 use Rattle.dx_base.proofs.NameTables.{under_changed}
 use Rattle.dx_macros.specs.Names.{count}
 use Rattle.dx_macros.specs.Shown.{texts}
