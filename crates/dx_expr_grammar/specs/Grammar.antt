@@ -104,7 +104,7 @@ part = do
 -- ---- brackets
 
 -- what an opening sign begins, where this many brackets may still open; the sign of one more is refused
-abbrev pub within : {A : Type 0} → Sign → (ℕ → Rule A) → ℕ → Rule A
+unfoldable pub within : {A : Type 0} → Sign → (ℕ → Rule A) → ℕ → Rule A
 within opening inside zero = sign opening >>= λ at. refused at
 within opening inside (suc brackets) = sign opening >> inside brackets
 
