@@ -1,2 +1,6 @@
 pub mod Classes
 pub mod Productions
+pub mod Agreement
+pub mod Wider
+pub mod Nesting
+pub mod Exact

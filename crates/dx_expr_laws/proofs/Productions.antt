@@ -138,19 +138,61 @@ module _ {X : Rule Expression} {P : Parser Expression} {Mid : Tokens → Type 0}
           (after right_side (λ p. ends (λ u h. h.1)) (λ p. done))
           (ends (λ u h. h.0)) done)
 
-disjunction : {X : Rule Expression} {P : Parser Expression} → Reads X P AfterSigned → Reads (grammar.disjunction X) (reading.disjunction P) AfterDisjunction
-disjunction operand =
-    let product = chain level.Product s.Times binary.Multiply refl (operator_no_dot level.Product) operand in
-    let at_sum = twice (other level.Sum level.Product refl) (operator_no_dot level.Sum) in
-    let sum = chain level.Sum s.Plus binary.Add refl at_sum product in
-    let at_relation = twice (other level.Relation level.Sum refl) (twice (other level.Relation level.Product refl) (operator_no_dot level.Relation)) in
-    let relation = once level.Relation s.Less binary.Less refl at_relation sum in
-    let at_equality = twice (other level.Equality level.Relation refl) (twice (other level.Equality level.Sum refl) (twice (other level.Equality level.Product refl) (operator_no_dot level.Equality))) in
-    let equality = once level.Equality s.Equal binary.Equal refl at_equality relation in
-    let at_and = twice (other level.And level.Equality refl) (twice (other level.And level.Relation refl) (twice (other level.And level.Sum refl) (twice (other level.And level.Product refl) (operator_no_dot level.And)))) in
-    let conjunction = chain level.And s.And binary.And refl at_and equality in
-    let at_or = twice (other level.Or level.And refl) (twice (other level.Or level.Equality refl) (twice (other level.Or level.Relation refl) (twice (other level.Or level.Sum refl) (twice (other level.Or level.Product refl) (operator_no_dot level.Or))))) in
-    chain level.Or s.Or binary.Or refl at_or conjunction
+-- what follows an operand is an operator of a looser level, or none
+at_product : Opens (grammar.operator level.Product) Any AfterSigned
+at_product = operator_no_dot level.Product
+
+at_sum : Opens (grammar.operator level.Sum) Any AfterProduct
+at_sum = twice (other level.Sum level.Product refl) (operator_no_dot level.Sum)
+
+at_relation : Opens (grammar.operator level.Relation) Any AfterSum
+at_relation = twice (other level.Relation level.Sum refl) (twice (other level.Relation level.Product refl) (operator_no_dot level.Relation))
+
+at_equality : Opens (grammar.operator level.Equality) Any AfterRelation
+at_equality = twice (other level.Equality level.Relation refl) (twice (other level.Equality level.Sum refl) (twice (other level.Equality level.Product refl) (operator_no_dot level.Equality)))
+
+at_conjunction : Opens (grammar.operator level.And) Any AfterEquality
+at_conjunction = twice (other level.And level.Equality refl) (twice (other level.And level.Relation refl) (twice (other level.And level.Sum refl) (twice (other level.And level.Product refl) (operator_no_dot level.And))))
+
+at_disjunction : Opens (grammar.operator level.Or) Any AfterConjunction
+at_disjunction = twice (other level.Or level.And refl) (twice (other level.Or level.Equality refl) (twice (other level.Or level.Relation refl) (twice (other level.Or level.Sum refl) (twice (other level.Or level.Product refl) (operator_no_dot level.Or)))))
+
+module _ {X : Rule Expression} {P : Parser Expression} (signed : Reads X P AfterSigned) where
+  pub right_of_product : Reads (grammar.right_side level.Product (X)) (reading.right_side level.Product (reading.operand P level.Product)) AfterSigned
+  right_of_product = right_side level.Product s.Times binary.Multiply refl at_product signed
+
+  pub product : Reads (grammar.product X) (reading.chain level.Product (reading.operand P level.Product)) AfterProduct
+  product = chain level.Product s.Times binary.Multiply refl at_product signed
+
+  pub right_of_sum : Reads (grammar.right_side level.Sum (grammar.product X)) (reading.right_side level.Sum (reading.operand P level.Sum)) AfterProduct
+  right_of_sum = right_side level.Sum s.Plus binary.Add refl at_sum product
+
+  pub sum : Reads (grammar.sum X) (reading.chain level.Sum (reading.operand P level.Sum)) AfterSum
+  sum = chain level.Sum s.Plus binary.Add refl at_sum product
+
+  pub right_of_relation : Reads (grammar.right_side level.Relation (grammar.sum X)) (reading.right_side level.Relation (reading.operand P level.Relation)) AfterSum
+  right_of_relation = right_side level.Relation s.Less binary.Less refl at_relation sum
+
+  pub relation : Reads (grammar.relation X) (reading.once level.Relation (reading.operand P level.Relation)) AfterRelation
+  relation = once level.Relation s.Less binary.Less refl at_relation sum
+
+  pub right_of_equality : Reads (grammar.right_side level.Equality (grammar.relation X)) (reading.right_side level.Equality (reading.operand P level.Equality)) AfterRelation
+  right_of_equality = right_side level.Equality s.Equal binary.Equal refl at_equality relation
+
+  pub equality : Reads (grammar.equality X) (reading.once level.Equality (reading.operand P level.Equality)) AfterEquality
+  equality = once level.Equality s.Equal binary.Equal refl at_equality relation
+
+  pub right_of_conjunction : Reads (grammar.right_side level.And (grammar.equality X)) (reading.right_side level.And (reading.operand P level.And)) AfterEquality
+  right_of_conjunction = right_side level.And s.And binary.And refl at_conjunction equality
+
+  pub conjunction : Reads (grammar.conjunction X) (reading.chain level.And (reading.operand P level.And)) AfterConjunction
+  conjunction = chain level.And s.And binary.And refl at_conjunction equality
+
+  pub right_of_disjunction : Reads (grammar.right_side level.Or (grammar.conjunction X)) (reading.right_side level.Or (reading.operand P level.Or)) AfterConjunction
+  right_of_disjunction = right_side level.Or s.Or binary.Or refl at_disjunction conjunction
+
+  pub disjunction : Reads (grammar.disjunction X) (reading.chain level.Or (reading.operand P level.Or)) AfterDisjunction
+  disjunction = chain level.Or s.Or binary.Or refl at_disjunction conjunction
 
 -- ---- brackets
 
@@ -176,7 +218,7 @@ module _ (X : Part → Rule Expression) (P : Part → Parser Expression) (reads 
   next_shuts : (k : ℕ) (found : List Expression) → Opens (grammar.next_part X k found) AfterWhole AfterWhole
   next_shuts k found = first (closes s.Comma refl refl refl)
 
-  next_parts : (k : ℕ) (a : Expression) → Reads (more (grammar.next_part X k) snoc (a ∷ [])) (while (sees s.Comma) (reading.next_part P k) snoc (a ∷ [])) (Past (sees s.Comma) AfterWhole)
+  pub next_parts : (k : ℕ) (a : Expression) → Reads (more (grammar.next_part X k) snoc (a ∷ [])) (while (sees s.Comma) (reading.next_part P k) snoc (a ∷ [])) (Past (sees s.Comma) AfterWhole)
   next_parts k a = loop {add = snoc} (sees_near s.Comma) (next_part k) (λ found. fills_first fills) (λ found. first (sign_has s.Comma)) (next_shuts k) (a ∷ [])
 
   pub vector : (k : ℕ) → Reads (grammar.vector X k) (reading.vector P k) Any
