@@ -1,5 +1,6 @@
 -- The tokens of a text: the longest sign or run of digits at each place, with spaces and tabs between them.
-use Rattle.std.specs.Prelude.{ℕ, zero, suc, ◌+◌, ◌-◌, ◌*◌, ◌==◌, ◌||◌, ◌&&◌, min, nat_lt, nat_le, Bool, true, false, List, [], ◌∷◌, length, codes, take_while, fold, Option, Some, None, if◌then◌else◌}
+use Rattle.std.specs.Prelude.{ℕ, zero, suc, ◌+◌, ◌-◌, ◌*◌, ◌==◌, ◌||◌, ◌&&◌, min, nat_eq, nat_lt, nat_le, Bool, true, false, List, [], ◌∷◌, length, codes, fold, Option, Some, None, if◌then◌else◌}
+use Rattle.std.specs.List.{starts_with, take_while, prefix_len}
 use Rattle.dx_expr_grammar.specs.declared.token.Token.{Token}
 use Rattle.dx_expr_grammar.specs.declared.token.TokenKind.{TokenKind}
 use Rattle.dx_expr_grammar.specs.declared.token.TokenKind.TheVariants as kind
@@ -52,15 +53,10 @@ signs =
     ∷ sign.Question ∷ sign.Colon ∷ sign.Less ∷ sign.Greater ∷ sign.Plus ∷ sign.Minus ∷ sign.Times ∷ sign.Over ∷ sign.Percent ∷ sign.Not
     ∷ sign.Dot ∷ sign.Dollar ∷ sign.Open ∷ sign.Close ∷ sign.OpenVector ∷ sign.CloseVector ∷ sign.Comma ∷ []
 
-abbrev pub begins : List ℕ → List ℕ → Bool
-begins [] text = true
-begins (c ∷ word) [] = false
-begins (c ∷ word) (b ∷ text) = (b == c) && begins word text
-
 -- the first of these signs with which the text begins
 abbrev pub first_of_signs : List Sign → List ℕ → Option Sign
 first_of_signs [] text = None
-first_of_signs (s ∷ more) text = if begins (spelling s) text then Some s else first_of_signs more text
+first_of_signs (s ∷ more) text = if starts_with nat_eq text (spelling s) then Some s else first_of_signs more text
 
 -- ---- digits
 
@@ -71,7 +67,7 @@ abbrev pub is_digit : ℕ → Bool
 is_digit b = nat_le 48 b && nat_le b 57
 
 abbrev pub with_digit : ℕ → ℕ → ℕ
-with_digit n b = n * 10 + (b - 48)
+with_digit n b = 10 * n + (b - 48)
 
 abbrev pub value_of : List ℕ → ℕ
 value_of digits = fold with_digit 0 digits
@@ -92,12 +88,13 @@ abbrev pub sign_piece : Option Sign → Piece
 sign_piece None = Unknown
 sign_piece (Some s) = Word (kind.Sign s) (length (spelling s) - 1)
 
-abbrev pub digits_piece : List ℕ → Piece
-digits_piece digits = Word (kind.Digits (min (value_of digits) beyond)) (length digits - 1)
+-- a run of digits, whose first is b
+abbrev pub digits_piece : ℕ → List ℕ → Piece
+digits_piece b rest = Word (kind.Digits (min (value_of (b ∷ take_while is_digit rest)) beyond)) (prefix_len is_digit rest)
 
 -- a text of at least one byte begins so
 abbrev pub piece : ℕ → List ℕ → Piece
-piece b rest = if is_blank b then Blank else (if is_digit b then digits_piece (b ∷ take_while is_digit rest) else sign_piece (first_of_signs signs (b ∷ rest)))
+piece b rest = if is_blank b then Blank else (if is_digit b then digits_piece b rest else sign_piece (first_of_signs signs (b ∷ rest)))
 
 abbrev pub further : Piece → ℕ
 further Blank = 0

@@ -4,3 +4,4 @@ pub mod Agreement
 pub mod Wider
 pub mod Nesting
 pub mod Exact
+pub mod Tokens

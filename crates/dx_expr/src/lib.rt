@@ -1,0 +1,6 @@
+//! Compute's expressions: a text is parsed to its tree.
+#![tactic(auto)]
+
+mod lexer;
+
+pub use dx_expr_grammar::{Binary, Boxed, ExprFail, Expression, Unary};
