@@ -1,1 +1,3 @@
 pub mod Lexer
+pub mod Shown
+pub mod Cursor

@@ -1,6 +1,8 @@
 //! Compute's expressions: a text is parsed to its tree.
 #![tactic(auto)]
 
+mod classes;
+mod cursor;
 mod lexer;
 
 pub use dx_expr_grammar::{Binary, Boxed, ExprFail, Expression, Unary};
