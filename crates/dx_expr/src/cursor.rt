@@ -1,6 +1,6 @@
 //! A cursor over the tokens of a text, with one token in hand.
 
-ghost use Rattle.std.specs.Prelude.{◌≡◌, ◌==◌, ◌<◌, ◌^◌, length, is_some};
+ghost use Rattle.std.specs.Prelude.{◌≡◌, ◌<◌, ◌≤◌, ◌^◌, length, OnOk, IfOk};
 ghost use Rattle.dx_grammar.specs.Stream as stream;
 ghost use Rattle.dx_expr_grammar.specs.Tokens.{tokens_of};
 ghost use Rattle.dx_expr_grammar.specs.Words as words;
@@ -69,7 +69,8 @@ impl<'a> Cursor<'a> {
 
     #[tactic(auto, unfolding(dx_expr_grammar::specs::Reading::sign))]
     pub fn sign(&mut self, sign: Sign) -> Result<u64, ExprFail>
-        ensures { Reads (spec.sign sign self.old) result self.new }
+        ensures reads { Reads (spec.sign sign self.old) result self.new }
+        ensures onward { OnOk result (length self.new.tokens < length self.old.tokens) }
     {
         match self.next {
             Next::Token(token) => match token.kind {
@@ -86,7 +87,9 @@ impl<'a> Cursor<'a> {
     /// Digits of at most this value.
     #[tactic(auto, unfolding(dx_expr_grammar::specs::Reading::digits))]
     pub fn digits(&mut self, most: u32) -> Result<u32, ExprFail>
-        ensures { Reads (spec.digits most self.old) result self.new }
+        ensures reads { Reads (spec.digits most self.old) result self.new }
+        ensures onward { OnOk result (length self.new.tokens < length self.old.tokens) }
+        ensures most { IfOk result (λ n. n ≤ most) }
     {
         match self.next {
             Next::Token(token) => match token.kind {
@@ -129,7 +132,8 @@ impl<'a> Cursor<'a> {
 
     #[tactic(auto, unfolding(dx_expr_grammar::specs::Reading::class))]
     pub fn operator(&mut self, level: Level) -> Result<Binary, ExprFail>
-        ensures { Reads (spec.class (words.operator_at level) self.old) result self.new }
+        ensures reads { Reads (spec.class (words.operator_at level) self.old) result self.new }
+        ensures onward { OnOk result (length self.new.tokens < length self.old.tokens) }
     {
         match self.next {
             Next::Token(token) => match token.kind {
@@ -162,7 +166,8 @@ impl<'a> Cursor<'a> {
 
     #[tactic(auto, unfolding(dx_expr_grammar::specs::Reading::class))]
     pub fn prefix(&mut self) -> Result<Unary, ExprFail>
-        ensures { Reads (spec.class words.prefix self.old) result self.new }
+        ensures reads { Reads (spec.class words.prefix self.old) result self.new }
+        ensures onward { OnOk result (length self.new.tokens < length self.old.tokens) }
     {
         match self.next {
             Next::Token(token) => match token.kind {
@@ -195,7 +200,8 @@ impl<'a> Cursor<'a> {
 
     #[tactic(auto, unfolding(dx_expr_grammar::specs::Reading::class))]
     pub fn one_operand(&mut self) -> Result<Unary, ExprFail>
-        ensures { Reads (spec.class words.one_operand self.old) result self.new }
+        ensures reads { Reads (spec.class words.one_operand self.old) result self.new }
+        ensures onward { OnOk result (length self.new.tokens < length self.old.tokens) }
     {
         match self.next {
             Next::Token(token) => match token.kind {
@@ -214,7 +220,8 @@ impl<'a> Cursor<'a> {
 
     #[tactic(auto, unfolding(dx_expr_grammar::specs::Reading::class))]
     pub fn two_operands(&mut self) -> Result<Binary, ExprFail>
-        ensures { Reads (spec.class words.two_operands self.old) result self.new }
+        ensures reads { Reads (spec.class words.two_operands self.old) result self.new }
+        ensures onward { OnOk result (length self.new.tokens < length self.old.tokens) }
     {
         match self.next {
             Next::Token(token) => match token.kind {

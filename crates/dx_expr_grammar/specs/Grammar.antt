@@ -103,10 +103,10 @@ part = do
 
 -- ---- brackets
 
--- what an opening sign begins, where this many brackets may still open; the sign of one more is refused
-unfoldable pub within : {A : Type 0} → Sign → (ℕ → Rule A) → ℕ → Rule A
-within opening inside zero = sign opening >>= λ at. refused at
-within opening inside (suc brackets) = sign opening >> inside brackets
+-- an opening sign where this many brackets may still open, and how many may open within; the sign of one more is refused
+unfoldable pub opening : Sign → ℕ → Rule ℕ
+opening x zero = sign x >>= λ at. refused at
+opening x (suc inner) = sign x >> nothing inner
 
 -- the parts of the grammar that speak of themselves, each where so many brackets may still open:
 -- whole expressions, and operands with the signs before them
@@ -118,7 +118,11 @@ pub data Part : Type 0 where
 module _ (X : Part → Rule Expression) where
   -- '(' expression ')'
   abbrev pub group : ℕ → Rule Expression
-  group brackets = within s.Open (λ inner. do a ← X (Whole inner); sign s.Close; nothing a) brackets
+  group brackets = do
+    inner ← opening s.Open brackets
+    a ← X (Whole inner)
+    sign s.Close
+    nothing a
 
   -- ',' expression; the comma before the 257th part is refused
   abbrev pub next_part : ℕ → List Expression → Rule Expression
@@ -129,19 +133,32 @@ module _ (X : Part → Rule Expression) where
 
   -- '[' expression { ',' expression } ']'
   abbrev pub vector : ℕ → Rule Expression
-  vector brackets = within s.OpenVector (λ inner. do a ← X (Whole inner); parts ← more (next_part inner) snoc (a ∷ []); sign s.CloseVector; nothing (e.Vector parts)) brackets
+  vector brackets = do
+    inner ← opening s.OpenVector brackets
+    a ← X (Whole inner)
+    parts ← more (next_part inner) snoc (a ∷ [])
+    sign s.CloseVector
+    nothing (e.Vector parts)
 
   -- ( 'abs' | 'sign' ) '(' expression ')'
   abbrev pub function_of_one : ℕ → Rule Expression
   function_of_one brackets = do
     f ← class one_operand
-    within s.Open (λ inner. do a ← X (Whole inner); sign s.Close; nothing (e.Unary f a)) brackets
+    inner ← opening s.Open brackets
+    a ← X (Whole inner)
+    sign s.Close
+    nothing (e.Unary f a)
 
   -- ( 'min' | 'max' | 'dot' ) '(' expression ',' expression ')'
   abbrev pub function_of_two : ℕ → Rule Expression
   function_of_two brackets = do
     f ← class two_operands
-    within s.Open (λ inner. do a ← X (Whole inner); sign s.Comma; b ← X (Whole inner); sign s.Close; nothing (e.Binary f a b)) brackets
+    inner ← opening s.Open brackets
+    a ← X (Whole inner)
+    sign s.Comma
+    b ← X (Whole inner)
+    sign s.Close
+    nothing (e.Binary f a b)
 
   abbrev pub primary : ℕ → Rule Expression
   primary brackets = number ∣ input ∣ group brackets ∣ vector brackets ∣ function_of_one brackets ∣ function_of_two brackets

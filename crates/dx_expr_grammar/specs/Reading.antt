@@ -85,9 +85,9 @@ disjunction signed = chain level.Or (operand signed level.Or)
 
 -- ---- brackets
 
-unfoldable pub within : {A : Type 0} → Sign → (ℕ → Parser A) → ℕ → Parser A
-within opening inside zero = sign opening >>= λ at. fail at
-within opening inside (suc brackets) = sign opening >> inside brackets
+unfoldable pub opening : Sign → ℕ → Parser ℕ
+opening x zero = sign x >>= λ at. fail at
+opening x (suc inner) = sign x >> pure inner
 
 unfoldable pub number : Parser Expression
 number = do
@@ -111,7 +111,11 @@ parts a = while (sees s.Dot) (λ found. part) e.Part a
 -- over how the parts of the grammar are read
 module _ (P : Part → Parser Expression) where
   unfoldable pub group : ℕ → Parser Expression
-  group brackets = within s.Open (λ inner. do a ← P (Whole inner); sign s.Close; pure a) brackets
+  group brackets = do
+    inner ← opening s.Open brackets
+    a ← P (Whole inner)
+    sign s.Close
+    pure a
 
   unfoldable pub next_part : ℕ → List Expression → Parser Expression
   next_part brackets found = do
@@ -120,17 +124,30 @@ module _ (P : Part → Parser Expression) where
     P (Whole brackets)
 
   unfoldable pub vector : ℕ → Parser Expression
-  vector brackets = within s.OpenVector (λ inner. do a ← P (Whole inner); parts ← while (sees s.Comma) (next_part inner) snoc (a ∷ []); sign s.CloseVector; pure (e.Vector parts)) brackets
+  vector brackets = do
+    inner ← opening s.OpenVector brackets
+    a ← P (Whole inner)
+    parts ← while (sees s.Comma) (next_part inner) snoc (a ∷ [])
+    sign s.CloseVector
+    pure (e.Vector parts)
 
   unfoldable pub function_of_one : ℕ → Parser Expression
   function_of_one brackets = do
     f ← class one_operand
-    within s.Open (λ inner. do a ← P (Whole inner); sign s.Close; pure (e.Unary f a)) brackets
+    inner ← opening s.Open brackets
+    a ← P (Whole inner)
+    sign s.Close
+    pure (e.Unary f a)
 
   unfoldable pub function_of_two : ℕ → Parser Expression
   function_of_two brackets = do
     f ← class two_operands
-    within s.Open (λ inner. do a ← P (Whole inner); sign s.Comma; b ← P (Whole inner); sign s.Close; pure (e.Binary f a b)) brackets
+    inner ← opening s.Open brackets
+    a ← P (Whole inner)
+    sign s.Comma
+    b ← P (Whole inner)
+    sign s.Close
+    pure (e.Binary f a b)
 
   unfoldable pub primary : ℕ → Parser Expression
   primary brackets =

@@ -5,3 +5,4 @@ pub mod Wider
 pub mod Nesting
 pub mod Exact
 pub mod Tokens
+pub mod Loops

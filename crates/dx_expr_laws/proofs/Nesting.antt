@@ -35,15 +35,13 @@ use Rattle.dx_expr_laws.proofs.Wider.{Wider, wider_refl, wider_trans, wider_then
 sign_shrinks : (x : Sign) → Shrinks (reading.sign x)
 sign_shrinks x = less (sign x) fills
 
-within_agree : {A : Type 0} {n : ℕ} (P Q : ℕ → Parser A) (x : Sign) → ((k : ℕ) → Agree n (P k) (Q k)) → (k : ℕ) → Agree (suc n) (reading.within x P k) (reading.within x Q k)
-unfolding reading.within
-within_agree P Q x inside zero = agree_refl
-within_agree P Q x inside (suc k) = agree_behind (sign_shrinks x) (λ _. inside k)
+opening_shrinks : (x : Sign) (k : ℕ) → Shrinks (reading.opening x k)
+opening_shrinks x k = less (productions.opening x k) (productions.opening_fills x k)
 
 module _ (n : ℕ) (X : Part → Rule Expression) (P Q : Part → Parser Expression) (reads : (p : Part) → Reads (X p) (P p) (After p)) (same : (p : Part) → Agree n (P p) (Q p)) where
   group_agree : (k : ℕ) → Agree (suc n) (reading.group P k) (reading.group Q k)
   unfolding reading.group
-  group_agree k = within_agree _ _ s.Open (λ inner. agree_then (keeps (reads (Whole inner))) (same (Whole inner)) (λ a. agree_refl)) k
+  group_agree k = agree_behind (opening_shrinks s.Open k) (λ inner. agree_then (keeps (reads (Whole inner))) (same (Whole inner)) (λ a. agree_refl))
 
   next_agree : (k : ℕ) (found : List Expression) → Agree (suc n) (reading.next_part P k found) (reading.next_part Q k found)
   unfolding reading.next_part
@@ -51,17 +49,17 @@ module _ (n : ℕ) (X : Part → Rule Expression) (P Q : Part → Parser Express
 
   vector_agree : (k : ℕ) → Agree (suc n) (reading.vector P k) (reading.vector Q k)
   unfolding reading.vector
-  vector_agree k = within_agree _ _ s.OpenVector (λ inner. agree_then (keeps (reads (Whole inner))) (same (Whole inner)) (λ a.
-      agree_then (keeps (productions.next_parts X P reads inner a)) (agree_while _ _ (λ found. keeps (productions.next_part X P reads inner found)) (λ found. agree_less (next_agree inner found)) (a ∷ [])) (λ found. agree_refl))) k
+  vector_agree k = agree_behind (opening_shrinks s.OpenVector k) (λ inner. agree_then (keeps (reads (Whole inner))) (same (Whole inner)) (λ a.
+      agree_then (keeps (productions.next_parts X P reads inner a)) (agree_while _ _ (λ found. keeps (productions.next_part X P reads inner found)) (λ found. agree_less (next_agree inner found)) (a ∷ [])) (λ found. agree_refl)))
 
   one_agree : (k : ℕ) → Agree (suc n) (reading.function_of_one P k) (reading.function_of_one Q k)
   unfolding reading.function_of_one
-  one_agree k = agree_behind (less (class one_operand s.Abs unary.Absolute refl) fills) (λ f. agree_less (within_agree _ _ s.Open (λ inner. agree_then (keeps (reads (Whole inner))) (same (Whole inner)) (λ a. agree_refl)) k))
+  one_agree k = agree_behind (less (class one_operand s.Abs unary.Absolute refl) fills) (λ f. agree_then (keeps (productions.opening s.Open k)) agree_refl (λ inner. agree_then (keeps (reads (Whole inner))) (same (Whole inner)) (λ a. agree_refl)))
 
   two_agree : (k : ℕ) → Agree (suc n) (reading.function_of_two P k) (reading.function_of_two Q k)
   unfolding reading.function_of_two
-  two_agree k = agree_behind (less (class two_operands s.Min binary.Minimum refl) fills) (λ f. agree_less (within_agree _ _ s.Open (λ inner.
-      agree_then (keeps (reads (Whole inner))) (same (Whole inner)) (λ a. agree_then (keeps (sign s.Comma)) agree_refl (λ _. agree_then (keeps (reads (Whole inner))) (same (Whole inner)) (λ b. agree_refl)))) k))
+  two_agree k = agree_behind (less (class two_operands s.Min binary.Minimum refl) fills) (λ f. agree_then (keeps (productions.opening s.Open k)) agree_refl (λ inner.
+      agree_then (keeps (reads (Whole inner))) (same (Whole inner)) (λ a. agree_then (keeps (sign s.Comma)) agree_refl (λ _. agree_then (keeps (reads (Whole inner))) (same (Whole inner)) (λ b. agree_refl)))))
 
   primary_agree : (k : ℕ) → Agree (suc n) (reading.primary P k) (reading.primary Q k)
   unfolding reading.primary
@@ -153,12 +151,13 @@ reading_next p s =
     (production_agree (length s.tokens) (grammar.nested (length s.tokens)) (reading.nested (length s.tokens)) reading.reading (nested_reads (length s.tokens))
         (λ q. record { same = λ u short. sym (enough (length s.tokens) q u short) }) p).same s (omega arith)
 
--- ---- more steps say more
+pub whole_next : (k : ℕ) (s : Tokens) → reading.reading (Whole k) s ≡ reading.whole reading.reading k s
+whole_next k s = reading_next (Whole k) s
 
-within_wider : {A : Type 0} (X Y : ℕ → Rule A) (x : Sign) → ((k : ℕ) → Wider (X k) (Y k)) → (k : ℕ) → Wider (grammar.within x X k) (grammar.within x Y k)
-unfolding grammar.within
-within_wider X Y x inside zero = wider_refl
-within_wider X Y x inside (suc k) = wider_then wider_refl (λ _. inside k)
+pub signed_next : (k : ℕ) (s : Tokens) → reading.reading (Signed k) s ≡ reading.signed reading.reading k s
+signed_next k s = reading_next (Signed k) s
+
+-- ---- more steps say more
 
 right_wider : {X Y : Rule Expression} (l : Level) → Wider X Y → Wider (grammar.right_side l X) (grammar.right_side l Y)
 right_wider l w = wider_then wider_refl (λ o. wider_then w (λ b. wider_refl))
@@ -179,10 +178,10 @@ module _ (X Y : Part → Rule Expression) (w : (p : Part) → Wider (X p) (Y p))
   primary_wider : (k : ℕ) → Wider (grammar.primary X k) (grammar.primary Y k)
   primary_wider k =
       wider_either wider_refl (wider_either wider_refl
-      (wider_either (within_wider _ _ s.Open (λ inner. wider_then (w (Whole inner)) (λ a. wider_refl)) k)
-      (wider_either (within_wider _ _ s.OpenVector (λ inner. wider_then (w (Whole inner)) (λ a. wider_then (wider_more {add = snoc} (next_wider inner) (a ∷ [])) (λ found. wider_refl))) k)
-      (wider_either (wider_then wider_refl (λ f. within_wider _ _ s.Open (λ inner. wider_then (w (Whole inner)) (λ a. wider_refl)) k))
-      (wider_then wider_refl (λ f. within_wider _ _ s.Open (λ inner. wider_then (w (Whole inner)) (λ a. wider_then wider_refl (λ _. wider_then (w (Whole inner)) (λ b. wider_refl)))) k))))))
+      (wider_either (wider_then wider_refl (λ inner. wider_then (w (Whole inner)) (λ a. wider_refl)))
+      (wider_either (wider_then wider_refl (λ inner. wider_then (w (Whole inner)) (λ a. wider_then (wider_more {add = snoc} (next_wider inner) (a ∷ [])) (λ found. wider_refl))))
+      (wider_either (wider_then wider_refl (λ f. wider_then wider_refl (λ inner. wider_then (w (Whole inner)) (λ a. wider_refl))))
+      (wider_then wider_refl (λ f. wider_then wider_refl (λ inner. wider_then (w (Whole inner)) (λ a. wider_then wider_refl (λ _. wider_then (w (Whole inner)) (λ b. wider_refl))))))))))
 
   signed_wider : (k : ℕ) → Wider (grammar.signed X k) (grammar.signed Y k)
   signed_wider k = wider_either (wider_then wider_refl (λ o. wider_then (w (Signed k)) (λ a. wider_refl))) (wider_then (primary_wider k) (λ a. wider_refl))

@@ -196,20 +196,25 @@ module _ {X : Rule Expression} {P : Parser Expression} (signed : Reads X P After
 
 -- ---- brackets
 
-within : {A : Type 0} {X : ℕ → Rule A} {P : ℕ → Parser A} {Stop : Tokens → Type 0} (x : Sign) → ((k : ℕ) → Reads (X k) (P k) Stop) → (k : ℕ) → Reads (grammar.within x X k) (reading.within x P k) Stop
-unfolding grammar.within reading.within
-within x inside zero = next (sign x) (λ at. refuses)
-within x inside (suc k) = next (sign x) (λ _. inside k)
+pub opening : (x : Sign) (k : ℕ) → Reads (grammar.opening x k) (reading.opening x k) Any
+unfolding grammar.opening reading.opening
+opening x zero = next (sign x) (λ at. refuses)
+opening x (suc k) = next (sign x) (λ _. done)
 
-opens_within : {A : Type 0} (X : ℕ → Rule A) {Stop Q : Tokens → Type 0} (x : Sign) → Opens (grammar.sign x) Any Q → (k : ℕ) → Opens (grammar.within x X k) Stop Q
-unfolding grammar.within
-opens_within X x opens zero = first opens
-opens_within X x opens (suc k) = first opens
+opens_with : {Stop Q : Tokens → Type 0} (x : Sign) → Opens (grammar.sign x) Any Q → (k : ℕ) → Opens (grammar.opening x k) Stop Q
+unfolding grammar.opening
+opens_with x opens zero = first opens
+opens_with x opens (suc k) = first opens
+
+pub opening_fills : (x : Sign) (k : ℕ) → Fills (grammar.opening x k)
+unfolding grammar.opening
+opening_fills x zero = fills_first fills
+opening_fills x (suc k) = fills_first fills
 
 module _ (X : Part → Rule Expression) (P : Part → Parser Expression) (reads : (p : Part) → Reads (X p) (P p) (After p)) where
   pub group : (k : ℕ) → Reads (grammar.group X k) (reading.group P k) Any
   unfolding reading.group
-  group k = within s.Open (λ inner. after (reads (Whole inner)) (λ a. first (closes s.Close refl refl refl)) (λ a. next (sign s.Close) (λ _. done))) k
+  group k = next (opening s.Open k) (λ inner. after (reads (Whole inner)) (λ a. first (closes s.Close refl refl refl)) (λ a. next (sign s.Close) (λ _. done)))
 
   pub next_part : (k : ℕ) (found : List Expression) → Reads (grammar.next_part X k found) (reading.next_part P k found) AfterWhole
   unfolding reading.next_part
@@ -223,30 +228,30 @@ module _ (X : Part → Rule Expression) (P : Part → Parser Expression) (reads 
 
   pub vector : (k : ℕ) → Reads (grammar.vector X k) (reading.vector P k) Any
   unfolding reading.vector
-  vector k = within s.OpenVector (λ inner. after (reads (Whole inner))
+  vector k = next (opening s.OpenVector k) (λ inner. after (reads (Whole inner))
       (λ a. second (more_opens {add = snoc} (next_shuts inner) (λ u h. h.1) (λ u h. h.1) (next_shuts inner) (a ∷ [])) (λ found. first (twice (sign_lacks s.CloseVector s.Comma refl) (closes s.CloseVector refl refl refl))))
-      (λ a. after (next_parts inner a) (λ found. first (twice (sign_lacks s.CloseVector s.Comma refl) (closes s.CloseVector refl refl refl))) (λ found. next (sign s.CloseVector) (λ _. done)))) k
+      (λ a. after (next_parts inner a) (λ found. first (twice (sign_lacks s.CloseVector s.Comma refl) (closes s.CloseVector refl refl refl))) (λ found. next (sign s.CloseVector) (λ _. done))))
 
   pub function_of_one : (k : ℕ) → Reads (grammar.function_of_one X k) (reading.function_of_one P k) Any
   unfolding reading.function_of_one
-  function_of_one k = next (class one_operand s.Abs unary.Absolute refl) (λ f. within s.Open (λ inner. after (reads (Whole inner)) (λ a. first (closes s.Close refl refl refl)) (λ a. next (sign s.Close) (λ _. done))) k)
+  function_of_one k = next (class one_operand s.Abs unary.Absolute refl) (λ f. next (opening s.Open k) (λ inner. after (reads (Whole inner)) (λ a. first (closes s.Close refl refl refl)) (λ a. next (sign s.Close) (λ _. done))))
 
   pub function_of_two : (k : ℕ) → Reads (grammar.function_of_two X k) (reading.function_of_two P k) Any
   unfolding reading.function_of_two
-  function_of_two k = next (class two_operands s.Min binary.Minimum refl) (λ f. within s.Open (λ inner.
+  function_of_two k = next (class two_operands s.Min binary.Minimum refl) (λ f. next (opening s.Open k) (λ inner.
       after (reads (Whole inner)) (λ a. first (closes s.Comma refl refl refl)) (λ a. next (sign s.Comma) (λ _.
-      after (reads (Whole inner)) (λ b. first (closes s.Close refl refl refl)) (λ b. next (sign s.Close) (λ _. done))))) k)
+      after (reads (Whole inner)) (λ b. first (closes s.Close refl refl refl)) (λ b. next (sign s.Close) (λ _. done))))))
 
   pub primary : (k : ℕ) → Reads (grammar.primary X k) (reading.primary P k) Any
   unfolding reading.primary
   primary k =
       either digits_near (first (digits_digits 2147483647)) number
-      (both (first (sign_digits s.Dollar)) (both (opens_within _ s.Open (sign_digits s.Open) k) (both (opens_within _ s.OpenVector (sign_digits s.OpenVector) k) (both (first (class_digits one_operand)) (first (class_digits two_operands))))))
+      (both (first (sign_digits s.Dollar)) (both (first (opens_with s.Open (sign_digits s.Open) k)) (both (first (opens_with s.OpenVector (sign_digits s.OpenVector) k)) (both (first (class_digits one_operand)) (first (class_digits two_operands))))))
       (either (sees_near s.Dollar) (first (sign_has s.Dollar)) input
-      (both (opens_within _ s.Open (sign_lacks s.Open s.Dollar refl) k) (both (opens_within _ s.OpenVector (sign_lacks s.OpenVector s.Dollar refl) k) (both (first (class_lacks one_operand s.Dollar refl)) (first (class_lacks two_operands s.Dollar refl)))))
-      (either (sees_near s.Open) (opens_within _ s.Open (sign_has s.Open) k) (group k)
-      (both (opens_within _ s.OpenVector (sign_lacks s.OpenVector s.Open refl) k) (both (first (class_lacks one_operand s.Open refl)) (first (class_lacks two_operands s.Open refl))))
-      (either (sees_near s.OpenVector) (opens_within _ s.OpenVector (sign_has s.OpenVector) k) (vector k)
+      (both (first (opens_with s.Open (sign_lacks s.Open s.Dollar refl) k)) (both (first (opens_with s.OpenVector (sign_lacks s.OpenVector s.Dollar refl) k)) (both (first (class_lacks one_operand s.Dollar refl)) (first (class_lacks two_operands s.Dollar refl)))))
+      (either (sees_near s.Open) (first (opens_with s.Open (sign_has s.Open) k)) (group k)
+      (both (first (opens_with s.OpenVector (sign_lacks s.OpenVector s.Open refl) k)) (both (first (class_lacks one_operand s.Open refl)) (first (class_lacks two_operands s.Open refl))))
+      (either (sees_near s.OpenVector) (first (opens_with s.OpenVector (sign_has s.OpenVector) k)) (vector k)
       (both (first (class_lacks one_operand s.OpenVector refl)) (first (class_lacks two_operands s.OpenVector refl)))
       (either (class_near one_operand) (first (class_has one_operand)) (function_of_one k)
       (first (class_unlike two_operands one_operand refl))
@@ -257,8 +262,8 @@ module _ (X : Part → Rule Expression) (P : Part → Parser Expression) (reads 
   postfix k = next (primary k) (λ a. parts a)
 
   postfix_unlike : (k : ℕ) → Opens (grammar.postfix X k) AfterSigned (λ u. sees_class prefix u ≡ false)
-  postfix_unlike k = first (both (first (digits_unlike 2147483647 prefix)) (both (first (sign_unlike s.Dollar prefix refl)) (both (opens_within _ s.Open (sign_unlike s.Open prefix refl) k)
-      (both (opens_within _ s.OpenVector (sign_unlike s.OpenVector prefix refl) k) (both (first (class_unlike one_operand prefix refl)) (first (class_unlike two_operands prefix refl)))))))
+  postfix_unlike k = first (both (first (digits_unlike 2147483647 prefix)) (both (first (sign_unlike s.Dollar prefix refl)) (both (first (opens_with s.Open (sign_unlike s.Open prefix refl) k))
+      (both (first (opens_with s.OpenVector (sign_unlike s.OpenVector prefix refl) k)) (both (first (class_unlike one_operand prefix refl)) (first (class_unlike two_operands prefix refl)))))))
 
   pub signed : (k : ℕ) → Reads (grammar.signed X k) (reading.signed P k) AfterSigned
   unfolding reading.signed
