@@ -8,3 +8,6 @@ mod parser;
 
 pub use dx_expr_grammar::{Binary, Boxed, ExprFail, Expression, Unary};
 pub use parser::parse_expr;
+
+#[cfg(test)]
+mod tests;
