@@ -2,3 +2,5 @@ pub mod Lexer
 pub mod Shown
 pub mod Cursor
 pub mod Answer
+pub mod Shape
+pub mod Value

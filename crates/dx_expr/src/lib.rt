@@ -3,10 +3,12 @@
 
 mod classes;
 mod cursor;
+mod fault;
 mod lexer;
 mod parser;
 
 pub use dx_expr_grammar::{Binary, Boxed, ExprFail, Expression, Unary};
+pub use fault::ItemFault;
 pub use parser::parse_expr;
 
 #[cfg(test)]

@@ -1,0 +1,158 @@
+-- The values of an item of an expression.
+use Rattle.std.specs.Prelude.{ℕ, zero, suc, ◌==◌, ◌*◌, Bool, true, false, not, ◌&&◌, ◌||◌, List, [], ◌∷◌, ◌++◌, length, map, Result, Ok, Err, if◌then◌else◌, ℤ, pos, negsuc, ◌+ℤ◌, ◌-ℤ◌, ◌*ℤ◌, neg_ℤ, unsigned_abs, int_lt, int_le, int_div, int_rem, nat_lt}
+use Rattle.std.specs.List.{range_with_len}
+use Rattle.std.specs.Int.{int_min, int_max, int_signum}
+use Rattle.std.specs.Ordering.{int_eq}
+use Rattle.dx_expr_grammar.specs.declared.tree.Unary.{Unary}
+use Rattle.dx_expr_grammar.specs.declared.tree.Unary.TheVariants as unary
+use Rattle.dx_expr_grammar.specs.declared.tree.Binary.{Binary}
+use Rattle.dx_expr_grammar.specs.declared.tree.Binary.TheVariants as binary
+use Rattle.dx_expr_grammar.specs.declared.tree.Expression.{Expression}
+use Rattle.dx_expr_grammar.specs.declared.tree.Expression.TheOpen.{Expression-F}
+use Rattle.dx_expr_grammar.specs.declared.tree.Expression.TheFolds.{fold-Expression}
+use Rattle.dx_expr.specs.declared.fault.ItemFault.{ItemFault}
+use Rattle.dx_expr.specs.declared.fault.ItemFault.TheVariants.{Overflow, DivisionByZero}
+use Rattle.dx_expr.specs.Shape.{Shape}
+
+-- something, or the fault for which there is none
+abbrev pub Outcome : Type 0 → Type 0
+Outcome A = Result A ItemFault
+
+infixl 10 ◌>>=◌
+abbrev pub ◌>>=◌ : {A B : Type 0} → Outcome A → (A → Outcome B) → Outcome B
+Ok a >>= f = f a
+Err fault >>= f = Err fault
+
+-- ---- single values
+
+abbrev pub is_int : ℤ → Bool
+is_int (pos n) = nat_lt n 2147483648
+is_int (negsuc n) = nat_lt n 2147483648
+
+-- a value that lies in the int range
+abbrev pub checked : ℤ → Outcome ℤ
+checked v = if is_int v then Ok v else Err Overflow
+
+abbrev pub is_zero : ℤ → Bool
+is_zero v = int_eq v (pos 0)
+
+abbrev pub truth : Bool → ℤ
+truth b = if b then pos 1 else pos 0
+
+abbrev pub unary_value : Unary → ℤ → Outcome ℤ
+unary_value unary.Negate v = checked (neg_ℤ v)
+unary_value unary.Not v = Ok (truth (is_zero v))
+unary_value unary.Absolute v = checked (pos (unsigned_abs v))
+unary_value unary.Sign v = Ok (int_signum v)
+
+-- towards zero
+abbrev pub quotient : ℤ → ℤ → Outcome ℤ
+quotient a b = if is_zero b then Err DivisionByZero else checked (int_div a b)
+
+-- what the quotient leaves
+abbrev pub remainder : ℤ → ℤ → Outcome ℤ
+remainder a b = if is_zero b then Err DivisionByZero else checked (int_rem a b)
+
+-- an operator that looks at two single values
+abbrev pub binary_value : Binary → ℤ → ℤ → Outcome ℤ
+binary_value binary.Or a b = Ok (truth (not (is_zero a && is_zero b)))
+binary_value binary.And a b = Ok (truth (not (is_zero a || is_zero b)))
+binary_value binary.Equal a b = Ok (truth (int_eq a b))
+binary_value binary.NotEqual a b = Ok (truth (not (int_eq a b)))
+binary_value binary.Less a b = Ok (truth (int_lt a b))
+binary_value binary.LessEqual a b = Ok (truth (int_le a b))
+binary_value binary.Greater a b = Ok (truth (int_lt b a))
+binary_value binary.GreaterEqual a b = Ok (truth (int_le b a))
+binary_value binary.Add a b = checked (a +ℤ b)
+binary_value binary.Subtract a b = checked (a -ℤ b)
+binary_value binary.Multiply a b = checked (a *ℤ b)
+binary_value binary.Divide a b = quotient a b
+binary_value binary.Remainder a b = remainder a b
+binary_value binary.Minimum a b = Ok (int_min a b)
+binary_value binary.Maximum a b = Ok (int_max a b)
+binary_value binary.Dot a b = checked (a *ℤ b)
+
+-- ---- lists of values, the last extent varying fastest
+
+abbrev pub Values : Type 0
+Values = List ℤ
+
+-- each of them, in order
+abbrev pub each : {A : Type 0} → (A → Outcome ℤ) → List A → Outcome Values
+each f [] = Ok []
+each f (a ∷ rest) = f a >>= λ v. each f rest >>= λ vs. Ok (v ∷ vs)
+
+-- the values that stand beside one another; a single one stands beside each of the other side
+abbrev pub zipped : Values → Values → List (ℤ × ℤ)
+zipped [] bs = []
+zipped (a ∷ as_) [] = []
+zipped (a ∷ as_) (b ∷ bs) = (a, b) ∷ zipped as_ bs
+
+abbrev pub pairs : Values → Values → List (ℤ × ℤ)
+pairs (a ∷ []) bs = map (λ b. (a, b)) bs
+pairs as_ (b ∷ []) = map (λ a. (a, b)) as_
+pairs as_ bs = zipped as_ bs
+
+-- the value of a single one
+abbrev pub the_value : Values → ℤ
+the_value [] = pos 0
+the_value (v ∷ rest) = v
+
+-- ---- expressions
+
+-- the inputs: the shape of each, and its values by item and place
+pub record Inputs : Type 0 where
+  pub shape : ℕ → Shape
+  pub value : ℕ → ℕ → ℕ → ℤ
+
+-- how many values an item has
+abbrev pub size : Shape → ℕ
+size [] = 1
+size (n ∷ a) = n * size a
+
+-- all values of an item of an input
+abbrev pub input_values : Inputs → ℕ → ℕ → Outcome Values
+input_values inputs item k = each (λ place. checked (inputs.value k item place)) (range_with_len 0 (size (inputs.shape k)))
+
+-- the left operand, the right one, and then the operator on their values in order
+abbrev pub by_value : (ℤ → ℤ → Outcome ℤ) → Outcome Values → Outcome Values → Outcome Values
+by_value f a b = a >>= λ x. b >>= λ y. each (λ (p : ℤ × ℤ). f p.0 p.1) (pairs x y)
+
+-- products added from the left to this sum
+abbrev pub dot_from : ℤ → List (ℤ × ℤ) → Outcome ℤ
+dot_from sum [] = Ok sum
+dot_from sum (p ∷ rest) = checked (p.0 *ℤ p.1) >>= λ product. checked (sum +ℤ product) >>= λ more. dot_from more rest
+
+abbrev pub alone : ℤ → Outcome Values
+alone v = Ok (v ∷ [])
+
+-- the right side is looked at where the left one doesn't decide, and where both sides are the operator is on values
+abbrev pub binary_values : Binary → Outcome Values → Outcome Values → Outcome Values
+binary_values binary.Or a b = a >>= λ x. if is_zero (the_value x) then (b >>= λ y. alone (truth (not (is_zero (the_value y))))) else alone (pos 1)
+binary_values binary.And a b = a >>= λ x. if is_zero (the_value x) then alone (pos 0) else (b >>= λ y. alone (truth (not (is_zero (the_value y)))))
+binary_values binary.Dot a b = a >>= λ x. b >>= λ y. dot_from (pos 0) (zipped x y) >>= alone
+binary_values o a b = by_value (binary_value o) a b
+
+-- the values of the parts, one after the other
+abbrev pub joined : List (Outcome Values) → Outcome Values
+joined [] = Ok []
+joined (a ∷ rest) = a >>= λ x. joined rest >>= λ xs. Ok (x ++ xs)
+
+abbrev pub part_value : Values → ℕ → ℤ
+part_value [] k = pos 0
+part_value (v ∷ rest) zero = v
+part_value (v ∷ rest) (suc k) = part_value rest k
+
+-- the values of an item of an expression, from those of its parts
+abbrev pub value_step : Inputs → ℕ → Expression-F (Outcome Values) → Outcome Values
+value_step inputs item (Expression-F.Number n) = alone (pos n)
+value_step inputs item (Expression-F.Input k) = input_values inputs item k
+value_step inputs item (Expression-F.Unary o a) = a >>= each (unary_value o)
+value_step inputs item (Expression-F.Binary o a b) = binary_values o a b
+value_step inputs item (Expression-F.Choice c a b) = c >>= λ x. if is_zero (the_value x) then b else a
+value_step inputs item (Expression-F.Part a k) = a >>= λ x. alone (part_value x k)
+value_step inputs item (Expression-F.Vector parts) = joined parts
+
+-- The values of an item of an expression whose shapes fit, in order, or its first fault.
+unfoldable pub value_of : Inputs → ℕ → Expression → Outcome Values
+value_of inputs item = fold-Expression (Outcome Values) (value_step inputs item)
