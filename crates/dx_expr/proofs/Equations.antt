@@ -9,7 +9,7 @@ use Rattle.dx_expr_grammar.specs.declared.tree.Expression.TheVariants.{rolls-Num
 use Rattle.dx_expr_grammar.specs.declared.tree.Expression.TheOpen.{Expression-F}
 use Rattle.dx_expr_grammar.specs.declared.tree.Expression.TheFolds.{fold-roll-Expression}
 use Rattle.dx_expr.specs.Shape.{Shape, shape_of, shape_step, single, unary_shape, binary_shape, choice_shape, part_shape, with_one, with_two, all_single}
-use Rattle.dx_expr.specs.Value.{Inputs, Outcome, Values, value_of, value_step, input_values, binary_values, joined, part_value, the_value, is_zero, alone, unary_value, each, ◌>>=◌}
+use Rattle.dx_expr.specs.Value.{Inputs, Outcome, Values, value_of, value_step, input_values, binary_values, joined, part_value, the_value, is_zero, alone, checked, unary_value, each, ◌>>=◌}
 
 module _ (inputs : ℕ → Shape) where
   pub shape_number : (n : ℕ) → shape_of inputs (e.Number n) ≡ Some []
@@ -41,7 +41,7 @@ module _ (inputs : ℕ → Shape) where
   shape_vector parts = ap (shape_of inputs) (sym (rolls-Vector parts)) ∙ fold-roll-Expression (Option Shape) (shape_step inputs) (Expression-F.Vector parts)
 
 module _ (inputs : Inputs) (item : ℕ) where
-  pub value_number : (n : ℕ) → value_of inputs item (e.Number n) ≡ alone (pos n)
+  pub value_number : (n : ℕ) → value_of inputs item (e.Number n) ≡ (checked (pos n) >>= alone)
   unfolding value_of
   value_number n = ap (value_of inputs item) (sym (rolls-Number n)) ∙ fold-roll-Expression (Outcome Values) (value_step inputs item) (Expression-F.Number n)
 

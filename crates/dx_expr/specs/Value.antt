@@ -145,7 +145,7 @@ part_value (v ∷ rest) (suc k) = part_value rest k
 
 -- the values of an item of an expression, from those of its parts
 abbrev pub value_step : Inputs → ℕ → Expression-F (Outcome Values) → Outcome Values
-value_step inputs item (Expression-F.Number n) = alone (pos n)
+value_step inputs item (Expression-F.Number n) = checked (pos n) >>= alone
 value_step inputs item (Expression-F.Input k) = input_values inputs item k
 value_step inputs item (Expression-F.Unary o a) = a >>= each (unary_value o)
 value_step inputs item (Expression-F.Binary o a b) = binary_values o a b

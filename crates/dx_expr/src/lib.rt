@@ -5,6 +5,7 @@ mod classes;
 mod cursor;
 mod fault;
 mod lexer;
+mod operators;
 mod parser;
 
 pub use dx_expr_grammar::{Binary, Boxed, ExprFail, Expression, Unary};
