@@ -8,7 +8,7 @@ use Rattle.dx_expr_grammar.specs.declared.tree.Expression.TheVariants as e
 use Rattle.dx_expr_grammar.specs.declared.tree.Expression.TheVariants.{rolls-Number, rolls-Input, rolls-Unary, rolls-Binary, rolls-Choice, rolls-Part, rolls-Vector}
 use Rattle.dx_expr_grammar.specs.declared.tree.Expression.TheOpen.{Expression-F}
 use Rattle.dx_expr_grammar.specs.declared.tree.Expression.TheFolds.{fold-roll-Expression}
-use Rattle.dx_expr.specs.Shape.{Shape, shape_of, shape_step, single, unary_shape, binary_shape, choice_shape, part_shape, with_one, with_two, all_single}
+use Rattle.dx_expr.specs.Shape.{Shape, shape_of, shape_step, single_if, has_part, unary_shape, binary_shape, choice_shape, with_one, with_two, all_single}
 use Rattle.dx_expr.specs.Value.{Inputs, Outcome, Values, value_of, value_step, input_values, binary_values, joined, part_value, the_value, is_zero, alone, checked, unary_value, each, ◌>>=◌}
 
 module _ (inputs : ℕ → Shape) where
@@ -32,7 +32,7 @@ module _ (inputs : ℕ → Shape) where
   unfolding shape_of
   shape_choice c a b = ap (shape_of inputs) (sym (rolls-Choice c a b)) ∙ fold-roll-Expression (Option Shape) (shape_step inputs) (Expression-F.Choice c a b)
 
-  pub shape_part : (a : Expression) (k : ℕ) → shape_of inputs (e.Part a k) ≡ with_one (λ x. part_shape x k) (shape_of inputs a)
+  pub shape_part : (a : Expression) (k : ℕ) → shape_of inputs (e.Part a k) ≡ with_one (λ x. single_if (has_part k x)) (shape_of inputs a)
   unfolding shape_of
   shape_part a k = ap (shape_of inputs) (sym (rolls-Part a k)) ∙ fold-roll-Expression (Option Shape) (shape_step inputs) (Expression-F.Part a k)
 

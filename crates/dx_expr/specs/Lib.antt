@@ -3,4 +3,5 @@ pub mod Shown
 pub mod Cursor
 pub mod Answer
 pub mod Shape
+pub mod Shapes
 pub mod Value

@@ -4,13 +4,17 @@
 mod classes;
 mod cursor;
 mod fault;
+mod inputs;
 mod lexer;
 mod operators;
 mod parser;
+mod shape;
 
 pub use dx_expr_grammar::{Binary, Boxed, ExprFail, Expression, Unary};
 pub use fault::ItemFault;
+pub use inputs::Inputs;
 pub use parser::parse_expr;
+pub use shape::Shape;
 
 #[cfg(test)]
 mod tests;
