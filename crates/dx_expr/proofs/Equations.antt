@@ -1,6 +1,7 @@
 -- The shape and the values of each kind of expression, by those of its parts.
 use Rattle.std.proofs.Common.{◌≡◌, ℕ, ℤ, pos, List, [], ◌∷◌, Option, Some, None, Ok, Err, refl, sym, ap, ◌∙◌}
 use Rattle.std.specs.Prelude.{length, map, if◌then◌else◌}
+use Rattle.std.proofs.lemmas.List.{length-map}
 use Rattle.dx_expr_grammar.specs.declared.tree.Unary.{Unary}
 use Rattle.dx_expr_grammar.specs.declared.tree.Binary.{Binary}
 use Rattle.dx_expr_grammar.specs.declared.tree.Expression.{Expression}
@@ -36,9 +37,11 @@ module _ (inputs : ℕ → Shape) where
   unfolding shape_of
   shape_part a k = ap (shape_of inputs) (sym (rolls-Part a k)) ∙ fold-roll-Expression (Option Shape) (shape_step inputs) (Expression-F.Part a k)
 
-  pub shape_vector : (parts : List Expression) → shape_of inputs (e.Vector parts) ≡ (if all_single (map (shape_of inputs) parts) then Some (length (map (shape_of inputs) parts) ∷ []) else None)
+  pub shape_vector : (parts : List Expression) → shape_of inputs (e.Vector parts) ≡ (if all_single (map (shape_of inputs) parts) then Some (length parts ∷ []) else None)
   unfolding shape_of
-  shape_vector parts = ap (shape_of inputs) (sym (rolls-Vector parts)) ∙ fold-roll-Expression (Option Shape) (shape_step inputs) (Expression-F.Vector parts)
+  shape_vector parts =
+      ap (shape_of inputs) (sym (rolls-Vector parts)) ∙ fold-roll-Expression (Option Shape) (shape_step inputs) (Expression-F.Vector parts)
+      ∙ ap (λ n. if all_single (map (shape_of inputs) parts) then Some (n ∷ []) else None) (length-map parts (shape_of inputs))
 
 module _ (inputs : Inputs) (item : ℕ) where
   pub value_number : (n : ℕ) → value_of inputs item (e.Number n) ≡ (checked (pos n) >>= alone)
@@ -68,3 +71,6 @@ module _ (inputs : Inputs) (item : ℕ) where
   pub value_vector : (parts : List Expression) → value_of inputs item (e.Vector parts) ≡ joined (map (value_of inputs item) parts)
   unfolding value_of
   value_vector parts = ap (value_of inputs item) (sym (rolls-Vector parts)) ∙ fold-roll-Expression (Outcome Values) (value_step inputs item) (Expression-F.Vector parts)
+
+pub ruleset shapes_by_parts = (shape_number, shape_input, shape_unary, shape_binary, shape_choice, shape_part, shape_vector)
+pub ruleset values_by_parts = (value_number, value_input, value_unary, value_binary, value_choice, value_part, value_vector)

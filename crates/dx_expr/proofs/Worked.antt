@@ -8,10 +8,8 @@ use Rattle.dx_expr_grammar.specs.Reading.{expression, reading, nested, sign, dig
 use Rattle.dx_expr.specs.declared.fault.ItemFault.TheVariants.{Overflow, DivisionByZero}
 use Rattle.dx_expr.specs.Shape.{Shape, shape_of}
 use Rattle.dx_expr.specs.Value.{Inputs, Outcome, Values, value_of}
-use Rattle.dx_expr.proofs.Equations.{value_number, value_input, value_unary, value_binary, value_choice, value_part, value_vector, shape_number, shape_input, shape_unary, shape_binary, shape_choice, shape_part, shape_vector}
+use Rattle.dx_expr.proofs.Equations.{values_by_parts, shapes_by_parts}
 
-ruleset values_by_parts = (value_number, value_input, value_unary, value_binary, value_choice, value_part, value_vector)
-ruleset shapes_by_parts = (shape_number, shape_input, shape_unary, shape_binary, shape_choice, shape_part, shape_vector)
 
 -- input 0 is a vector of two numbers, each other input the number 7
 abbrev shape : ℕ → Shape
