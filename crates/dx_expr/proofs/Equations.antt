@@ -1,6 +1,6 @@
 -- The shape and the values of each kind of expression, by those of its parts.
 use Rattle.std.proofs.Common.{◌≡◌, ℕ, ℤ, pos, List, [], ◌∷◌, Option, Some, None, Ok, Err, refl, sym, ap, ◌∙◌}
-use Rattle.std.specs.Prelude.{length, map, if◌then◌else◌}
+use Rattle.std.specs.Prelude.{length, map, slice_index_or, if◌then◌else◌}
 use Rattle.std.proofs.lemmas.List.{length-map}
 use Rattle.dx_expr_grammar.specs.declared.tree.Unary.{Unary}
 use Rattle.dx_expr_grammar.specs.declared.tree.Binary.{Binary}
@@ -10,7 +10,7 @@ use Rattle.dx_expr_grammar.specs.declared.tree.Expression.TheVariants.{rolls-Num
 use Rattle.dx_expr_grammar.specs.declared.tree.Expression.TheOpen.{Expression-F}
 use Rattle.dx_expr_grammar.specs.declared.tree.Expression.TheFolds.{fold-roll-Expression}
 use Rattle.dx_expr.specs.Shape.{Shape, shape_of, shape_step, single_if, has_part, unary_shape, binary_shape, choice_shape, with_one, with_two, all_single}
-use Rattle.dx_expr.specs.Value.{Inputs, Outcome, Values, value_of, value_step, input_values, binary_values, joined, part_value, the_value, is_zero, alone, checked, unary_value, each, ◌>>=◌}
+use Rattle.dx_expr.specs.Value.{Inputs, Outcome, Values, value_of, value_step, input_values, binary_values, joined, the_value, is_zero, alone, checked, unary_value, each, ◌>>=◌}
 
 module _ (inputs : ℕ → Shape) where
   pub shape_number : (n : ℕ) → shape_of inputs (e.Number n) ≡ Some []
@@ -64,7 +64,7 @@ module _ (inputs : Inputs) (item : ℕ) where
   unfolding value_of
   value_choice c a b = ap (value_of inputs item) (sym (rolls-Choice c a b)) ∙ fold-roll-Expression (Outcome Values) (value_step inputs item) (Expression-F.Choice c a b)
 
-  pub value_part : (a : Expression) (k : ℕ) → value_of inputs item (e.Part a k) ≡ (value_of inputs item a >>= λ x. alone (part_value x k))
+  pub value_part : (a : Expression) (k : ℕ) → value_of inputs item (e.Part a k) ≡ (value_of inputs item a >>= λ x. alone (slice_index_or x k (pos 0)))
   unfolding value_of
   value_part a k = ap (value_of inputs item) (sym (rolls-Part a k)) ∙ fold-roll-Expression (Outcome Values) (value_step inputs item) (Expression-F.Part a k)
 

@@ -5,3 +5,4 @@ pub mod Answer
 pub mod Shape
 pub mod Shapes
 pub mod Value
+pub mod Evaluated

@@ -1,5 +1,5 @@
 -- The values of an item of an expression.
-use Rattle.std.specs.Prelude.{ℕ, zero, suc, ◌==◌, ◌*◌, Bool, true, false, not, ◌&&◌, ◌||◌, List, [], ◌∷◌, ◌++◌, length, map, Result, Ok, Err, if◌then◌else◌, ℤ, pos, negsuc, ◌+ℤ◌, ◌-ℤ◌, ◌*ℤ◌, neg_ℤ, unsigned_abs, int_lt, int_le, int_div, int_rem, nat_lt}
+use Rattle.std.specs.Prelude.{ℕ, zero, suc, ◌==◌, ◌*◌, Bool, true, false, not, ◌&&◌, ◌||◌, List, [], ◌∷◌, ◌++◌, length, slice_index_or, Result, Ok, Err, if◌then◌else◌, ℤ, pos, negsuc, ◌+ℤ◌, ◌-ℤ◌, ◌*ℤ◌, neg_ℤ, unsigned_abs, int_lt, int_le, int_div, int_rem, nat_lt}
 use Rattle.std.specs.List.{range_with_len}
 use Rattle.std.specs.Int.{int_min, int_max, int_signum}
 use Rattle.std.specs.Ordering.{int_eq}
@@ -82,16 +82,11 @@ abbrev pub each : {A : Type 0} → (A → Outcome ℤ) → List A → Outcome Va
 each f [] = Ok []
 each f (a ∷ rest) = f a >>= λ v. each f rest >>= λ vs. Ok (v ∷ vs)
 
--- the values that stand beside one another; a single one stands beside each of the other side
-abbrev pub zipped : Values → Values → List (ℤ × ℤ)
-zipped [] bs = []
-zipped (a ∷ as_) [] = []
-zipped (a ∷ as_) (b ∷ bs) = (a, b) ∷ zipped as_ bs
-
-abbrev pub pairs : Values → Values → List (ℤ × ℤ)
-pairs (a ∷ []) bs = map (λ b. (a, b)) bs
-pairs as_ (b ∷ []) = map (λ a. (a, b)) as_
-pairs as_ bs = zipped as_ bs
+-- two lists, place by place
+abbrev pub each_pair : (ℤ → ℤ → Outcome ℤ) → Values → Values → Outcome Values
+each_pair f [] bs = Ok []
+each_pair f (a ∷ rest) [] = Ok []
+each_pair f (a ∷ rest) (b ∷ bs) = f a b >>= λ v. each_pair f rest bs >>= λ vs. Ok (v ∷ vs)
 
 -- the value of a single one
 abbrev pub the_value : Values → ℤ
@@ -114,14 +109,19 @@ size (n ∷ a) = n * size a
 abbrev pub input_values : Inputs → ℕ → ℕ → Outcome Values
 input_values inputs item k = each (λ place. checked (inputs.value k item place)) (range_with_len 0 (size (inputs.shape k)))
 
--- the left operand, the right one, and then the operator on their values in order
+-- value by value, in order; a single value stands beside each of the other side
+abbrev pub side_by_side : (ℤ → ℤ → Outcome ℤ) → Values → Values → Outcome Values
+side_by_side f x y = if length x == 1 then each (f (the_value x)) y else (if length y == 1 then each (λ a. f a (the_value y)) x else each_pair f x y)
+
+-- the left operand, the right one, and then the operator on their values
 abbrev pub by_value : (ℤ → ℤ → Outcome ℤ) → Outcome Values → Outcome Values → Outcome Values
-by_value f a b = a >>= λ x. b >>= λ y. each (λ (p : ℤ × ℤ). f p.0 p.1) (pairs x y)
+by_value f a b = a >>= λ x. b >>= λ y. side_by_side f x y
 
 -- products added from the left to this sum
-abbrev pub dot_from : ℤ → List (ℤ × ℤ) → Outcome ℤ
-dot_from sum [] = Ok sum
-dot_from sum (p ∷ rest) = checked (p.0 *ℤ p.1) >>= λ product. checked (sum +ℤ product) >>= λ more. dot_from more rest
+abbrev pub dot_from : ℤ → Values → Values → Outcome ℤ
+dot_from sum [] bs = Ok sum
+dot_from sum (a ∷ rest) [] = Ok sum
+dot_from sum (a ∷ rest) (b ∷ bs) = checked (a *ℤ b) >>= λ product. checked (sum +ℤ product) >>= λ more. dot_from more rest bs
 
 abbrev pub alone : ℤ → Outcome Values
 alone v = Ok (v ∷ [])
@@ -130,18 +130,13 @@ alone v = Ok (v ∷ [])
 abbrev pub binary_values : Binary → Outcome Values → Outcome Values → Outcome Values
 binary_values binary.Or a b = a >>= λ x. if is_zero (the_value x) then (b >>= λ y. alone (truth (not (is_zero (the_value y))))) else alone (pos 1)
 binary_values binary.And a b = a >>= λ x. if is_zero (the_value x) then alone (pos 0) else (b >>= λ y. alone (truth (not (is_zero (the_value y)))))
-binary_values binary.Dot a b = a >>= λ x. b >>= λ y. dot_from (pos 0) (zipped x y) >>= alone
+binary_values binary.Dot a b = a >>= λ x. b >>= λ y. dot_from (pos 0) x y >>= alone
 binary_values o a b = by_value (binary_value o) a b
 
 -- the values of the parts, one after the other
 abbrev pub joined : List (Outcome Values) → Outcome Values
 joined [] = Ok []
 joined (a ∷ rest) = a >>= λ x. joined rest >>= λ xs. Ok (x ++ xs)
-
-abbrev pub part_value : Values → ℕ → ℤ
-part_value [] k = pos 0
-part_value (v ∷ rest) zero = v
-part_value (v ∷ rest) (suc k) = part_value rest k
 
 -- the values of an item of an expression, from those of its parts
 abbrev pub value_step : Inputs → ℕ → Expression-F (Outcome Values) → Outcome Values
@@ -150,7 +145,7 @@ value_step inputs item (Expression-F.Input k) = input_values inputs item k
 value_step inputs item (Expression-F.Unary o a) = a >>= each (unary_value o)
 value_step inputs item (Expression-F.Binary o a b) = binary_values o a b
 value_step inputs item (Expression-F.Choice c a b) = c >>= λ x. if is_zero (the_value x) then b else a
-value_step inputs item (Expression-F.Part a k) = a >>= λ x. alone (part_value x k)
+value_step inputs item (Expression-F.Part a k) = a >>= λ x. alone (slice_index_or x k (pos 0))
 value_step inputs item (Expression-F.Vector parts) = joined parts
 
 -- The values of an item of an expression whose shapes fit, in order, or its first fault.

@@ -14,6 +14,10 @@ pub trait Inputs {
     fn extents(&self, k: u8) -> &[u32]
         ensures { result.now ≡ (given self.now).shape k };
 
+    /// How many values an item of an input has: the product of its extents.
+    fn size(&self, k: u8) -> u64
+        ensures { result ≡ size ((given self.now).shape k) };
+
     /// The value of an input at an item, and at a place among that item's values.
     fn value(&self, k: u8, item: u64, place: u64) -> i64
         requires item { item < items self.now }

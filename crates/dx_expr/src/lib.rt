@@ -9,9 +9,10 @@ mod lexer;
 mod operators;
 mod parser;
 mod shape;
+mod values;
 
 pub use dx_expr_grammar::{Binary, Boxed, ExprFail, Expression, Unary};
-pub use fault::ItemFault;
+pub use fault::{EvalFail, ItemFault};
 pub use inputs::Inputs;
 pub use parser::parse_expr;
 pub use shape::Shape;
