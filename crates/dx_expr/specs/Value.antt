@@ -1,5 +1,5 @@
 -- The values of an item of an expression.
-use Rattle.std.specs.Prelude.{ℕ, zero, suc, ◌==◌, ◌*◌, Bool, true, false, not, ◌&&◌, ◌||◌, List, [], ◌∷◌, ◌++◌, length, slice_index_or, Result, Ok, Err, if◌then◌else◌, ℤ, pos, negsuc, ◌+ℤ◌, ◌-ℤ◌, ◌*ℤ◌, neg_ℤ, unsigned_abs, int_lt, int_le, int_div, int_rem, nat_lt}
+use Rattle.std.specs.Prelude.{ℕ, zero, suc, ◌==◌, ◌*◌, Bool, true, false, not, ◌&&◌, ◌||◌, List, [], ◌∷◌, ◌++◌, length, slice_index_or, max, Result, Ok, Err, if◌then◌else◌, ℤ, pos, negsuc, ◌+ℤ◌, ◌-ℤ◌, ◌*ℤ◌, neg_ℤ, unsigned_abs, int_lt, int_le, int_div, int_rem, nat_lt}
 use Rattle.std.specs.List.{range_with_len}
 use Rattle.std.specs.Int.{int_min, int_max, int_signum}
 use Rattle.std.specs.Ordering.{int_eq}
@@ -82,12 +82,6 @@ abbrev pub each : {A : Type 0} → (A → Outcome ℤ) → List A → Outcome Va
 each f [] = Ok []
 each f (a ∷ rest) = f a >>= λ v. each f rest >>= λ vs. Ok (v ∷ vs)
 
--- two lists, place by place
-abbrev pub each_pair : (ℤ → ℤ → Outcome ℤ) → Values → Values → Outcome Values
-each_pair f [] bs = Ok []
-each_pair f (a ∷ rest) [] = Ok []
-each_pair f (a ∷ rest) (b ∷ bs) = f a b >>= λ v. each_pair f rest bs >>= λ vs. Ok (v ∷ vs)
-
 -- the value of a single one
 abbrev pub the_value : Values → ℤ
 the_value [] = pos 0
@@ -109,19 +103,26 @@ size (n ∷ a) = n * size a
 abbrev pub input_values : Inputs → ℕ → ℕ → Outcome Values
 input_values inputs item k = each (λ place. checked (inputs.value k item place)) (range_with_len 0 (size (inputs.shape k)))
 
+-- the value at a place; a single value is at each
+abbrev pub value_at : Values → ℕ → ℤ
+value_at vs i = slice_index_or vs (if length vs == 1 then 0 else i) (pos 0)
+
 -- value by value, in order; a single value stands beside each of the other side
 abbrev pub side_by_side : (ℤ → ℤ → Outcome ℤ) → Values → Values → Outcome Values
-side_by_side f x y = if length x == 1 then each (f (the_value x)) y else (if length y == 1 then each (λ a. f a (the_value y)) x else each_pair f x y)
+side_by_side f x y = each (λ i. f (value_at x i) (value_at y i)) (range_with_len 0 (max (length x) (length y)))
 
 -- the left operand, the right one, and then the operator on their values
 abbrev pub by_value : (ℤ → ℤ → Outcome ℤ) → Outcome Values → Outcome Values → Outcome Values
 by_value f a b = a >>= λ x. b >>= λ y. side_by_side f x y
 
--- products added from the left to this sum
-abbrev pub dot_from : ℤ → Values → Values → Outcome ℤ
-dot_from sum [] bs = Ok sum
-dot_from sum (a ∷ rest) [] = Ok sum
-dot_from sum (a ∷ rest) (b ∷ bs) = checked (a *ℤ b) >>= λ product. checked (sum +ℤ product) >>= λ more. dot_from more rest bs
+-- a sum with a product added
+abbrev pub with_product : ℤ → ℤ → ℤ → Outcome ℤ
+with_product a b sum = checked (a *ℤ b) >>= λ product. checked (sum +ℤ product)
+
+-- the products at these places, added from the left to a sum
+abbrev pub dot_from : Values → Values → ℤ → List ℕ → Outcome ℤ
+dot_from x y sum [] = Ok sum
+dot_from x y sum (i ∷ rest) = with_product (value_at x i) (value_at y i) sum >>= λ more. dot_from x y more rest
 
 abbrev pub alone : ℤ → Outcome Values
 alone v = Ok (v ∷ [])
@@ -130,7 +131,7 @@ alone v = Ok (v ∷ [])
 abbrev pub binary_values : Binary → Outcome Values → Outcome Values → Outcome Values
 binary_values binary.Or a b = a >>= λ x. if is_zero (the_value x) then (b >>= λ y. alone (truth (not (is_zero (the_value y))))) else alone (pos 1)
 binary_values binary.And a b = a >>= λ x. if is_zero (the_value x) then alone (pos 0) else (b >>= λ y. alone (truth (not (is_zero (the_value y)))))
-binary_values binary.Dot a b = a >>= λ x. b >>= λ y. dot_from (pos 0) x y >>= alone
+binary_values binary.Dot a b = a >>= λ x. b >>= λ y. dot_from x y (pos 0) (range_with_len 0 (length x)) >>= alone
 binary_values o a b = by_value (binary_value o) a b
 
 -- the values of the parts, one after the other

@@ -1,12 +1,13 @@
 //! The values of an item of an expression.
 
 ghost use Rattle.std.specs.Prelude.{◌≡◌, ◌<◌, ◌==◌, [], ◌∷◌, ◌++◌, length, pos, slice_index_or, OnOk, OnErr};
+ghost use Rattle.std.specs.List.{range_with_len};
 ghost use Rattle.dx_expr.specs.Value as spec;
-ghost use Rattle.dx_expr.specs.Value.{each, each_pair, side_by_side, unary_value, binary_value, dot_from};
+ghost use Rattle.dx_expr.specs.Value.{each, side_by_side, unary_value, binary_value, dot_from, with_product};
 ghost use Rattle.dx_expr.specs.Evaluated.{Gives};
 
 use crate::operators::{checked, unary_value, binary_value};
-use crate::{EvalFail, Inputs};
+use crate::{EvalFail, Inputs, ItemFault};
 use dx_base::Items;
 use dx_expr_grammar::{Binary, Expression, Unary};
 use std::alloc::Global;
@@ -30,6 +31,93 @@ fn each_unary(alloc: Global, operator: Unary, vs: &[i32]) -> Result<Values, Eval
     let mut found = Items::new(alloc);
     for v in vs {
         found.push(unary_value(operator, *v)?)?;
+    }
+    Ok(found)
+}
+
+/// The value at a place, or 0 where there is none.
+fn at(vs: &[i32], place: usize) -> i32
+    ensures { result ≡ slice_index_or vs.now place (pos 0) }
+{
+    match vs.get(place) {
+        Some(v) => *v,
+        None => 0,
+    }
+}
+
+/// The value at a place; a single value is at each.
+fn value_at(vs: &[i32], place: usize) -> i32
+    ensures { result ≡ spec.value_at vs.now place }
+{
+    at(vs, if vs.len() == 1 { 0 } else { place })
+}
+
+/// An operator on the values of both sides at a place.
+fn value_of_two(
+    operator: Binary,
+    xs: &[i32],
+    ys: &[i32],
+    place: usize,
+) -> Result<i32, ItemFault>
+    ensures { result ≡ binary_value operator (spec.value_at xs.now place) (spec.value_at ys.now place) }
+{
+    binary_value(operator, value_at(xs, place), value_at(ys, place))
+}
+
+/// An operator value by value, in order.
+fn beside(alloc: Global, operator: Binary, xs: &[i32], ys: &[i32]) -> Result<Values, EvalFail>
+    ensures { Gives (side_by_side (binary_value operator) xs.now ys.now) result }
+{
+    let mut found = Items::new(alloc);
+    for place in 0..xs.len().max(ys.len()) {
+        let v = value_of_two(operator, xs, ys, place)?;
+        found.push(v)?;
+    }
+    Ok(found)
+}
+
+/// A sum, with the product at a place added.
+fn with_product(sum: i32, xs: &[i32], ys: &[i32], place: usize) -> Result<i32, ItemFault>
+    ensures { result ≡ with_product (spec.value_at xs.now place) (spec.value_at ys.now place) sum }
+{
+    let product = value_of_two(Binary::Multiply, xs, ys, place)?;
+    binary_value(Binary::Add, sum, product)
+}
+
+/// The products of the values of two vectors, added from the left.
+fn dot(xs: &[i32], ys: &[i32]) -> Result<i32, ItemFault>
+    ensures { result ≡ dot_from xs.now ys.now (pos 0) (range_with_len 0 (length xs.now)) }
+{
+    let mut sum = 0;
+    for place in 0..xs.len() {
+        sum = with_product(sum, xs, ys, place)?;
+    }
+    Ok(sum)
+}
+
+/// The value of an input at an item and a place, where it lies in the int range.
+fn input_value<I: Inputs>(inputs: &I, k: u8, item: u64, place: u64) -> Result<i32, ItemFault>
+    requires item { item < I.items inputs.now }
+    requires place { place < spec.size ((I.given inputs.now).shape k) }
+    ensures { result ≡ spec.checked ((I.given inputs.now).value k item place) }
+{
+    checked(inputs.value(k, item, place))
+}
+
+/// The values of an item of an input.
+fn input_values<I: Inputs>(
+    alloc: Global,
+    k: u8,
+    inputs: &I,
+    item: u64,
+) -> Result<Values, EvalFail>
+    requires { item < I.items inputs.now }
+    ensures { Gives (spec.input_values (I.given inputs.now) item k) result }
+{
+    let mut found = Items::new(alloc);
+    for place in 0..inputs.size(k) {
+        let v = input_value(inputs, k, item, place)?;
+        found.push(v)?;
     }
     Ok(found)
 }
