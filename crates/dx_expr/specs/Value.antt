@@ -12,6 +12,8 @@ use Rattle.dx_expr_grammar.specs.declared.tree.Expression.TheOpen.{Expression-F}
 use Rattle.dx_expr_grammar.specs.declared.tree.Expression.TheFolds.{fold-Expression}
 use Rattle.dx_expr.specs.declared.fault.ItemFault.{ItemFault}
 use Rattle.dx_expr.specs.declared.fault.ItemFault.TheVariants.{Overflow, DivisionByZero}
+use Rattle.dx_expr.specs.declared.operators.Sides.{Sides}
+use Rattle.dx_expr.specs.declared.operators.Sides.TheVariants as sides
 use Rattle.dx_expr.specs.Shape.{Shape}
 
 -- something, or the fault for which there is none
@@ -22,6 +24,10 @@ infixl 10 ◌>>=◌
 abbrev pub ◌>>=◌ : {A B : Type 0} → Outcome A → (A → Outcome B) → Outcome B
 Ok a >>= f = f a
 Err fault >>= f = Err fault
+
+-- what is made of it
+abbrev pub after : {A B : Type 0} → (A → Outcome B) → Outcome A → Outcome B
+after f o = o >>= f
 
 -- ---- single values
 
@@ -111,10 +117,6 @@ value_at vs i = slice_index_or vs (if length vs == 1 then 0 else i) (pos 0)
 abbrev pub side_by_side : (ℤ → ℤ → Outcome ℤ) → Values → Values → Outcome Values
 side_by_side f x y = each (λ i. f (value_at x i) (value_at y i)) (range_with_len 0 (max (length x) (length y)))
 
--- the left operand, the right one, and then the operator on their values
-abbrev pub by_value : (ℤ → ℤ → Outcome ℤ) → Outcome Values → Outcome Values → Outcome Values
-by_value f a b = a >>= λ x. b >>= λ y. side_by_side f x y
-
 -- a sum with a product added
 abbrev pub with_product : ℤ → ℤ → ℤ → Outcome ℤ
 with_product a b sum = checked (a *ℤ b) >>= λ product. checked (sum +ℤ product)
@@ -127,12 +129,29 @@ dot_from x y sum (i ∷ rest) = with_product (value_at x i) (value_at y i) sum >
 abbrev pub alone : ℤ → Outcome Values
 alone v = Ok (v ∷ [])
 
--- the right side is looked at where the left one doesn't decide, and where both sides are the operator is on values
+abbrev pub dot_product : Values → Values → Outcome Values
+dot_product x y = dot_from x y (pos 0) (range_with_len 0 (length x)) >>= alone
+
+-- 1 or 0, as the right side decides
+abbrev pub decided : Values → Outcome Values
+decided y = alone (truth (not (is_zero (the_value y))))
+
+-- how an operator looks at its sides
+abbrev pub sides_of : Binary → Sides
+sides_of binary.Or = sides.UnlessTrue
+sides_of binary.And = sides.IfTrue
+sides_of binary.Dot = sides.Vectors
+sides_of _ = sides.Both
+
+-- the values of both sides, of which the right one is looked at where the left one doesn't decide
+abbrev pub values_by : Sides → Binary → Outcome Values → Outcome Values → Outcome Values
+values_by sides.UnlessTrue o a b = a >>= λ x. if is_zero (the_value x) then b >>= decided else alone (pos 1)
+values_by sides.IfTrue o a b = a >>= λ x. if is_zero (the_value x) then alone (pos 0) else b >>= decided
+values_by sides.Vectors o a b = a >>= λ x. b >>= λ y. dot_product x y
+values_by sides.Both o a b = a >>= λ x. b >>= λ y. side_by_side (binary_value o) x y
+
 abbrev pub binary_values : Binary → Outcome Values → Outcome Values → Outcome Values
-binary_values binary.Or a b = a >>= λ x. if is_zero (the_value x) then (b >>= λ y. alone (truth (not (is_zero (the_value y))))) else alone (pos 1)
-binary_values binary.And a b = a >>= λ x. if is_zero (the_value x) then alone (pos 0) else (b >>= λ y. alone (truth (not (is_zero (the_value y)))))
-binary_values binary.Dot a b = a >>= λ x. b >>= λ y. dot_from x y (pos 0) (range_with_len 0 (length x)) >>= alone
-binary_values o a b = by_value (binary_value o) a b
+binary_values o a b = values_by (sides_of o) o a b
 
 -- the values of the parts, one after the other
 abbrev pub joined : List (Outcome Values) → Outcome Values

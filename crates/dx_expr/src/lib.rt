@@ -3,6 +3,7 @@
 
 mod classes;
 mod cursor;
+mod eval;
 mod fault;
 mod inputs;
 mod lexer;
@@ -12,10 +13,12 @@ mod shape;
 mod values;
 
 pub use dx_expr_grammar::{Binary, Boxed, ExprFail, Expression, Unary};
+pub use eval::{single_value, values_of};
 pub use fault::{EvalFail, ItemFault};
 pub use inputs::Inputs;
 pub use parser::parse_expr;
-pub use shape::Shape;
+pub use shape::{Shape, shape_of};
+pub use values::Values;
 
 #[cfg(test)]
 mod tests;

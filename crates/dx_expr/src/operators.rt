@@ -6,6 +6,30 @@ ghost use Rattle.dx_expr.specs.Value as spec;
 use crate::ItemFault;
 use dx_expr_grammar::{Binary, Unary};
 
+/// How an operator or a function looks at its two sides.
+#[derive(Clone, Copy, Debug, PartialEq, Eq)]
+pub enum Sides {
+    /// The right one only where the left one is 0.
+    UnlessTrue,
+    /// The right one only where the left one isn't 0.
+    IfTrue,
+    /// Both, which are vectors, as a whole.
+    Vectors,
+    /// Both, value by value.
+    Both,
+}
+
+pub fn sides_of(operator: Binary) -> Sides
+    ensures { result ≡ spec.sides_of operator }
+{
+    match operator {
+        Binary::Or => Sides::UnlessTrue,
+        Binary::And => Sides::IfTrue,
+        Binary::Dot => Sides::Vectors,
+        _ => Sides::Both,
+    }
+}
+
 /// A value, where it lies in the int range.
 pub fn checked(v: i64) -> Result<i32, ItemFault>
     ensures { result ≡ spec.checked v }
@@ -16,7 +40,7 @@ pub fn checked(v: i64) -> Result<i32, ItemFault>
     Ok(v as i32)
 }
 
-fn truth(b: bool) -> i32
+pub fn truth(b: bool) -> i32
     ensures { result ≡ spec.truth b }
 {
     if b { 1 } else { 0 }

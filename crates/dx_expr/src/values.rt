@@ -4,9 +4,10 @@ ghost use Rattle.std.specs.Prelude.{◌≡◌, ◌<◌, ◌==◌, [], ◌∷◌,
 ghost use Rattle.std.specs.List.{range_with_len};
 ghost use Rattle.dx_expr.specs.Value as spec;
 ghost use Rattle.dx_expr.specs.Value.{each, side_by_side, unary_value, binary_value, dot_from, with_product};
-ghost use Rattle.dx_expr.specs.Evaluated.{Gives};
+ghost use Rattle.dx_expr.specs.Value.{Outcome, after};
+ghost use Rattle.dx_expr.specs.Evaluated.{Gives, GivesSingle};
 
-use crate::operators::{checked, unary_value, binary_value};
+use crate::operators::{binary_value, checked, truth, unary_value};
 use crate::{EvalFail, Inputs, ItemFault};
 use dx_base::Items;
 use dx_expr_grammar::{Binary, Expression, Unary};
@@ -14,15 +15,6 @@ use std::alloc::Global;
 
 /// The values of an item in order, the last extent varying fastest.
 pub type Values = Items<i32>;
-
-fn the_value(vs: &[i32]) -> i32
-    ensures { result ≡ spec.the_value vs.now }
-{
-    match vs {
-        [] => 0,
-        [v, ..] => *v,
-    }
-}
 
 /// An operator of one operand on each value, in order.
 fn each_unary(alloc: Global, operator: Unary, vs: &[i32]) -> Result<Values, EvalFail>
@@ -105,7 +97,7 @@ fn input_value<I: Inputs>(inputs: &I, k: u8, item: u64, place: u64) -> Result<i3
 }
 
 /// The values of an item of an input.
-fn input_values<I: Inputs>(
+pub fn input_values<I: Inputs>(
     alloc: Global,
     k: u8,
     inputs: &I,
@@ -120,4 +112,92 @@ fn input_values<I: Inputs>(
         found.push(v)?;
     }
     Ok(found)
+}
+
+/// One value, as the values of an item.
+fn alone(alloc: Global, v: i32) -> Result<Values, EvalFail>
+    ensures { Gives (spec.alone v) result }
+{
+    let mut found = Items::new(alloc);
+    found.push(v)?;
+    Ok(found)
+}
+
+/// The value of an item of an input that is a single value.
+pub fn single_input<I: Inputs>(inputs: &I, k: u8, item: u64) -> Result<i32, EvalFail>
+    requires item { item < I.items inputs.now }
+    requires single { (I.given inputs.now).shape k ≡ [] }
+    ensures { GivesSingle (spec.input_values (I.given inputs.now) item k) result }
+{
+    let v = input_value(inputs, k, item, 0)?;
+    Ok(v)
+}
+
+/// An operator or a function on a single value.
+pub fn on_one(operator: Unary, a: Result<i32, EvalFail>) -> Result<i32, EvalFail>
+    ensures { (o : Outcome spec.Values) → GivesSingle o a → GivesSingle (after (each (unary_value operator)) o) result }
+{
+    let v = unary_value(operator, a?)?;
+    Ok(v)
+}
+
+/// An operator or a function on two single values.
+pub fn on_two(operator: Binary, x: i32, b: Result<i32, EvalFail>) -> Result<i32, EvalFail>
+    ensures { (o : Outcome spec.Values) → GivesSingle o b → GivesSingle (after (λ y. side_by_side (binary_value operator) (x ∷ []) y) o) result }
+{
+    let v = binary_value(operator, x, b?)?;
+    Ok(v)
+}
+
+/// 1 or 0, as the right side decides.
+pub fn decided(b: Result<i32, EvalFail>) -> Result<i32, EvalFail>
+    ensures { (o : Outcome spec.Values) → GivesSingle o b → GivesSingle (after (spec.decided) o) result }
+{
+    let y = b?;
+    Ok(truth(y != 0))
+}
+
+/// The sum of the products of the values of two vectors.
+pub fn dot_product(xs: &[i32], b: Result<Values, EvalFail>) -> Result<i32, EvalFail>
+    ensures { (o : Outcome spec.Values) → Gives o b → GivesSingle (after (λ y. spec.dot_product xs.now y) o) result }
+{
+    let ys = b?;
+    let v = dot(xs, ys.as_slice())?;
+    Ok(v)
+}
+
+/// A part of a vector.
+pub fn part_of(a: Result<Values, EvalFail>, k: u8) -> Result<i32, EvalFail>
+    ensures { (o : Outcome spec.Values) → Gives o a → GivesSingle (after (λ x. spec.alone (slice_index_or x k (pos 0))) o) result }
+{
+    let vs = a?;
+    Ok(at(vs.as_slice(), usize::from(k)))
+}
+
+/// An operator of one operand value by value.
+pub fn on_each(alloc: Global, operator: Unary, a: Result<Values, EvalFail>) -> Result<Values, EvalFail>
+    ensures { (o : Outcome spec.Values) → Gives o a → Gives (after (each (unary_value operator)) o) result }
+{
+    let vs = a?;
+    each_unary(alloc, operator, vs.as_slice())
+}
+
+/// An operator of two operands value by value.
+pub fn on_both(
+    alloc: Global,
+    operator: Binary,
+    xs: &[i32],
+    b: Result<Values, EvalFail>,
+) -> Result<Values, EvalFail>
+    ensures { (o : Outcome spec.Values) → Gives o b → Gives (after (λ y. side_by_side (binary_value operator) xs.now y) o) result }
+{
+    let ys = b?;
+    beside(alloc, operator, xs, ys.as_slice())
+}
+
+/// A single value, as the values of an item.
+pub fn as_values(alloc: Global, v: Result<i32, EvalFail>) -> Result<Values, EvalFail>
+    ensures { (o : Outcome spec.Values) → GivesSingle o v → Gives o result }
+{
+    alone(alloc, v?)
 }
