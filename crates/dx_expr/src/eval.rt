@@ -96,13 +96,11 @@ pub fn values_of<I: Inputs>(
             on_each(alloc, *operator, values_of(alloc, a.get(), inputs, item))
         }
         Expression::Binary(operator, a, b) => match sides_of(*operator) {
-            Sides::UnlessTrue | Sides::IfTrue | Sides::Vectors => {
-                as_values(alloc, single_value(alloc, e, inputs, item))
-            }
             Sides::Both => {
                 let x = values_of(alloc, a.get(), inputs, item)?;
                 on_both(alloc, *operator, x.as_slice(), values_of(alloc, b.get(), inputs, item))
             }
+            _ => as_values(alloc, single_value(alloc, e, inputs, item)),
         },
         Expression::Choice(condition, a, b) => {
             let c = single_value(alloc, condition.get(), inputs, item)?;
