@@ -7,30 +7,18 @@ use Rattle.dx_expr_grammar.specs.Tokens.{tokens_of, tokens_from}
 use Rattle.dx_expr_grammar.specs.Reading.{expression, reading, nested, sign, digits, class, sees, sees_digits, sees_class, right_side, chain, once, opening, number, input, part, parts, group, next_part, vector, function_of_one, function_of_two, primary, postfix, signed, branches, whole}
 use Rattle.dx_expr.specs.declared.fault.ItemFault.TheVariants.{Overflow, DivisionByZero}
 use Rattle.dx_expr.specs.Shape.{Shape, shape_of}
-use Rattle.dx_expr.specs.Value.{Inputs, Outcome, Values, value_of}
+use Rattle.dx_expr.specs.Value.{Outcome, Values, value_of}
+use Rattle.dx_expr.specs.Examples.{two, two_shape}
 use Rattle.dx_expr.proofs.Equations.{values_by_parts, shapes_by_parts}
 
 
--- input 0 is a vector of two numbers, each other input the number 7
-abbrev shape : ℕ → Shape
-shape zero = 2 ∷ []
-shape (suc k) = []
-
-abbrev value : ℕ → ℕ → ℕ → ℤ
-value zero item zero = pos 3000000000
-value zero item (suc place) = pos 5
-value (suc k) item place = pos 7
-
-abbrev inputs : Inputs
-inputs = record { shape = shape; value = value }
-
 -- the values of a text
 values : List ℕ → Option (Outcome Values)
-values text = elim (expression (tokens_of text)) [ Ok p ↦ Some (value_of inputs 0 p.0) | Err f ↦ None ]
+values text = elim (expression (tokens_of text)) [ Ok p ↦ Some (value_of two 0 p.0) | Err f ↦ None ]
 
 -- the shape of a text
 shape_in : List ℕ → Option (Option Shape)
-shape_in text = elim (expression (tokens_of text)) [ Ok p ↦ Some (shape_of shape p.0) | Err f ↦ None ]
+shape_in text = elim (expression (tokens_of text)) [ Ok p ↦ Some (shape_of two_shape p.0) | Err f ↦ None ]
 
 cuts_towards_zero : values (codes "-7 / 2") ≡ Some (Ok (negsuc 2 ∷ []))
 unfolding values turns while tokens_from reading nested sign digits class sees sees_digits sees_class right_side chain once opening number input part parts group next_part vector function_of_one function_of_two primary postfix signed branches whole

@@ -6,3 +6,4 @@ pub mod Shape
 pub mod Shapes
 pub mod Value
 pub mod Evaluated
+pub mod Examples

@@ -17,7 +17,7 @@ pub use eval::{single_value, values_of};
 pub use fault::{EvalFail, ItemFault};
 pub use inputs::Inputs;
 pub use parser::parse_expr;
-pub use shape::{Shape, shape_of};
+pub use shape::{Shape, is_single, shape_of};
 pub use values::Values;
 
 #[cfg(test)]

@@ -16,7 +16,8 @@ pub enum Shape<'a> {
     Extents(&'a [u32]),
 }
 
-fn is_single(a: Shape<'_>) -> bool
+/// Whether the shape is that of a single value, also of an input that has no extents.
+pub fn is_single(a: Shape<'_>) -> bool
     ensures { result ≡ spec.is_single (extents_of a.entry) }
 {
     match a {
