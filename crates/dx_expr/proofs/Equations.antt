@@ -1,6 +1,6 @@
--- The shape and the values of each kind of expression, by those of its parts.
+-- The shape of each kind of expression, its values and the inputs in it, by those of its parts.
 use Rattle.std.proofs.Common.{◌≡◌, ℕ, ℤ, pos, List, [], ◌∷◌, Option, Some, None, Ok, Err, refl, sym, ap, ◌∙◌}
-use Rattle.std.specs.Prelude.{length, map, slice_index_or, if◌then◌else◌}
+use Rattle.std.specs.Prelude.{◌==◌, ◌||◌, Bool, false, length, map, slice_index_or, if◌then◌else◌}
 use Rattle.std.proofs.lemmas.List.{length-map}
 use Rattle.dx_expr_grammar.specs.declared.tree.Unary.{Unary}
 use Rattle.dx_expr_grammar.specs.declared.tree.Binary.{Binary}
@@ -10,6 +10,7 @@ use Rattle.dx_expr_grammar.specs.declared.tree.Expression.TheVariants.{rolls-Num
 use Rattle.dx_expr_grammar.specs.declared.tree.Expression.TheOpen.{Expression-F}
 use Rattle.dx_expr_grammar.specs.declared.tree.Expression.TheFolds.{fold-roll-Expression}
 use Rattle.dx_expr.specs.Shape.{Shape, shape_of, shape_step, single_if, has_part, unary_shape, binary_shape, choice_shape, with_one, with_two, all_single}
+use Rattle.dx_expr.specs.Uses.{uses, uses_step, any_of}
 use Rattle.dx_expr.specs.Value.{Inputs, Outcome, Values, value_of, value_step, input_values, binary_values, joined, the_value, is_zero, alone, checked, unary_value, each, ◌>>=◌}
 
 module _ (inputs : ℕ → Shape) where
@@ -72,5 +73,35 @@ module _ (inputs : Inputs) (item : ℕ) where
   unfolding value_of
   value_vector parts = ap (value_of inputs item) (sym (rolls-Vector parts)) ∙ fold-roll-Expression (Outcome Values) (value_step inputs item) (Expression-F.Vector parts)
 
+module _ (k : ℕ) where
+  pub uses_number : (n : ℕ) → uses k (e.Number n) ≡ false
+  unfolding uses
+  uses_number n = ap (uses k) (sym (rolls-Number n)) ∙ fold-roll-Expression Bool (uses_step k) (Expression-F.Number n)
+
+  pub uses_input : (j : ℕ) → uses k (e.Input j) ≡ (j == k)
+  unfolding uses
+  uses_input j = ap (uses k) (sym (rolls-Input j)) ∙ fold-roll-Expression Bool (uses_step k) (Expression-F.Input j)
+
+  pub uses_unary : (o : Unary) (a : Expression) → uses k (e.Unary o a) ≡ uses k a
+  unfolding uses
+  uses_unary o a = ap (uses k) (sym (rolls-Unary o a)) ∙ fold-roll-Expression Bool (uses_step k) (Expression-F.Unary o a)
+
+  pub uses_binary : (o : Binary) (a b : Expression) → uses k (e.Binary o a b) ≡ (uses k a || uses k b)
+  unfolding uses
+  uses_binary o a b = ap (uses k) (sym (rolls-Binary o a b)) ∙ fold-roll-Expression Bool (uses_step k) (Expression-F.Binary o a b)
+
+  pub uses_choice : (c a b : Expression) → uses k (e.Choice c a b) ≡ (uses k c || (uses k a || uses k b))
+  unfolding uses
+  uses_choice c a b = ap (uses k) (sym (rolls-Choice c a b)) ∙ fold-roll-Expression Bool (uses_step k) (Expression-F.Choice c a b)
+
+  pub uses_part : (a : Expression) (j : ℕ) → uses k (e.Part a j) ≡ uses k a
+  unfolding uses
+  uses_part a j = ap (uses k) (sym (rolls-Part a j)) ∙ fold-roll-Expression Bool (uses_step k) (Expression-F.Part a j)
+
+  pub uses_vector : (parts : List Expression) → uses k (e.Vector parts) ≡ any_of (map (uses k) parts)
+  unfolding uses
+  uses_vector parts = ap (uses k) (sym (rolls-Vector parts)) ∙ fold-roll-Expression Bool (uses_step k) (Expression-F.Vector parts)
+
 pub ruleset shapes_by_parts = (shape_number, shape_input, shape_unary, shape_binary, shape_choice, shape_part, shape_vector)
 pub ruleset values_by_parts = (value_number, value_input, value_unary, value_binary, value_choice, value_part, value_vector)
+pub ruleset uses_by_parts = (uses_number, uses_input, uses_unary, uses_binary, uses_choice, uses_part, uses_vector)

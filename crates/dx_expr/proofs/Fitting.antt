@@ -19,11 +19,11 @@ nothing_if : (b : Bool) → single_if b ≡ Some [] → b ≡ true
 nothing_if true h = refl
 nothing_if false h = absurd cc
 
-single_is : (a : Shape) → is_single a ≡ true → a ≡ []
+pub single_is : (a : Shape) → is_single a ≡ true → a ≡ []
 single_is [] h = refl
 single_is (n ∷ a) h = absurd cc
 
-both_true : (a b : Bool) → (a && b) ≡ true → (a ≡ true) × (b ≡ true)
+pub both_true : (a b : Bool) → (a && b) ≡ true → (a ≡ true) × (b ≡ true)
 both_true true true h = (refl, refl)
 both_true true false h = absurd cc
 both_true false b h = absurd cc
@@ -248,7 +248,7 @@ module _ (inputs : ℕ → Shape) (x : Expression) where
       by true h = refl
       by false h = absurd cc
 
-single_one : (s : Option Shape) → is_single_one s ≡ true → s ≡ Some []
+pub single_one : (s : Option Shape) → is_single_one s ≡ true → s ≡ Some []
 single_one None h = absurd cc
 single_one (Some a) h = ap (λ l. Some l) (single_is a h)
 

@@ -7,3 +7,4 @@ pub mod Shapes
 pub mod Value
 pub mod Evaluated
 pub mod Examples
+pub mod Uses

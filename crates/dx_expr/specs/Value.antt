@@ -1,5 +1,5 @@
 -- The values of an item of an expression.
-use Rattle.std.specs.Prelude.{ℕ, zero, suc, ◌==◌, ◌*◌, Bool, true, false, not, ◌&&◌, ◌||◌, List, [], ◌∷◌, ◌++◌, length, slice_index_or, max, Result, Ok, Err, if◌then◌else◌, ℤ, pos, negsuc, ◌+ℤ◌, ◌-ℤ◌, ◌*ℤ◌, neg_ℤ, unsigned_abs, int_lt, int_le, int_div, int_rem, nat_lt}
+use Rattle.std.specs.Prelude.{ℕ, zero, suc, ◌==◌, ◌*◌, Bool, true, false, not, ◌&&◌, ◌||◌, List, [], ◌∷◌, ◌++◌, length, slice_index_or, Result, Ok, Err, if◌then◌else◌, ℤ, pos, negsuc, ◌+ℤ◌, ◌-ℤ◌, ◌*ℤ◌, neg_ℤ, unsigned_abs, int_lt, int_le, int_div, int_rem, nat_lt}
 use Rattle.std.specs.List.{range_with_len}
 use Rattle.std.specs.Int.{int_min, int_max, int_signum}
 use Rattle.std.specs.Ordering.{int_eq}
@@ -114,8 +114,11 @@ abbrev pub value_at : Values → ℕ → ℤ
 value_at vs i = slice_index_or vs (if length vs == 1 then 0 else i) (pos 0)
 
 -- value by value, in order; a single value stands beside each of the other side
+abbrev pub places : Values → Values → ℕ
+places x y = if length x == 1 then length y else length x
+
 abbrev pub side_by_side : (ℤ → ℤ → Outcome ℤ) → Values → Values → Outcome Values
-side_by_side f x y = each (λ i. f (value_at x i) (value_at y i)) (range_with_len 0 (max (length x) (length y)))
+side_by_side f x y = each (λ i. f (value_at x i) (value_at y i)) (range_with_len 0 (places x y))
 
 -- a sum with a product added
 abbrev pub with_product : ℤ → ℤ → ℤ → Outcome ℤ

@@ -10,6 +10,7 @@ mod lexer;
 mod operators;
 mod parser;
 mod shape;
+mod uses;
 mod values;
 
 pub use dx_expr_grammar::{Binary, Boxed, ExprFail, Expression, Unary};
@@ -18,6 +19,7 @@ pub use fault::{EvalFail, ItemFault};
 pub use inputs::Inputs;
 pub use parser::parse_expr;
 pub use shape::{Shape, is_single, shape_of};
+pub use uses::uses_input;
 pub use values::Values;
 
 #[cfg(test)]

@@ -56,12 +56,19 @@ fn value_of_two(
     binary_value(operator, value_at(xs, place), value_at(ys, place))
 }
 
+/// How many values an operator gives value by value.
+fn places(xs: &[i32], ys: &[i32]) -> usize
+    ensures { result ≡ spec.places xs.now ys.now }
+{
+    if xs.len() == 1 { ys.len() } else { xs.len() }
+}
+
 /// An operator value by value, in order.
 fn beside(alloc: Global, operator: Binary, xs: &[i32], ys: &[i32]) -> Result<Values, EvalFail>
     ensures { Gives (side_by_side (binary_value operator) xs.now ys.now) result }
 {
     let mut found = Items::new(alloc);
-    for place in 0..xs.len().max(ys.len()) {
+    for place in 0..places(xs, ys) {
         let v = value_of_two(operator, xs, ys, place)?;
         found.push(v)?;
     }
