@@ -1,6 +1,6 @@
 -- The values of an expression x that is of some kind, by those of its parts, each of which may be given in other words.
 use Rattle.std.proofs.Common.{◌≡◌, ℕ, zero, suc, ℤ, pos, negsuc, Bool, true, false, List, [], ◌∷◌, Result, Ok, Err, refl, sym, ap, subst, ◌∙◌, arith}
-use Rattle.std.specs.Prelude.{if◌then◌else◌}
+use Rattle.std.specs.Prelude.{IfOk, if◌then◌else◌}
 use Rattle.std.proofs.lemmas.Int.{ints}
 use Rattle.dx_expr_grammar.specs.declared.tree.Binary.{Binary}
 use Rattle.dx_expr_grammar.specs.declared.tree.Expression.{Expression}
@@ -83,3 +83,8 @@ values_fail r o f e h = subst (λ r. Gives o r) (sym e) h
 
 pub fails_along : (o p : Outcome Values) (f : EvalFail) → o ≡ p → FailsWith p f → FailsWith o f
 fails_along o p f e h = subst (λ q. FailsWith q f) (sym e) h
+
+-- a fact of the values, where there are some
+pub of_values : (P : Values → Type 0) (o : Outcome Values) (r : Result (List ℤ) EvalFail) → ((vs : Values) → o ≡ Ok vs → P vs) → Gives o r → IfOk r P
+of_values P o (Ok vs) each h = each vs h
+of_values P o (Err f) each h = tt

@@ -1,6 +1,6 @@
 //! The evaluation of an item of an expression.
 
-ghost use Rattle.std.specs.Prelude.{◌≡◌, ◌<◌, [], Some, IsSome, map, pos, true};
+ghost use Rattle.std.specs.Prelude.{◌≡◌, ◌<◌, [], Some, IfOk, IsSome, length, map, pos, true};
 ghost use Rattle.dx_expr.specs.Shape as shapes;
 ghost use Rattle.dx_expr.specs.Value as spec;
 ghost use Rattle.dx_expr.specs.Evaluated.{Gives, GivesSingle};
@@ -56,8 +56,8 @@ pub fn single_value<I: Inputs>(
                 decided(single_value(alloc, b.get(), inputs, item))
             }
             Sides::Vectors => {
-                let x = values_of(alloc, a.get(), inputs, item)?;
-                dot_product(x.as_slice(), values_of(alloc, b.get(), inputs, item))
+                let x = all_values(alloc, a.get(), inputs, item)?;
+                dot_product(x.as_slice(), all_values(alloc, b.get(), inputs, item))
             }
             Sides::Both => {
                 let x = single_value(alloc, a.get(), inputs, item)?;
@@ -72,14 +72,14 @@ pub fn single_value<I: Inputs>(
                 single_value(alloc, a.get(), inputs, item)
             }
         }
-        Expression::Part(a, k) => part_of(values_of(alloc, a.get(), inputs, item), *k),
+        Expression::Part(a, k) => part_of(all_values(alloc, a.get(), inputs, item), *k),
         Expression::Vector(_) => unreachable!(),
     }
 }
 
 /// The values of an item of an expression whose shapes fit, in order.
 #[cycle(eval)]
-pub fn values_of<I: Inputs>(
+fn all_values<I: Inputs>(
     alloc: Global,
     e: &Expression,
     inputs: &I,
@@ -93,21 +93,21 @@ pub fn values_of<I: Inputs>(
         Expression::Number(_) => as_values(alloc, single_value(alloc, e, inputs, item)),
         Expression::Input(k) => input_values(alloc, *k, inputs, item),
         Expression::Unary(operator, a) => {
-            on_each(alloc, *operator, values_of(alloc, a.get(), inputs, item))
+            on_each(alloc, *operator, all_values(alloc, a.get(), inputs, item))
         }
         Expression::Binary(operator, a, b) => match sides_of(*operator) {
             Sides::Both => {
-                let x = values_of(alloc, a.get(), inputs, item)?;
-                on_both(alloc, *operator, x.as_slice(), values_of(alloc, b.get(), inputs, item))
+                let x = all_values(alloc, a.get(), inputs, item)?;
+                on_both(alloc, *operator, x.as_slice(), all_values(alloc, b.get(), inputs, item))
             }
             _ => as_values(alloc, single_value(alloc, e, inputs, item)),
         },
         Expression::Choice(condition, a, b) => {
             let c = single_value(alloc, condition.get(), inputs, item)?;
             if c == 0 {
-                values_of(alloc, b.get(), inputs, item)
+                all_values(alloc, b.get(), inputs, item)
             } else {
-                values_of(alloc, a.get(), inputs, item)
+                all_values(alloc, a.get(), inputs, item)
             }
         }
         Expression::Part(_, _) => as_values(alloc, single_value(alloc, e, inputs, item)),
@@ -133,4 +133,20 @@ fn vector_values<I: Inputs>(
         found.push(v)?;
     }
     Ok(found)
+}
+
+/// The values of an item of an expression whose shapes fit, in order: as many as the product of the shape's extents.
+pub fn values_of<I: Inputs>(
+    alloc: Global,
+    e: &Expression,
+    inputs: &I,
+    item: u64,
+) -> Result<Values, EvalFail>
+    requires fits { IsSome (shapes.shape_of (I.given inputs.now).shape e.now) }
+    requires item { item < I.items inputs.now }
+    ensures values { Gives (spec.value_of (I.given inputs.now) item e.now) result }
+    ensures count { (s : shapes.Shape) → shapes.shape_of (I.given inputs.now).shape e.now ≡ Some s →
+        IfOk result (λ vs. length vs ≡ spec.size s) }
+{
+    all_values(alloc, e, inputs, item)
 }

@@ -75,17 +75,17 @@ pub single_value-returns-else-x-eq0 : goal.single_value-returns-else-x-eq0
 single_value-returns-else-x-eq0 g t c =
     evaluating.single_along c.decided-in-IfTrue.result _ _ (evaluating.at_binary (g.I.Inputs.given c.args.inputs.now) c.args.item c.args.e.now sides.IfTrue c.in-Binary.operator c.in-Binary.a c.in-Binary.b c.get-in-IfTrue.result.now c.get-in-IfTrue-2.result.now c.in-Binary.is c.in-IfTrue.ensures c.get-in-IfTrue.ensures c.get-in-IfTrue-2.ensures ∙ evaluating.else_if c.in-Binary.operator ((value_of (g.I.Inputs.given c.args.inputs.now) c.args.item) c.get-in-IfTrue.result.now) ((value_of (g.I.Inputs.given c.args.inputs.now) c.args.item) c.get-in-IfTrue-2.result.now) c.in_ok-x-in-IfTrue.x c.in_ok-x-in-IfTrue.ensures (search rules)) (c.decided-in-IfTrue.ensures ((value_of (g.I.Inputs.given c.args.inputs.now) c.args.item) c.get-in-IfTrue-2.result.now) c.single_value-in-IfTrue-2.ensures)
 
-pub single_value-values_of-requires : goal.single_value-values_of-requires
-single_value-values_of-requires g t c =
+pub single_value-all_values-requires : goal.single_value-all_values-requires
+single_value-all_values-requires g t c =
     λ κs lives. (omega (arith, c.decreases, nodes.in_left c.args.e.now c.in-Binary.operator c.in-Binary.a c.in-Binary.b c.get-in-Vectors.result.now c.in-Binary.is c.get-in-Vectors.ensures), (search rules, (fitting.fits_left (g.I.Inputs.given c.args.inputs.now).shape c.args.e.now c.in-Binary.operator c.in-Binary.a c.in-Binary.b c.get-in-Vectors.result.now c.in-Binary.is c.get-in-Vectors.ensures (fitting.fit_some (g.I.Inputs.given c.args.inputs.now).shape c.args.e.now c.requires.single), c.requires.item)))
 
-pub single_value-values_of-requires-in-Vectors : goal.single_value-values_of-requires-in-Vectors
-single_value-values_of-requires-in-Vectors g t c =
+pub single_value-all_values-requires-in-Vectors : goal.single_value-all_values-requires-in-Vectors
+single_value-all_values-requires-in-Vectors g t c =
     λ κs lives. (omega (arith, c.decreases, nodes.in_right c.args.e.now c.in-Binary.operator c.in-Binary.a c.in-Binary.b c.get-in-Vectors-2.result.now c.in-Binary.is c.get-in-Vectors-2.ensures), (search rules, (fitting.fits_right (g.I.Inputs.given c.args.inputs.now).shape c.args.e.now c.in-Binary.operator c.in-Binary.a c.in-Binary.b c.get-in-Vectors-2.result.now c.in-Binary.is c.get-in-Vectors-2.ensures (fitting.fit_some (g.I.Inputs.given c.args.inputs.now).shape c.args.e.now c.requires.single), c.requires.item)))
 
 pub single_value-returns-in_ok-x-in-Vectors : goal.single_value-returns-in_ok-x-in-Vectors
 single_value-returns-in_ok-x-in-Vectors g t c =
-    evaluating.single_along c.dot_product.result _ _ (evaluating.at_binary (g.I.Inputs.given c.args.inputs.now) c.args.item c.args.e.now sides.Vectors c.in-Binary.operator c.in-Binary.a c.in-Binary.b c.get-in-Vectors.result.now c.get-in-Vectors-2.result.now c.in-Binary.is c.in-Vectors.ensures c.get-in-Vectors.ensures c.get-in-Vectors-2.ensures ∙ ap (λ q. values_by sides.Vectors c.in-Binary.operator q ((value_of (g.I.Inputs.given c.args.inputs.now) c.args.item) c.get-in-Vectors-2.result.now)) c.in_ok-x-in-Vectors.ensures ∙ ap (λ l. ((value_of (g.I.Inputs.given c.args.inputs.now) c.args.item) c.get-in-Vectors-2.result.now) >>= λ y. dot_product l y) (sym c.as_slice.ensures)) (c.dot_product.ensures ((value_of (g.I.Inputs.given c.args.inputs.now) c.args.item) c.get-in-Vectors-2.result.now) c.values_of-in-Vectors.ensures)
+    evaluating.single_along c.dot_product.result _ _ (evaluating.at_binary (g.I.Inputs.given c.args.inputs.now) c.args.item c.args.e.now sides.Vectors c.in-Binary.operator c.in-Binary.a c.in-Binary.b c.get-in-Vectors.result.now c.get-in-Vectors-2.result.now c.in-Binary.is c.in-Vectors.ensures c.get-in-Vectors.ensures c.get-in-Vectors-2.ensures ∙ ap (λ q. values_by sides.Vectors c.in-Binary.operator q ((value_of (g.I.Inputs.given c.args.inputs.now) c.args.item) c.get-in-Vectors-2.result.now)) c.in_ok-x-in-Vectors.ensures ∙ ap (λ l. ((value_of (g.I.Inputs.given c.args.inputs.now) c.args.item) c.get-in-Vectors-2.result.now) >>= λ y. dot_product l y) (sym c.as_slice.ensures)) (c.dot_product.ensures ((value_of (g.I.Inputs.given c.args.inputs.now) c.args.item) c.get-in-Vectors-2.result.now) c.all_values-in-Vectors.ensures)
 
 pub single_value-returns-in_ok-x-in-Both : goal.single_value-returns-in_ok-x-in-Both
 single_value-returns-in_ok-x-in-Both g t c =
@@ -116,8 +116,8 @@ pub single_value-returns-else-c-eq0 : goal.single_value-returns-else-c-eq0
 single_value-returns-else-c-eq0 g t c =
     evaluating.single_along c.single_value-else-c-eq0.result _ _ (evaluating.at_one (g.I.Inputs.given c.args.inputs.now) c.args.item c.args.e.now c.in-Choice.condition c.in-Choice.a c.in-Choice.b c.get-in-Choice.result.now c.get-else-c-eq0.result.now c.in_ok-c-in-Choice.c c.in-Choice.is c.get-in-Choice.ensures c.get-else-c-eq0.ensures c.in_ok-c-in-Choice.ensures (evaluating.is_zero-not c.in_ok-c-in-Choice.c (search rules))) c.single_value-else-c-eq0.ensures
 
-pub single_value-values_of-requires-in-Part : goal.single_value-values_of-requires-in-Part
-single_value-values_of-requires-in-Part g t c =
+pub single_value-all_values-requires-in-Part : goal.single_value-all_values-requires-in-Part
+single_value-all_values-requires-in-Part g t c =
     λ κs lives. (omega (arith, c.decreases, nodes.in_part c.args.e.now c.in-Part.a c.in-Part.k c.get-in-Part.result.now c.in-Part.is c.get-in-Part.ensures), (search rules, (fitting.fits_part (g.I.Inputs.given c.args.inputs.now).shape c.args.e.now c.in-Part.a c.in-Part.k c.get-in-Part.result.now c.in-Part.is c.get-in-Part.ensures (fitting.fit_some (g.I.Inputs.given c.args.inputs.now).shape c.args.e.now c.requires.single), c.requires.item)))
 
 pub single_value-unreachable-requires : goal.single_value-unreachable-requires
@@ -138,90 +138,90 @@ single_value-returns-in-Unary g t c =
 
 pub single_value-returns-in-Part : goal.single_value-returns-in-Part
 single_value-returns-in-Part g t c =
-    evaluating.single_along c.part_of.result _ _ (ap (value_of (g.I.Inputs.given c.args.inputs.now) c.args.item) c.in-Part.is ∙ value_part (g.I.Inputs.given c.args.inputs.now) c.args.item c.in-Part.a c.in-Part.k ∙ ap (after (λ x. alone (slice_index_or x c.in-Part.k (pos 0)))) (ap (value_of (g.I.Inputs.given c.args.inputs.now) c.args.item) (sym c.get-in-Part.ensures))) (c.part_of.ensures ((value_of (g.I.Inputs.given c.args.inputs.now) c.args.item) c.get-in-Part.result.now) c.values_of-in-Part.ensures)
+    evaluating.single_along c.part_of.result _ _ (ap (value_of (g.I.Inputs.given c.args.inputs.now) c.args.item) c.in-Part.is ∙ value_part (g.I.Inputs.given c.args.inputs.now) c.args.item c.in-Part.a c.in-Part.k ∙ ap (after (λ x. alone (slice_index_or x c.in-Part.k (pos 0)))) (ap (value_of (g.I.Inputs.given c.args.inputs.now) c.args.item) (sym c.get-in-Part.ensures))) (c.part_of.ensures ((value_of (g.I.Inputs.given c.args.inputs.now) c.args.item) c.get-in-Part.result.now) c.all_values-in-Part.ensures)
 
-pub values_of-single_value-requires : goal.values_of-single_value-requires
-values_of-single_value-requires g t c =
+pub all_values-single_value-requires : goal.all_values-single_value-requires
+all_values-single_value-requires g t c =
     λ κs lives. (omega (arith, c.decreases), (search rules, (fitting.number_single (g.I.Inputs.given c.args.inputs.now).shape c.args.e.now c.in-Number.field-0 c.in-Number.is, c.requires.item)))
 
-pub values_of-values_of-requires : goal.values_of-values_of-requires
-values_of-values_of-requires g t c =
+pub all_values-all_values-requires : goal.all_values-all_values-requires
+all_values-all_values-requires g t c =
     λ κs lives. (omega (arith, c.decreases, nodes.in_unary c.args.e.now c.in-Unary.operator c.in-Unary.a c.get.result.now c.in-Unary.is c.get.ensures), (search rules, (fitting.fits_unary (g.I.Inputs.given c.args.inputs.now).shape c.args.e.now c.in-Unary.operator c.in-Unary.a c.get.result.now c.in-Unary.is c.get.ensures c.requires.fits, c.requires.item)))
 
-pub values_of-values_of-requires-in-Both : goal.values_of-values_of-requires-in-Both
-values_of-values_of-requires-in-Both g t c =
+pub all_values-all_values-requires-in-Both : goal.all_values-all_values-requires-in-Both
+all_values-all_values-requires-in-Both g t c =
     λ κs lives. (omega (arith, c.decreases, nodes.in_left c.args.e.now c.in-Binary.operator c.in-Binary.a c.in-Binary.b c.get-in-Both.result.now c.in-Binary.is c.get-in-Both.ensures), (search rules, (fitting.fits_left (g.I.Inputs.given c.args.inputs.now).shape c.args.e.now c.in-Binary.operator c.in-Binary.a c.in-Binary.b c.get-in-Both.result.now c.in-Binary.is c.get-in-Both.ensures c.requires.fits, c.requires.item)))
 
-pub values_of-values_of-requires-in-Both-2 : goal.values_of-values_of-requires-in-Both-2
-values_of-values_of-requires-in-Both-2 g t c =
+pub all_values-all_values-requires-in-Both-2 : goal.all_values-all_values-requires-in-Both-2
+all_values-all_values-requires-in-Both-2 g t c =
     λ κs lives. (omega (arith, c.decreases, nodes.in_right c.args.e.now c.in-Binary.operator c.in-Binary.a c.in-Binary.b c.get-in-Both-2.result.now c.in-Binary.is c.get-in-Both-2.ensures), (search rules, (fitting.fits_right (g.I.Inputs.given c.args.inputs.now).shape c.args.e.now c.in-Binary.operator c.in-Binary.a c.in-Binary.b c.get-in-Both-2.result.now c.in-Binary.is c.get-in-Both-2.ensures c.requires.fits, c.requires.item)))
 
-pub values_of-returns-in_err-x-in-Both : goal.values_of-returns-in_err-x-in-Both
-values_of-returns-in_err-x-in-Both g t c =
+pub all_values-returns-in_err-x-in-Both : goal.all_values-returns-in_err-x-in-Both
+all_values-returns-in_err-x-in-Both g t c =
     evaluating.values_fail c.from_residual.result _ c.in_err-x-in-Both.field-0.0 (search rules) (evaluating.fails_along _ _ c.in_err-x-in-Both.field-0.0 (evaluating.at_binary (g.I.Inputs.given c.args.inputs.now) c.args.item c.args.e.now sides.Both c.in-Binary.operator c.in-Binary.a c.in-Binary.b c.get-in-Both.result.now c.in-Binary.b c.in-Binary.is c.in-Both.ensures c.get-in-Both.ensures refl) (evaluating.fails_by sides.Both c.in-Binary.operator ((value_of (g.I.Inputs.given c.args.inputs.now) c.args.item) c.get-in-Both.result.now) ((value_of (g.I.Inputs.given c.args.inputs.now) c.args.item) c.in-Binary.b) c.in_err-x-in-Both.field-0.0 c.in_err-x-in-Both.ensures))
 
-pub values_of-single_value-requires-in_default : goal.values_of-single_value-requires-in_default
-values_of-single_value-requires-in_default g t c =
+pub all_values-single_value-requires-in_default : goal.all_values-single_value-requires-in_default
+all_values-single_value-requires-in_default g t c =
     λ κs lives. (omega (arith, c.decreases), (search rules, (fitting.fits_sides (g.I.Inputs.given c.args.inputs.now).shape c.args.e.now c.sides_of.result c.in-Binary.operator c.in-Binary.a c.in-Binary.b c.in-Binary.is c.sides_of.ensures (fitting.no_both (g.I.Inputs.given c.args.inputs.now).shape c.args.e.now c.sides_of.result c.in_default.not-Both) c.requires.fits, c.requires.item)))
 
-pub values_of-single_value-requires-in-Choice : goal.values_of-single_value-requires-in-Choice
-values_of-single_value-requires-in-Choice g t c =
+pub all_values-single_value-requires-in-Choice : goal.all_values-single_value-requires-in-Choice
+all_values-single_value-requires-in-Choice g t c =
     λ κs lives. (omega (arith, c.decreases, nodes.in_condition c.args.e.now c.in-Choice.condition c.in-Choice.a c.in-Choice.b c.get-in-Choice.result.now c.in-Choice.is c.get-in-Choice.ensures), (search rules, (fitting.fits_condition (g.I.Inputs.given c.args.inputs.now).shape c.args.e.now c.in-Choice.condition c.in-Choice.a c.in-Choice.b c.get-in-Choice.result.now c.in-Choice.is c.get-in-Choice.ensures c.requires.fits, c.requires.item)))
 
-pub values_of-returns-in_err-c-in-Choice : goal.values_of-returns-in_err-c-in-Choice
-values_of-returns-in_err-c-in-Choice g t c =
+pub all_values-returns-in_err-c-in-Choice : goal.all_values-returns-in_err-c-in-Choice
+all_values-returns-in_err-c-in-Choice g t c =
     evaluating.values_fail c.from_residual-in_err-c-in-Choice.result _ c.in_err-c-in-Choice.field-0.0 (search rules) (evaluating.fails_choice (g.I.Inputs.given c.args.inputs.now) c.args.item c.args.e.now c.in-Choice.condition c.in-Choice.a c.in-Choice.b c.get-in-Choice.result.now c.in_err-c-in-Choice.field-0.0 c.in-Choice.is c.get-in-Choice.ensures c.in_err-c-in-Choice.ensures)
 
-pub values_of-values_of-requires-then-c-eq0 : goal.values_of-values_of-requires-then-c-eq0
-values_of-values_of-requires-then-c-eq0 g t c =
+pub all_values-all_values-requires-then-c-eq0 : goal.all_values-all_values-requires-then-c-eq0
+all_values-all_values-requires-then-c-eq0 g t c =
     λ κs lives. (omega (arith, c.decreases, nodes.in_other c.args.e.now c.in-Choice.condition c.in-Choice.a c.in-Choice.b c.get-then-c-eq0.result.now c.in-Choice.is c.get-then-c-eq0.ensures), (search rules, (fitting.fits_other (g.I.Inputs.given c.args.inputs.now).shape c.args.e.now c.in-Choice.condition c.in-Choice.a c.in-Choice.b c.get-then-c-eq0.result.now c.in-Choice.is c.get-then-c-eq0.ensures c.requires.fits, c.requires.item)))
 
-pub values_of-values_of-requires-else-c-eq0 : goal.values_of-values_of-requires-else-c-eq0
-values_of-values_of-requires-else-c-eq0 g t c =
+pub all_values-all_values-requires-else-c-eq0 : goal.all_values-all_values-requires-else-c-eq0
+all_values-all_values-requires-else-c-eq0 g t c =
     λ κs lives. (omega (arith, c.decreases, nodes.in_one c.args.e.now c.in-Choice.condition c.in-Choice.a c.in-Choice.b c.get-else-c-eq0.result.now c.in-Choice.is c.get-else-c-eq0.ensures), (search rules, (fitting.fits_one (g.I.Inputs.given c.args.inputs.now).shape c.args.e.now c.in-Choice.condition c.in-Choice.a c.in-Choice.b c.get-else-c-eq0.result.now c.in-Choice.is c.get-else-c-eq0.ensures c.requires.fits, c.requires.item)))
 
-pub values_of-returns-then-c-eq0 : goal.values_of-returns-then-c-eq0
-values_of-returns-then-c-eq0 g t c =
-    evaluating.values_along c.values_of-then-c-eq0.result _ _ (evaluating.at_other (g.I.Inputs.given c.args.inputs.now) c.args.item c.args.e.now c.in-Choice.condition c.in-Choice.a c.in-Choice.b c.get-in-Choice.result.now c.get-then-c-eq0.result.now c.in_ok-c-in-Choice.c c.in-Choice.is c.get-in-Choice.ensures c.get-then-c-eq0.ensures c.in_ok-c-in-Choice.ensures (evaluating.is_zero-is c.in_ok-c-in-Choice.c (search rules))) c.values_of-then-c-eq0.ensures
+pub all_values-returns-then-c-eq0 : goal.all_values-returns-then-c-eq0
+all_values-returns-then-c-eq0 g t c =
+    evaluating.values_along c.all_values-then-c-eq0.result _ _ (evaluating.at_other (g.I.Inputs.given c.args.inputs.now) c.args.item c.args.e.now c.in-Choice.condition c.in-Choice.a c.in-Choice.b c.get-in-Choice.result.now c.get-then-c-eq0.result.now c.in_ok-c-in-Choice.c c.in-Choice.is c.get-in-Choice.ensures c.get-then-c-eq0.ensures c.in_ok-c-in-Choice.ensures (evaluating.is_zero-is c.in_ok-c-in-Choice.c (search rules))) c.all_values-then-c-eq0.ensures
 
-pub values_of-returns-else-c-eq0 : goal.values_of-returns-else-c-eq0
-values_of-returns-else-c-eq0 g t c =
-    evaluating.values_along c.values_of-else-c-eq0.result _ _ (evaluating.at_one (g.I.Inputs.given c.args.inputs.now) c.args.item c.args.e.now c.in-Choice.condition c.in-Choice.a c.in-Choice.b c.get-in-Choice.result.now c.get-else-c-eq0.result.now c.in_ok-c-in-Choice.c c.in-Choice.is c.get-in-Choice.ensures c.get-else-c-eq0.ensures c.in_ok-c-in-Choice.ensures (evaluating.is_zero-not c.in_ok-c-in-Choice.c (search rules))) c.values_of-else-c-eq0.ensures
+pub all_values-returns-else-c-eq0 : goal.all_values-returns-else-c-eq0
+all_values-returns-else-c-eq0 g t c =
+    evaluating.values_along c.all_values-else-c-eq0.result _ _ (evaluating.at_one (g.I.Inputs.given c.args.inputs.now) c.args.item c.args.e.now c.in-Choice.condition c.in-Choice.a c.in-Choice.b c.get-in-Choice.result.now c.get-else-c-eq0.result.now c.in_ok-c-in-Choice.c c.in-Choice.is c.get-in-Choice.ensures c.get-else-c-eq0.ensures c.in_ok-c-in-Choice.ensures (evaluating.is_zero-not c.in_ok-c-in-Choice.c (search rules))) c.all_values-else-c-eq0.ensures
 
-pub values_of-single_value-requires-in-Part : goal.values_of-single_value-requires-in-Part
-values_of-single_value-requires-in-Part g t c =
+pub all_values-single_value-requires-in-Part : goal.all_values-single_value-requires-in-Part
+all_values-single_value-requires-in-Part g t c =
     λ κs lives. (omega (arith, c.decreases), (search rules, (fitting.part_single (g.I.Inputs.given c.args.inputs.now).shape c.args.e.now c.in-Part.field-0 c.in-Part.field-1 c.in-Part.is c.requires.fits, c.requires.item)))
 
-pub values_of-vector_values-requires : goal.values_of-vector_values-requires
-values_of-vector_values-requires g t c =
+pub all_values-vector_values-requires : goal.all_values-vector_values-requires
+all_values-vector_values-requires g t c =
     λ κs lives. (omega (arith, c.decreases, nodes.in_vector c.args.e.now c.in-Vector.parts c.as_slice-in-Vector.result.now c.in-Vector.is c.as_slice-in-Vector.ensures), (search rules, (fitting.fits_parts (g.I.Inputs.given c.args.inputs.now).shape c.args.e.now c.in-Vector.parts c.as_slice-in-Vector.result.now c.in-Vector.is c.as_slice-in-Vector.ensures c.requires.fits, c.requires.item)))
 
-pub values_of-returns-in-Number : goal.values_of-returns-in-Number
-values_of-returns-in-Number g t c =
+pub all_values-returns-in-Number : goal.all_values-returns-in-Number
+all_values-returns-in-Number g t c =
     c.as_values.ensures ((value_of (g.I.Inputs.given c.args.inputs.now) c.args.item) c.args.e.now) c.single_value.ensures
 
-pub values_of-returns-in-Input : goal.values_of-returns-in-Input
-values_of-returns-in-Input g t c =
+pub all_values-returns-in-Input : goal.all_values-returns-in-Input
+all_values-returns-in-Input g t c =
     evaluating.values_along c.input_values.result _ _ (ap (value_of (g.I.Inputs.given c.args.inputs.now) c.args.item) c.in-Input.is ∙ value_input (g.I.Inputs.given c.args.inputs.now) c.args.item c.in-Input.k) c.input_values.ensures
 
-pub values_of-returns-in-Unary : goal.values_of-returns-in-Unary
-values_of-returns-in-Unary g t c =
-    evaluating.values_along c.on_each.result _ _ (ap (value_of (g.I.Inputs.given c.args.inputs.now) c.args.item) c.in-Unary.is ∙ value_unary (g.I.Inputs.given c.args.inputs.now) c.args.item c.in-Unary.operator c.in-Unary.a ∙ ap (after (each (unary_value c.in-Unary.operator))) (ap (value_of (g.I.Inputs.given c.args.inputs.now) c.args.item) (sym c.get.ensures))) (c.on_each.ensures ((value_of (g.I.Inputs.given c.args.inputs.now) c.args.item) c.get.result.now) c.values_of.ensures)
+pub all_values-returns-in-Unary : goal.all_values-returns-in-Unary
+all_values-returns-in-Unary g t c =
+    evaluating.values_along c.on_each.result _ _ (ap (value_of (g.I.Inputs.given c.args.inputs.now) c.args.item) c.in-Unary.is ∙ value_unary (g.I.Inputs.given c.args.inputs.now) c.args.item c.in-Unary.operator c.in-Unary.a ∙ ap (after (each (unary_value c.in-Unary.operator))) (ap (value_of (g.I.Inputs.given c.args.inputs.now) c.args.item) (sym c.get.ensures))) (c.on_each.ensures ((value_of (g.I.Inputs.given c.args.inputs.now) c.args.item) c.get.result.now) c.all_values.ensures)
 
-pub values_of-returns-in_default : goal.values_of-returns-in_default
-values_of-returns-in_default g t c =
+pub all_values-returns-in_default : goal.all_values-returns-in_default
+all_values-returns-in_default g t c =
     c.as_values-in_default.ensures ((value_of (g.I.Inputs.given c.args.inputs.now) c.args.item) c.args.e.now) c.single_value-in_default.ensures
 
-pub values_of-returns-in_ok-x-in-Both : goal.values_of-returns-in_ok-x-in-Both
-values_of-returns-in_ok-x-in-Both g t c =
-    evaluating.values_along c.on_both.result _ _ (evaluating.at_binary (g.I.Inputs.given c.args.inputs.now) c.args.item c.args.e.now sides.Both c.in-Binary.operator c.in-Binary.a c.in-Binary.b c.get-in-Both.result.now c.get-in-Both-2.result.now c.in-Binary.is c.in-Both.ensures c.get-in-Both.ensures c.get-in-Both-2.ensures ∙ ap (λ q. values_by sides.Both c.in-Binary.operator q ((value_of (g.I.Inputs.given c.args.inputs.now) c.args.item) c.get-in-Both-2.result.now)) c.in_ok-x-in-Both.ensures ∙ ap (λ l. ((value_of (g.I.Inputs.given c.args.inputs.now) c.args.item) c.get-in-Both-2.result.now) >>= λ y. side_by_side (binary_value c.in-Binary.operator) l y) (sym c.as_slice.ensures)) (c.on_both.ensures ((value_of (g.I.Inputs.given c.args.inputs.now) c.args.item) c.get-in-Both-2.result.now) c.values_of-in-Both-2.ensures)
+pub all_values-returns-in_ok-x-in-Both : goal.all_values-returns-in_ok-x-in-Both
+all_values-returns-in_ok-x-in-Both g t c =
+    evaluating.values_along c.on_both.result _ _ (evaluating.at_binary (g.I.Inputs.given c.args.inputs.now) c.args.item c.args.e.now sides.Both c.in-Binary.operator c.in-Binary.a c.in-Binary.b c.get-in-Both.result.now c.get-in-Both-2.result.now c.in-Binary.is c.in-Both.ensures c.get-in-Both.ensures c.get-in-Both-2.ensures ∙ ap (λ q. values_by sides.Both c.in-Binary.operator q ((value_of (g.I.Inputs.given c.args.inputs.now) c.args.item) c.get-in-Both-2.result.now)) c.in_ok-x-in-Both.ensures ∙ ap (λ l. ((value_of (g.I.Inputs.given c.args.inputs.now) c.args.item) c.get-in-Both-2.result.now) >>= λ y. side_by_side (binary_value c.in-Binary.operator) l y) (sym c.as_slice.ensures)) (c.on_both.ensures ((value_of (g.I.Inputs.given c.args.inputs.now) c.args.item) c.get-in-Both-2.result.now) c.all_values-in-Both-2.ensures)
 
-pub values_of-returns-in-Part : goal.values_of-returns-in-Part
-values_of-returns-in-Part g t c =
+pub all_values-returns-in-Part : goal.all_values-returns-in-Part
+all_values-returns-in-Part g t c =
     c.as_values-in-Part.ensures ((value_of (g.I.Inputs.given c.args.inputs.now) c.args.item) c.args.e.now) c.single_value-in-Part.ensures
 
-pub values_of-returns-in-Vector : goal.values_of-returns-in-Vector
-values_of-returns-in-Vector g t c =
+pub all_values-returns-in-Vector : goal.all_values-returns-in-Vector
+all_values-returns-in-Vector g t c =
     evaluating.values_along c.vector_values.result _ _ (ap (value_of (g.I.Inputs.given c.args.inputs.now) c.args.item) c.in-Vector.is ∙ value_vector (g.I.Inputs.given c.args.inputs.now) c.args.item c.in-Vector.parts ∙ ap (λ l. joined (map (value_of (g.I.Inputs.given c.args.inputs.now) c.args.item) l)) (sym c.as_slice-in-Vector.ensures)) c.vector_values.ensures
 
 pub vector_values-single_value-requires : goal.vector_values-single_value-requires

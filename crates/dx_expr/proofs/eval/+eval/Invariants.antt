@@ -8,8 +8,8 @@ use Rattle.dx_expr.proofs.eval.+eval.Given as goal
 abbrev pub decreases-single_value : goal.decreases-single_value
 decreases-single_value g l = 2 * nodes l.e.now
 
-abbrev pub decreases-values_of : goal.decreases-values_of
-decreases-values_of g l = 2 * nodes l.e.now + 1
+abbrev pub decreases-all_values : goal.decreases-all_values
+decreases-all_values g l = 2 * nodes l.e.now + 1
 
 abbrev pub decreases-vector_values : goal.decreases-vector_values
 decreases-vector_values g l = 2 * all_nodes l.parts.now + 1
