@@ -1,5 +1,5 @@
 -- What the reading answers, in the words of the grammar.
-use Rattle.std.proofs.Common.{◌≡◌, ℕ, Result, Ok, Err, sym, ap, ◌∙◌}
+use Rattle.std.proofs.Common.{ℕ, Result, Ok, Err, sym, ap, ◌∙◌}
 use Rattle.std.specs.Prelude.{IfOk, IfErr}
 use Rattle.dx_expr_grammar.specs.declared.fail.ExprFail.{ExprFail}
 use Rattle.dx_expr_grammar.specs.declared.fail.ExprFail.TheVariants.{Refused, Memory}

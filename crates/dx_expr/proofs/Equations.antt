@@ -1,5 +1,5 @@
 -- The shape of each kind of expression, its values and the inputs in it, by those of its parts.
-use Rattle.std.proofs.Common.{◌≡◌, ℕ, ℤ, pos, List, [], ◌∷◌, Option, Some, None, Ok, Err, refl, sym, ap, ◌∙◌}
+use Rattle.std.proofs.Common.{◌≡◌, ℕ, pos, List, [], ◌∷◌, Option, Some, None, sym, ap, ◌∙◌}
 use Rattle.std.specs.Prelude.{◌==◌, ◌||◌, Bool, false, length, map, slice_index_or, if◌then◌else◌}
 use Rattle.std.proofs.lemmas.List.{length-map}
 use Rattle.dx_expr_grammar.specs.declared.tree.Unary.{Unary}
@@ -103,5 +103,7 @@ module _ (k : ℕ) where
   uses_vector parts = ap (uses k) (sym (rolls-Vector parts)) ∙ fold-roll-Expression Bool (uses_step k) (Expression-F.Vector parts)
 
 pub ruleset shapes_by_parts = (shape_number, shape_input, shape_unary, shape_binary, shape_choice, shape_part, shape_vector)
+
 pub ruleset values_by_parts = (value_number, value_input, value_unary, value_binary, value_choice, value_part, value_vector)
+
 pub ruleset uses_by_parts = (uses_number, uses_input, uses_unary, uses_binary, uses_choice, uses_part, uses_vector)

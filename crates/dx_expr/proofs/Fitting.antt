@@ -1,5 +1,5 @@
 -- What the shape of an expression says of those of its parts.
-use Rattle.std.proofs.Common.{◌≡◌, ℕ, zero, suc, ◌<◌, Bool, true, false, cond, List, [], ◌∷◌, Option, Some, None, get_or, refl, sym, ap, subst, ◌∙◌, arith}
+use Rattle.std.proofs.Common.{◌≡◌, ℕ, zero, suc, ◌<◌, Bool, true, false, List, [], ◌∷◌, Option, Some, None, get_or, refl, sym, ap, subst, ◌∙◌, arith}
 use Rattle.std.specs.Prelude.{IsSome, length, map, ◌&&◌, ◌||◌, if◌then◌else◌}
 use Rattle.dx_expr_grammar.specs.declared.tree.Unary.{Unary}
 use Rattle.dx_expr_grammar.specs.declared.tree.Unary.TheVariants as unary

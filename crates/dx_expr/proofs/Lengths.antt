@@ -1,5 +1,5 @@
 -- An item of an expression has as many values as its shape says.
-use Rattle.std.proofs.Common.{◌≡◌, ℕ, zero, suc, ◌+◌, ◌*◌, ◌<◌, ◌≤◌, ℤ, pos, Bool, true, false, List, [], ◌∷◌, ◌++◌, ◌⊎◌, inl, inr, length, get_or, Option, Some, None, Ok, Err, refl, sym, ap, subst, ◌∙◌, length-append, arith}
+use Rattle.std.proofs.Common.{◌≡◌, ℕ, zero, suc, ◌+◌, ◌*◌, ◌<◌, ℤ, pos, Bool, true, false, List, [], ◌∷◌, ◌++◌, ◌⊎◌, inl, inr, length, get_or, Option, Some, None, Ok, Err, refl, sym, ap, subst, ◌∙◌, length-append, arith}
 use Rattle.std.specs.Prelude.{nat_eq, map, ◌==◌, ◌||◌, ◌&&◌, if◌then◌else◌, slice_index_or}
 use Rattle.std.specs.List.{range_with_len}
 use Rattle.std.specs.Cmp.Lexicographic.{pointwise}
@@ -15,9 +15,8 @@ use Rattle.dx_expr_grammar.specs.declared.tree.Expression.TheVariants.{rolls-Num
 use Rattle.dx_expr_grammar.specs.declared.tree.Expression.TheOpen.{Expression-F}
 use Rattle.dx_expr.specs.declared.operators.Sides.{Sides}
 use Rattle.dx_expr.specs.declared.operators.Sides.TheVariants as sides
-use Rattle.dx_expr.specs.declared.fault.ItemFault.{ItemFault}
 use Rattle.dx_expr.specs.Shape.{Shape, shape_of, unary_shape, binary_shape, choice_shape, beside, single_if, is_single, is_single_one, is_vector, same_shape, has_part, with_one, with_two, all_single}
-use Rattle.dx_expr.specs.Value.{Inputs, Outcome, Values, value_of, values_by, sides_of, side_by_side, places, dot_product, decided, joined, size, each, checked, alone, is_zero, the_value, input_values, unary_value, binary_value, value_at, dot_from, ◌>>=◌}
+use Rattle.dx_expr.specs.Value.{Inputs, Outcome, Values, value_of, values_by, sides_of, side_by_side, places, dot_product, decided, joined, size, each, checked, alone, is_zero, the_value, unary_value, binary_value, value_at, dot_from, ◌>>=◌}
 use Rattle.dx_expr.proofs.Fitting.{both_true, single_is, single_one}
 use Rattle.dx_expr.proofs.Nodes.{nodes, in_unary, in_left, in_right, in_one, in_other, in_vector, in_parts}
 use Rattle.dx_expr.proofs.Equations.{value_number, value_input, value_unary, value_binary, value_choice, value_part, value_vector, shape_number, shape_input, shape_unary, shape_binary, shape_choice, shape_part, shape_vector}

@@ -1,5 +1,5 @@
 -- Loops over the places of an item's values: what a turn does.
-use Rattle.std.proofs.Common.{◌≡◌, ℕ, zero, suc, ◌+◌, ◌-◌, ◌<◌, List, [], ◌∷◌, ◌++◌, Ok, Err, refl, sym, ap, ◌∙◌, append_assoc, arith, ℤ}
+use Rattle.std.proofs.Common.{◌≡◌, ℕ, suc, ◌+◌, ◌-◌, ◌<◌, [], ◌∷◌, ◌++◌, Ok, Err, refl, sym, ap, ◌∙◌, append_assoc, arith, ℤ}
 use Rattle.std.specs.List.{range_with_len}
 use Rattle.dx_expr.specs.declared.fault.ItemFault.{ItemFault}
 use Rattle.dx_expr.specs.Value.{Outcome, Values, each, ◌>>=◌, with_product, value_at, dot_from}

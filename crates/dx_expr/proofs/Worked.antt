@@ -1,7 +1,6 @@
 -- Worked examples: the values of a text's only item, and where shapes don't fit.
-use Rattle.std.proofs.Common.{◌≡◌, ℕ, zero, suc, ℤ, pos, negsuc, List, [], ◌∷◌, Result, Ok, Err, Option, Some, None, refl}
+use Rattle.std.proofs.Common.{◌≡◌, ℕ, pos, negsuc, List, [], ◌∷◌, Ok, Err, Option, Some, None}
 use Rattle.std.specs.Prelude.{codes}
-use Rattle.dx_expr_grammar.specs.declared.tree.Expression.{Expression}
 use Rattle.dx_grammar.specs.Stream.{turns, while}
 use Rattle.dx_expr_grammar.specs.Tokens.{tokens_of, tokens_from}
 use Rattle.dx_expr_grammar.specs.Reading.{expression, reading, nested, sign, digits, class, sees, sees_digits, sees_class, right_side, chain, once, opening, number, input, part, parts, group, next_part, vector, function_of_one, function_of_two, primary, postfix, signed, branches, whole}
@@ -10,7 +9,6 @@ use Rattle.dx_expr.specs.Shape.{Shape, shape_of}
 use Rattle.dx_expr.specs.Value.{Outcome, Values, value_of}
 use Rattle.dx_expr.specs.Examples.{two, two_shape}
 use Rattle.dx_expr.proofs.Equations.{values_by_parts, shapes_by_parts}
-
 
 -- the values of a text
 values : List ℕ → Option (Outcome Values)

@@ -1,5 +1,5 @@
 -- What an evaluation answers.
-use Rattle.std.specs.Prelude.{◌≡◌, List, [], ◌∷◌, ◌++◌, Result, Ok, Err, ℤ}
+use Rattle.std.specs.Prelude.{◌≡◌, [], ◌∷◌, ◌++◌, Result, Ok, Err, ℤ}
 use Rattle.dx_expr.specs.declared.fault.EvalFail.{EvalFail}
 use Rattle.dx_expr.specs.declared.fault.EvalFail.TheVariants.{Fault, Memory}
 use Rattle.dx_expr.specs.Value.{Outcome, Values, ◌>>=◌}

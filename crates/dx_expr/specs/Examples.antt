@@ -1,5 +1,5 @@
 -- Inputs for worked examples.
-use Rattle.std.specs.Prelude.{ℕ, zero, suc, ◌==◌, List, [], ◌∷◌, ℤ, pos, if◌then◌else◌}
+use Rattle.std.specs.Prelude.{ℕ, ◌==◌, [], ◌∷◌, ℤ, pos, if◌then◌else◌}
 use Rattle.dx_expr.specs.Shape.{Shape}
 use Rattle.dx_expr.specs.Value.{Inputs}
 

@@ -1,5 +1,5 @@
 -- What the lexer hands on.
-use Rattle.std.specs.Prelude.{◌≡◌, ℕ, ◌+◌, false, List, [], ◌∷◌, Option, Some, None}
+use Rattle.std.specs.Prelude.{◌≡◌, ℕ, false, List, [], ◌∷◌, Option, Some, None}
 use Rattle.dx_expr_grammar.specs.Tokens.{Tokens, Piece, Word, Unknown, with_token, is_blank}
 use Rattle.dx_expr_grammar.specs.declared.token.TokenKind.{TokenKind}
 use Rattle.dx_expr.specs.declared.lexer.Next.{Next}

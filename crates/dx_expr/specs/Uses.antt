@@ -1,5 +1,5 @@
 -- Which inputs an expression speaks of.
-use Rattle.std.specs.Prelude.{ℕ, ◌==◌, Bool, true, false, ◌||◌, List, [], ◌∷◌}
+use Rattle.std.specs.Prelude.{ℕ, ◌==◌, Bool, false, ◌||◌, List, [], ◌∷◌}
 use Rattle.dx_expr_grammar.specs.declared.tree.Expression.{Expression}
 use Rattle.dx_expr_grammar.specs.declared.tree.Expression.TheOpen.{Expression-F}
 use Rattle.dx_expr_grammar.specs.declared.tree.Expression.TheFolds.{fold-Expression}

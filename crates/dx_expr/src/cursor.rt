@@ -244,7 +244,13 @@ impl<'a> Cursor<'a> {
     {
         match self.next {
             Next::Token(token) => Err(ExprFail::Refused(token.at)),
-            Next::End { at, whole } => { if whole { Ok(()) } else { Err(ExprFail::Refused(at)) } }
+            Next::End { at, whole } => {
+                if whole {
+                    Ok(())
+                } else {
+                    Err(ExprFail::Refused(at))
+                }
+            }
         }
     }
 }

@@ -7,8 +7,8 @@ ghost use Rattle.dx_expr.specs.Evaluated.{Gives, GivesSingle};
 
 use crate::operators::{Sides, checked, sides_of};
 use crate::values::{
-    Values, as_values, decided, dot_product, input_values, on_both, on_each, on_one, on_two, part_of,
-    single_input,
+    Values, as_values, decided, dot_product, input_values, on_both, on_each, on_one, on_two,
+    part_of, single_input,
 };
 use crate::{EvalFail, Inputs};
 use dx_base::Items;
@@ -98,7 +98,12 @@ fn all_values<I: Inputs>(
         Expression::Binary(operator, a, b) => match sides_of(*operator) {
             Sides::Both => {
                 let x = all_values(alloc, a.get(), inputs, item)?;
-                on_both(alloc, *operator, x.as_slice(), all_values(alloc, b.get(), inputs, item))
+                on_both(
+                    alloc,
+                    *operator,
+                    x.as_slice(),
+                    all_values(alloc, b.get(), inputs, item),
+                )
             }
             _ => as_values(alloc, single_value(alloc, e, inputs, item)),
         },

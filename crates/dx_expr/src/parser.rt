@@ -94,11 +94,7 @@ fn binary(
 ) -> Result<Expression, ExprFail>
     ensures { MatchResult result (λ e. e ≡ Expression.Binary operator a b) (λ f. f ≡ ExprFail.Memory) }
 {
-    Ok(Expression::Binary(
-        operator,
-        Boxed::new(alloc, a)?,
-        Boxed::new(alloc, b)?,
-    ))
+    Ok(Expression::Binary(operator, Boxed::new(alloc, a)?, Boxed::new(alloc, b)?))
 }
 
 #[cycle(parser)]

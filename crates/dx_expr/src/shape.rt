@@ -137,7 +137,11 @@ fn binary_shape<'a>(operator: Binary, a: Shape<'a>, b: Shape<'a>) -> Option<Shap
 fn choice_shape<'a>(c: Shape<'a>, a: Shape<'a>, b: Shape<'a>) -> Option<Shape<'a>>
     ensures { found result ≡ spec.choice_shape (extents_of c.entry) (extents_of a.entry) (extents_of b.entry) }
 {
-    if is_single(c) && same_shape(a, b) { Some(a) } else { None }
+    if is_single(c) && same_shape(a, b) {
+        Some(a)
+    } else {
+        None
+    }
 }
 
 /// Whether each part is a single value.

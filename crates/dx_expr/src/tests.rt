@@ -209,17 +209,23 @@ const MISFITS: [&[u8]; 9] = [
 #[test]
 fn shapes_that_do_not_fit(rt: HostRuntime) -> Result<(), Fail> {
     for text in &MISFITS {
-        let e = parse_expr(rt.alloc(), text).ok().ok_or("it is an expression")?;
+        let e = parse_expr(rt.alloc(), text)
+            .ok()
+            .ok_or("it is an expression")?;
         assert!(rt; shape_of(&e, &Two).is_none());
     }
-    let e = parse_expr(rt.alloc(), b"[1, 2] + 3").ok().ok_or("it is an expression")?;
+    let e = parse_expr(rt.alloc(), b"[1, 2] + 3")
+        .ok()
+        .ok_or("it is an expression")?;
     assert!(rt; matches!(shape_of(&e, &Two), Some(Shape::Vector(2))));
     Ok(())
 }
 
 #[test]
 fn a_single_value(rt: HostRuntime) -> Result<(), Fail> {
-    let e = parse_expr(rt.alloc(), b"$1 * 6").ok().ok_or("it is an expression")?;
+    let e = parse_expr(rt.alloc(), b"$1 * 6")
+        .ok()
+        .ok_or("it is an expression")?;
     let mut found = None;
     if let Some(a) = shape_of(&e, &Two) {
         if is_single(a) {

@@ -45,12 +45,7 @@ fn value_at(vs: &[i32], place: usize) -> i32
 }
 
 /// An operator on the values of both sides at a place.
-fn value_of_two(
-    operator: Binary,
-    xs: &[i32],
-    ys: &[i32],
-    place: usize,
-) -> Result<i32, ItemFault>
+fn value_of_two(operator: Binary, xs: &[i32], ys: &[i32], place: usize) -> Result<i32, ItemFault>
     ensures { result ≡ binary_value operator (spec.value_at xs.now place) (spec.value_at ys.now place) }
 {
     binary_value(operator, value_at(xs, place), value_at(ys, place))
@@ -182,7 +177,11 @@ pub fn part_of(a: Result<Values, EvalFail>, k: u8) -> Result<i32, EvalFail>
 }
 
 /// An operator of one operand value by value.
-pub fn on_each(alloc: Global, operator: Unary, a: Result<Values, EvalFail>) -> Result<Values, EvalFail>
+pub fn on_each(
+    alloc: Global,
+    operator: Unary,
+    a: Result<Values, EvalFail>,
+) -> Result<Values, EvalFail>
     ensures { (o : Outcome spec.Values) → Gives o a → Gives (after (each (unary_value operator)) o) result }
 {
     let vs = a?;

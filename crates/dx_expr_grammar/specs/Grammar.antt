@@ -1,9 +1,8 @@
 -- The grammar of expressions.
-use Rattle.std.specs.Prelude.{◌≡◌, ℕ, zero, suc, ◌==◌, Bool, List, [], ◌∷◌, length, Option, Some, None, if◌then◌else◌}
+use Rattle.std.specs.Prelude.{ℕ, zero, suc, ◌==◌, List, [], ◌∷◌, length, Option, Some, None, if◌then◌else◌}
 use Rattle.dx_expr_grammar.specs.declared.token.Token.{Token}
 use Rattle.dx_expr_grammar.specs.declared.token.Sign.{Sign}
 use Rattle.dx_expr_grammar.specs.declared.token.Sign.TheVariants as s
-use Rattle.dx_expr_grammar.specs.declared.tree.Unary.{Unary}
 use Rattle.dx_expr_grammar.specs.declared.tree.Binary.{Binary}
 use Rattle.dx_expr_grammar.specs.declared.tree.Level.{Level}
 use Rattle.dx_expr_grammar.specs.declared.tree.Level.TheVariants as level

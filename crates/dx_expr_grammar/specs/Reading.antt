@@ -5,7 +5,6 @@ use Rattle.dx_expr_grammar.specs.declared.fail.ExprFail.TheVariants as refusal
 use Rattle.dx_expr_grammar.specs.declared.token.Token.{Token}
 use Rattle.dx_expr_grammar.specs.declared.token.Sign.{Sign}
 use Rattle.dx_expr_grammar.specs.declared.token.Sign.TheVariants as s
-use Rattle.dx_expr_grammar.specs.declared.tree.Unary.{Unary}
 use Rattle.dx_expr_grammar.specs.declared.tree.Binary.{Binary}
 use Rattle.dx_expr_grammar.specs.declared.tree.Level.{Level}
 use Rattle.dx_expr_grammar.specs.declared.tree.Level.TheVariants as level

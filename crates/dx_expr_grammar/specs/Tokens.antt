@@ -1,5 +1,5 @@
 -- The tokens of a text: the longest sign or run of digits at each place, with spaces and tabs between them.
-use Rattle.std.specs.Prelude.{ℕ, zero, suc, ◌+◌, ◌-◌, ◌*◌, ◌==◌, ◌||◌, ◌&&◌, min, nat_eq, nat_lt, nat_le, Bool, true, false, List, [], ◌∷◌, length, codes, fold, Option, Some, None, if◌then◌else◌}
+use Rattle.std.specs.Prelude.{ℕ, zero, suc, ◌+◌, ◌-◌, ◌*◌, ◌==◌, ◌||◌, ◌&&◌, min, nat_eq, nat_lt, nat_le, Bool, false, List, [], ◌∷◌, length, codes, fold, Option, Some, None, if◌then◌else◌}
 use Rattle.std.specs.List.{starts_with, take_while, prefix_len}
 use Rattle.dx_expr_grammar.specs.declared.token.Token.{Token}
 use Rattle.dx_expr_grammar.specs.declared.token.TokenKind.{TokenKind}

@@ -1,5 +1,5 @@
 -- The classes of tokens that the grammar speaks of.
-use Rattle.std.specs.Prelude.{ℕ, ◌==◌, nat_lt, Bool, List, [], ◌∷◌, length, Option, Some, None, is_some, if◌then◌else◌}
+use Rattle.std.specs.Prelude.{ℕ, ◌==◌, nat_lt, Bool, Option, Some, None, if◌then◌else◌}
 use Rattle.dx_expr_grammar.specs.declared.token.Token.{Token}
 use Rattle.dx_expr_grammar.specs.declared.token.TokenKind.{TokenKind}
 use Rattle.dx_expr_grammar.specs.declared.token.TokenKind.TheVariants as kind

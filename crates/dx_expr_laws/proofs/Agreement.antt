@@ -1,5 +1,5 @@
 -- Parsers that agree on short streams: what each way to make a parser keeps of that.
-use Rattle.std.proofs.Common.{◌≡◌, ℕ, zero, suc, ◌<◌, ◌≤◌, Bool, true, false, cond, List, [], ◌∷◌, ◌++◌, length, Ok, Err, refl, sym, ap, ◌∙◌, length-append, arith}
+use Rattle.std.proofs.Common.{◌≡◌, ℕ, zero, suc, ◌<◌, ◌≤◌, Bool, cond, ◌++◌, length, Ok, Err, refl, ap, ◌∙◌, length-append, arith}
 use Rattle.dx_grammar.specs.Stream.{Stream, Outcome, Parser, and_then, ◌>>=◌, choose, turns, while}
 use Rattle.dx_grammar.specs.Rule.{Rule}
 use Rattle.dx_grammar.proofs.Read.{Reads}

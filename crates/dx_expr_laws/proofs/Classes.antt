@@ -1,22 +1,19 @@
 -- The classes of tokens: each is read, and what each looks like.
-use Rattle.std.proofs.Common.{◌≡◌, ℕ, zero, suc, Bool, true, false, not, cond, ◌&&◌, eqb, List, [], ◌∷◌, Option, Some, None, refl, sym, ap, subst, ◌∙◌, arith}
-use Rattle.std.specs.Prelude.{is_some, nat_lt, ◌==◌, if◌then◌else◌}
+use Rattle.std.proofs.Common.{◌≡◌, ℕ, zero, suc, Bool, true, false, not, ◌&&◌, eqb, List, [], ◌∷◌, Option, Some, None, refl, sym, ap, subst, arith}
+use Rattle.std.specs.Prelude.{is_some, nat_lt, if◌then◌else◌}
 use Rattle.std.proofs.lemmas.Bool.{eqb-true}
 use Rattle.dx_expr_grammar.specs.declared.token.Token.{Token}
 use Rattle.dx_expr_grammar.specs.declared.token.TokenKind.{TokenKind}
 use Rattle.dx_expr_grammar.specs.declared.token.TokenKind.TheVariants as kind
 use Rattle.dx_expr_grammar.specs.declared.token.Sign.{Sign}
 use Rattle.dx_expr_grammar.specs.declared.token.Sign.TheVariants as s
-use Rattle.dx_expr_grammar.specs.declared.tree.Binary.{Binary}
-use Rattle.dx_expr_grammar.specs.declared.tree.Level.{Level}
-use Rattle.dx_expr_grammar.specs.declared.tree.Level.TheVariants as level
 use Rattle.dx_grammar.specs.Stream.{looks}
 use Rattle.dx_grammar.proofs.Read as read
 use Rattle.dx_grammar.proofs.Read.{Any, Opens, Alike}
 use Rattle.dx_grammar.proofs.Compose as compose
 use Rattle.dx_grammar.proofs.Compose.{opens_one, looks_near}
 use Rattle.dx_expr_grammar.specs.Tokens.{Tokens}
-use Rattle.dx_expr_grammar.specs.Words.{misfit, code, only_at, is_sign_in, sign_of, digits_in, digits_of, is_digits_in, class_in, class_of, rank, of_level, operator, operator_at, prefix, one_operand, two_operands}
+use Rattle.dx_expr_grammar.specs.Words.{misfit, code, only_at, is_sign_in, sign_of, digits_in, digits_of, is_digits_in, class_in, class_of}
 use Rattle.dx_expr_grammar.specs.Grammar as grammar
 use Rattle.dx_expr_grammar.specs.Grammar.{Rule}
 use Rattle.dx_expr_grammar.specs.Reading as reading

@@ -1,5 +1,5 @@
 -- A whole text is read exactly, to its first error.
-use Rattle.std.proofs.Common.{◌≡◌, ℕ, true, false, List, [], ◌∷◌, Ok, Err, refl, sym, ap, ◌∙◌}
+use Rattle.std.proofs.Common.{◌≡◌, ℕ, false, [], Ok, Err, ap}
 use Rattle.std.specs.Prelude.{is_some}
 use Rattle.dx_expr_grammar.specs.declared.token.Token.{Token}
 use Rattle.dx_expr_grammar.specs.declared.token.Sign.{Sign}

@@ -1,5 +1,5 @@
 -- What the loops of the parser do in a turn.
-use Rattle.std.proofs.Common.{◌≡◌, ℕ, List, [], ◌∷◌}
+use Rattle.std.proofs.Common.{◌≡◌, ℕ, List}
 use Rattle.dx_expr_grammar.specs.declared.token.Sign.TheVariants as s
 use Rattle.dx_expr_grammar.specs.declared.tree.Expression.{Expression}
 use Rattle.dx_expr_grammar.specs.declared.tree.Expression.TheVariants as e

@@ -1,6 +1,6 @@
 -- Rules that speak of themselves: however deep an expression nests, the number of its tokens bounds the steps that
 -- reading it takes, so that the grammar with no bound on steps is read.
-use Rattle.std.proofs.Common.{◌≡◌, ℕ, zero, suc, ◌+◌, ◌<◌, ◌≤◌, Bool, true, false, List, [], ◌∷◌, ◌++◌, ◌⊎◌, length, Option, Some, None, inl, inr, Ok, Err, refl, sym, ap, subst, ◌∙◌, arith}
+use Rattle.std.proofs.Common.{◌≡◌, ℕ, zero, suc, ◌+◌, ◌<◌, ◌≤◌, List, [], ◌∷◌, ◌++◌, ◌⊎◌, length, Some, inl, inr, Ok, Err, refl, sym, ap, subst, ◌∙◌, arith}
 use Rattle.std.proofs.lemmas.List.{append_cancel_right}
 use Rattle.dx_expr_grammar.specs.declared.token.Token.{Token}
 use Rattle.dx_expr_grammar.specs.declared.token.Sign.{Sign}
@@ -11,10 +11,8 @@ use Rattle.dx_expr_grammar.specs.declared.tree.Binary.TheVariants as binary
 use Rattle.dx_expr_grammar.specs.declared.tree.Level.{Level}
 use Rattle.dx_expr_grammar.specs.declared.tree.Level.TheVariants as level
 use Rattle.dx_expr_grammar.specs.declared.tree.Expression.{Expression}
-use Rattle.dx_expr_grammar.specs.declared.tree.Expression.TheVariants as e
 use Rattle.dx_grammar.specs.Rule.{Begins, snoc}
 use Rattle.dx_grammar.specs.Stream.{own, pure}
-use Rattle.dx_grammar.proofs.Read as read
 use Rattle.dx_grammar.proofs.Read.{Any, Alike, Took, Refused, before}
 use Rattle.dx_grammar.proofs.Many.{Shrinks}
 use Rattle.dx_grammar.proofs.Laws.{where_less, less, fills, check}
@@ -24,10 +22,10 @@ use Rattle.dx_expr_grammar.specs.Grammar as grammar
 use Rattle.dx_expr_grammar.specs.Grammar.{Rule, Part, Whole, Signed, joined}
 use Rattle.dx_expr_grammar.specs.Reading as reading
 use Rattle.dx_expr_grammar.specs.Reading.{Parser, sees, sees_digits, sees_class}
-use Rattle.dx_expr_laws.proofs.Classes.{Reads, sign, digits, class}
+use Rattle.dx_expr_laws.proofs.Classes.{Reads, sign, class}
 use Rattle.dx_expr_laws.proofs.Productions as productions
 use Rattle.dx_expr_laws.proofs.Productions.{After, AfterSigned}
-use Rattle.dx_expr_laws.proofs.Agreement.{Agree, Keeps, keeps, agree_less, agree_refl, agree_then, agree_behind, agree_choose, agree_while}
+use Rattle.dx_expr_laws.proofs.Agreement.{Agree, keeps, agree_less, agree_refl, agree_then, agree_behind, agree_choose, agree_while}
 use Rattle.dx_expr_laws.proofs.Wider.{Wider, wider_refl, wider_trans, wider_then, wider_either, wider_left, wider_right, wider_more, wider_alone}
 
 -- ---- the parsers of a production agree where those of its parts do
@@ -149,7 +147,7 @@ pub reading_next : (p : Part) (s : Tokens) → reading.reading p s ≡ reading.p
 unfolding reading.reading reading.nested
 reading_next p s =
     (production_agree (length s.tokens) (grammar.nested (length s.tokens)) (reading.nested (length s.tokens)) reading.reading (nested_reads (length s.tokens))
-        (λ q. record { same = λ u short. sym (enough (length s.tokens) q u short) }) p).same s (omega arith)
+    (λ q. record { same = λ u short. sym (enough (length s.tokens) q u short) }) p).same s (omega arith)
 
 pub whole_next : (k : ℕ) (s : Tokens) → reading.reading (Whole k) s ≡ reading.whole reading.reading k s
 whole_next k s = reading_next (Whole k) s

@@ -1,6 +1,6 @@
 -- Each production of the grammar is read, where the parts of the grammar are.
 use Rattle.std.proofs.Common.{◌≡◌, ℕ, zero, suc, Bool, true, false, not, ◌&&◌, eqb, List, [], ◌∷◌, Option, Some, None, refl, ap, ◌∙◌}
-use Rattle.std.specs.Prelude.{is_some, ◌==◌, if◌then◌else◌}
+use Rattle.std.specs.Prelude.{is_some, if◌then◌else◌}
 use Rattle.std.proofs.lemmas.Bool.{eqb-true}
 use Rattle.dx_expr_grammar.specs.declared.token.Sign.{Sign}
 use Rattle.dx_expr_grammar.specs.declared.token.Sign.TheVariants as s
@@ -11,21 +11,19 @@ use Rattle.dx_expr_grammar.specs.declared.tree.Level.{Level}
 use Rattle.dx_expr_grammar.specs.declared.tree.Level.TheVariants as level
 use Rattle.dx_expr_grammar.specs.declared.tree.Expression.{Expression}
 use Rattle.dx_expr_grammar.specs.declared.tree.Expression.TheVariants as e
-use Rattle.dx_grammar.specs.Stream.{◌>>=◌, ◌>>◌, pure, choose, while}
-use Rattle.dx_grammar.specs.Rule.{nothing, more, snoc, ◌∣◌}
-use Rattle.dx_grammar.specs.Rule as rule
+use Rattle.dx_grammar.specs.Stream.{while}
+use Rattle.dx_grammar.specs.Rule.{more, snoc}
 use Rattle.dx_grammar.proofs.Read.{Any, Opens}
 use Rattle.dx_grammar.proofs.Many.{Past}
 use Rattle.dx_grammar.proofs.Compose.{Fills}
-use Rattle.dx_grammar.proofs.Laws as laws
-use Rattle.dx_grammar.proofs.Laws.{done, check, refuses, next, after, either, loop, where_less, first, second, both, nothing_more, ends, anything, twice, more_opens, fills, fills_first}
+use Rattle.dx_grammar.proofs.Laws.{done, check, refuses, next, after, either, loop, first, second, both, nothing_more, ends, anything, twice, more_opens, fills, fills_first}
 use Rattle.dx_expr_grammar.specs.Tokens.{Tokens}
 use Rattle.dx_expr_grammar.specs.Words.{code, is_sign_in, rank, of_level, operator, operator_at, prefix, one_operand, two_operands}
 use Rattle.dx_expr_grammar.specs.Grammar as grammar
 use Rattle.dx_expr_grammar.specs.Grammar.{Rule, Part, Whole, Signed, joined}
 use Rattle.dx_expr_grammar.specs.Reading as reading
 use Rattle.dx_expr_grammar.specs.Reading.{Parser, sees, sees_digits, sees_class}
-use Rattle.dx_expr_laws.proofs.Classes.{Reads, sees_near, digits_near, class_near, sign_has, sign_lacks, digits_lacks, class_lacks, digits_digits, sign_digits, class_digits, class_has, sign_unlike, digits_unlike, class_unlike, opens_class, in_class, each_sign, apart, sign, digits, class}
+use Rattle.dx_expr_laws.proofs.Classes.{Reads, sees_near, digits_near, class_near, sign_has, sign_lacks, class_lacks, digits_digits, sign_digits, class_digits, class_has, sign_unlike, digits_unlike, class_unlike, opens_class, in_class, each_sign, apart, sign, digits, class}
 
 -- ---- what may follow
 
@@ -135,8 +133,8 @@ module _ {X : Rule Expression} {P : Parser Expression} {Mid : Tokens → Type 0}
   once = after operand
       (λ a. both (first (first follows)) (ends (λ u h. h.1)))
       (λ a. either (class_near (operator_at l)) (first (first (class_has (operator_at l))))
-          (after right_side (λ p. ends (λ u h. h.1)) (λ p. done))
-          (ends (λ u h. h.0)) done)
+      (after right_side (λ p. ends (λ u h. h.1)) (λ p. done))
+      (ends (λ u h. h.0)) done)
 
 -- what follows an operand is an operator of a looser level, or none
 at_product : Opens (grammar.operator level.Product) Any AfterSigned

@@ -1,10 +1,10 @@
 -- The tokens of a text, one after the other.
-use Rattle.std.proofs.Common.{◌≡◌, ℕ, zero, suc, ◌+◌, ◌<◌, ◌≤◌, Bool, true, false, cond, List, [], ◌∷◌, length, drop, take, min, refl, sym, ap, ◌∙◌, arith}
+use Rattle.std.proofs.Common.{◌≡◌, ℕ, zero, suc, ◌+◌, ◌<◌, ◌≤◌, Bool, true, false, cond, List, [], ◌∷◌, length, drop, refl, sym, ap, ◌∙◌, arith}
 use Rattle.std.specs.Prelude.{nat_lt, Option, Some, None}
 use Rattle.std.proofs.lemmas.Bool.Decides.{nat_tests}
 use Rattle.dx_expr_grammar.specs.declared.token.Sign.{Sign}
 use Rattle.dx_expr_grammar.specs.declared.token.TokenKind.{TokenKind}
-use Rattle.dx_expr_grammar.specs.Tokens.{Tokens, Piece, Blank, Word, Unknown, piece, further, laid, with_token, stopped, ended, is_blank, is_digit, first_of_signs, signs, sign_piece, digits_piece, tokens_from}
+use Rattle.dx_expr_grammar.specs.Tokens.{Piece, Blank, Word, Unknown, piece, further, laid, with_token, stopped, ended, is_blank, is_digit, first_of_signs, signs, sign_piece, digits_piece, tokens_from}
 
 -- behind the bytes of a token
 pub passed : (more at : ℕ) (rest : List ℕ) → more ≤ length rest → tokens_from more at rest ≡ tokens_from 0 (at + more) (drop more rest)

@@ -1,5 +1,5 @@
 -- Rules that say at least what others say: what each way to make a rule keeps of that.
-use Rattle.std.proofs.Common.{◌≡◌, List, [], ◌∷◌, ◌++◌, inl, inr, refl, sym, append-nil}
+use Rattle.std.proofs.Common.{List, [], ◌∷◌, inl, inr, sym, append-nil}
 use Rattle.dx_grammar.specs.Rule.{Rule, Run, nothing, ◌∣◌, more, with_all}
 use Rattle.dx_grammar.specs.Rule as rule
 

@@ -1,10 +1,10 @@
-use Rattle.std.proofs.Common.{◌≡◌, ℕ, ℤ, pos, rules, arith, Ok, Err, [], ◌∷◌, refl, sym, ap, ◌∙◌}
+use Rattle.std.proofs.Common.{pos, rules, arith, [], ◌∷◌, refl, sym, ap, ◌∙◌}
 use Rattle.std.specs.Prelude.{slice_index_or, map}
 use mir.Val.{SFits}
-use Rattle.std.proofs.Common.{to_z, of_z, w32, to_z-of_z}
+use Rattle.std.proofs.Common.{w32, to_z-of_z}
 use Rattle.dx_expr.specs.Shape.{shape_of}
 use Rattle.dx_expr.specs.declared.operators.Sides.TheVariants as sides
-use Rattle.dx_expr.specs.Value.{Outcome, Values, value_of, values_by, dot_product, side_by_side, binary_value, after, each, unary_value, alone, joined, ◌>>=◌}
+use Rattle.dx_expr.specs.Value.{value_of, values_by, dot_product, side_by_side, binary_value, after, each, unary_value, alone, joined, ◌>>=◌}
 use Rattle.dx_expr.proofs.Equations.{value_number, value_input, value_unary, value_part, value_vector}
 use Rattle.dx_expr.proofs.Fitting as fitting
 use Rattle.dx_expr.proofs.Evaluating as evaluating

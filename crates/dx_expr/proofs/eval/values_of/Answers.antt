@@ -1,5 +1,5 @@
 use Rattle.std.proofs.Common.{◌≡◌, length}
-use Rattle.dx_expr.specs.Value.{Values, value_of, size}
+use Rattle.dx_expr.specs.Value.{value_of, size}
 use Rattle.dx_expr.proofs.Evaluating.{of_values}
 use Rattle.dx_expr.proofs.Lengths.{value_count}
 use Rattle.dx_expr.proofs.eval.values_of.Goals as goal

@@ -1,4 +1,3 @@
-use Rattle.std.proofs.Common.{◌≡◌}
 use Rattle.dx_expr_grammar.specs.Tokens.{tokens_of}
 use Rattle.dx_expr_grammar.specs.Reading.{Reads, expression}
 use Rattle.dx_expr.proofs.Answered.{is_found, is_only, is_refused}
