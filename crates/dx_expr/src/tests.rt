@@ -1,0 +1,237 @@
+use crate::{
+    EvalFail, ExprFail, Inputs, ItemFault, Shape, is_single, parse_expr, shape_of, single_value,
+    values_of,
+};
+use std::alloc::Global;
+use std::test::Fail;
+
+/// Where a text is refused.
+fn refused_at(alloc: Global, text: &[u8]) -> Option<u64> {
+    match parse_expr(alloc, text) {
+        Err(ExprFail::Refused(at)) => Some(at),
+        _ => None,
+    }
+}
+
+/// Texts that are no expression, each with the offset of its first token that doesn't fit, or of its end.
+const REFUSED: [(&[u8], u64); 28] = [
+    (b"", 0),
+    (b"  ", 2),
+    (b"absx(1)", 3),
+    (b"minmax(1)", 3),
+    (b"1e3", 1),
+    (b"!=1", 0),
+    (b"1 < = 2", 4),
+    (b"min(1)", 5),
+    (b"abs(1,2)", 5),
+    (b"$21", 1),
+    (b"$", 1),
+    (b"$ 0 . 256", 6),
+    (b"-2147483648", 1),
+    (b"2147483648", 0),
+    (b"1 +", 3),
+    (b"1 2", 2),
+    (b"1 < 2 < 3", 6),
+    (b"1 == 2 == 3", 7),
+    (b"(1", 2),
+    (b"1)", 1),
+    (b"[]", 1),
+    (b"[1,]", 3),
+    (b"[1].256", 4),
+    (b"1 ? 2", 5),
+    (b"1 & 2", 2),
+    (b"dot(1 1)", 6),
+    (b"sign 1", 5),
+    (b"a", 0),
+];
+
+#[test]
+fn refuses_at_the_first_misfit(rt: HostRuntime) -> Result<(), Fail> {
+    for (text, at) in &REFUSED {
+        assert_eq!(rt; refused_at(rt.alloc(), text), Some(*at));
+    }
+    Ok(())
+}
+
+/// A text of as many bytes as the number says, each the same, and then one more.
+fn repeated(alloc: Global, byte: u8, count: usize, last: u8) -> Result<Vec<u8>, Fail> {
+    let mut text = Vec::new(alloc);
+    for _ in 0..count {
+        text.push(byte)?;
+    }
+    text.push(last)?;
+    Ok(text)
+}
+
+#[test]
+fn refuses_at_the_limits(rt: HostRuntime) -> Result<(), Fail> {
+    // The 65th open bracket, and 64 of them.
+    let brackets = repeated(rt.alloc(), b'(', 65, b'1')?;
+    assert_eq!(rt; refused_at(rt.alloc(), &brackets), Some(64));
+    let brackets = repeated(rt.alloc(), b'(', 64, b'1')?;
+    assert_eq!(rt; refused_at(rt.alloc(), &brackets), Some(65));
+    // 4,097 bytes of an expression, 4,096 of them, and a misfit before the limit of a longer text.
+    let signs = repeated(rt.alloc(), b'-', 4096, b'1')?;
+    assert_eq!(rt; refused_at(rt.alloc(), &signs), Some(4096));
+    let signs = repeated(rt.alloc(), b'-', 4095, b'1')?;
+    assert_eq!(rt; refused_at(rt.alloc(), &signs), None);
+    let misfits = repeated(rt.alloc(), b')', 5000, b'1')?;
+    assert_eq!(rt; refused_at(rt.alloc(), &misfits), Some(0));
+    Ok(())
+}
+
+/// Input 0 is a vector of two numbers, of which one is outside the int range; each other input is the number 7.
+struct Two;
+
+const LARGE: [u32; 1] = [2];
+
+impl Inputs for Two {
+    ghost use Rattle.dx_expr.specs.Examples.{two};
+
+    ghost given = { λ _. two };
+
+    ghost items = { λ _. 1 };
+
+    fn extents(&self, k: u8) -> &[u32] {
+        if k == 0 { &LARGE } else { &[] }
+    }
+
+    fn size(&self, k: u8) -> u64 {
+        if k == 0 { 2 } else { 1 }
+    }
+
+    fn value(&self, k: u8, _item: u64, place: u64) -> i64 {
+        if k != 0 {
+            7
+        } else if place == 0 {
+            3_000_000_000
+        } else {
+            5
+        }
+    }
+}
+
+/// The first value of a text over these inputs; none where it is no expression or its shapes don't fit.
+fn first_value(alloc: Global, text: &[u8]) -> Option<Result<i32, ItemFault>> {
+    let Ok(e) = parse_expr(alloc, text) else {
+        return None;
+    };
+    if shape_of(&e, &Two).is_none() {
+        return None;
+    }
+    match values_of(alloc, &e, &Two, 0) {
+        Ok(vs) => match vs.as_slice().first() {
+            Some(v) => Some(Ok(*v)),
+            None => None,
+        },
+        Err(EvalFail::Fault(fault)) => Some(Err(fault)),
+        Err(EvalFail::Memory) => None,
+    }
+}
+
+/// Texts and their values, which tell how operators bind and what they make of their operands.
+const VALUES: [(&[u8], i32); 30] = [
+    (b"10 - 4 - 3", 3),
+    (b"100 / 5 / 2", 10),
+    (b"2 + 3 * 4", 14),
+    (b"(2 + 3) * 4", 20),
+    (b"2 * 3 % 4", 2),
+    (b"1 + 2 < 4", 1),
+    (b"1 < 2 == 2 < 3", 1),
+    (b"3 == 3 && 0", 0),
+    (b"0 && 0 || 1", 1),
+    (b"1 || 0 && 0", 1),
+    (b"1 ? 2 : 0 ? 3 : 4", 2),
+    (b"0 ? 1 ? 2 : 3 : 4", 4),
+    (b"-2 * 3", -6),
+    (b"- - 2", 2),
+    (b"!0 + 1", 2),
+    (b"-7 / 2", -3),
+    (b"-7 % 2", -1),
+    (b"7 % -2", 1),
+    (b"(-2147483647 - 1) % -1", 0),
+    (b"abs(-3) + sign(-9)", 2),
+    (b"min(2, 3) * max(2, 3)", 6),
+    (b"dot([1, 2], [3, 4])", 11),
+    (b"[1, 2].1", 2),
+    (b"([1, 2] * $1).1", 14),
+    (b"(5 - [1, 2]).0", 4),
+    (b"$007", 7),
+    (b"0 && 1 / 0", 0),
+    (b"1 || 1 / 0", 1),
+    (b"1 ? 2 : 1 / 0", 2),
+    (b"2147483647 > -2147483647", 1),
+];
+
+#[test]
+fn operators_bind_and_give_values(rt: HostRuntime) -> Result<(), Fail> {
+    for (text, value) in &VALUES {
+        assert_eq!(rt; first_value(rt.alloc(), text), Some(Ok(*value)));
+    }
+    Ok(())
+}
+
+/// Texts of which an item has no value, each with its first fault.
+const FAULTS: [(&[u8], ItemFault); 10] = [
+    (b"1 / 0", ItemFault::DivisionByZero),
+    (b"1 % 0", ItemFault::DivisionByZero),
+    (b"2147483647 + 1", ItemFault::Overflow),
+    (b"(-2147483647 - 1) / -1", ItemFault::Overflow),
+    (b"abs(-2147483647 - 1)", ItemFault::Overflow),
+    (b"[2147483647, 1] + [1, 1/0]", ItemFault::DivisionByZero),
+    (b"[1/0, 1].1", ItemFault::DivisionByZero),
+    (b"$0.1", ItemFault::Overflow),
+    (b"1 && 1 / 0", ItemFault::DivisionByZero),
+    (b"dot([65536, 1], [65536, 0])", ItemFault::Overflow),
+];
+
+#[test]
+fn items_without_a_value(rt: HostRuntime) -> Result<(), Fail> {
+    for (text, fault) in &FAULTS {
+        assert_eq!(rt; first_value(rt.alloc(), text), Some(Err(*fault)));
+    }
+    Ok(())
+}
+
+/// Texts whose shapes don't fit.
+const MISFITS: [&[u8]; 9] = [
+    b"[1, 2] + [1, 2, 3]",
+    b"[1, 2] == [1, 2]",
+    b"![1]",
+    b"[1, 2] ? 1 : 2",
+    b"1 ? [1] : 2",
+    b"[1].1",
+    b"1 .0",
+    b"dot([1], 1)",
+    b"[[1]]",
+];
+
+#[test]
+fn shapes_that_do_not_fit(rt: HostRuntime) -> Result<(), Fail> {
+    for text in &MISFITS {
+        let e = parse_expr(rt.alloc(), text)
+            .ok()
+            .ok_or("it is an expression")?;
+        assert!(rt; shape_of(&e, &Two).is_none());
+    }
+    let e = parse_expr(rt.alloc(), b"[1, 2] + 3")
+        .ok()
+        .ok_or("it is an expression")?;
+    assert!(rt; matches!(shape_of(&e, &Two), Some(Shape::Vector(2))));
+    Ok(())
+}
+
+#[test]
+fn a_single_value(rt: HostRuntime) -> Result<(), Fail> {
+    let e = parse_expr(rt.alloc(), b"$1 * 6")
+        .ok()
+        .ok_or("it is an expression")?;
+    let mut found = None;
+    if let Some(a) = shape_of(&e, &Two) {
+        if is_single(a) {
+            found = single_value(rt.alloc(), &e, &Two, 0).ok();
+        }
+    }
+    assert_eq!(rt; found, Some(42));
+    Ok(())
+}

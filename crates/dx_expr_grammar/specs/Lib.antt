@@ -1,0 +1,5 @@
+pub mod formers
+pub mod Tokens
+pub mod Words
+pub mod Grammar
+pub mod Reading
