@@ -86,6 +86,7 @@ fn what_a_writer_took_is_read_from_its_folder(rt: HostRuntime) -> Result<(), Fai
         let got = read(alloc, &mut files, name)?;
         assert_eq!(rt; got.as_str(), want);
     }
+    fs::remove_file(&rt, path)?;
     Ok(())
 }
 
@@ -94,6 +95,7 @@ fn a_writer_that_only_reads_is_a_fault(rt: HostRuntime) -> Result<(), Fail> {
     let path = "/tmp/dx_io-a-writer-that-only-reads";
     fs::write(&rt, path, "abc")?;
     let mut out = StdSink::new(fs::open(&rt, path)?);
+    fs::remove_file(&rt, path)?;
     assert_eq!(rt; out.write(b"d"), Err(SinkFail::Fault));
     Ok(())
 }
