@@ -9,15 +9,18 @@ mod makers;
 mod names;
 mod object;
 mod outs;
+mod run_fail;
 mod sums;
 mod with;
 
 pub use dx_arrays::{Array, ArrayClass, ArrayError, ElemType, Shape, in_range};
+pub use dx_base::{Code, NativeKind};
 pub use kinds::Kind;
 pub use laws::component_law;
 pub use makers::ObjectError;
 pub use object::{Object, Part, Parts};
 pub use outs::{Outs, Value};
+pub use run_fail::RunFail;
 pub use with::WithError;
 
 #[cfg(test)]
