@@ -90,14 +90,16 @@ or_tree None u = u
 abbrev pub given_for : List Given → ℕ → Text → Option Tree
 given_for gs i p = or_else (given_by_place gs i) (given_by_name gs p)
 
--- the arguments of a function: its named parameters, an omitted one being NULL, then the further arguments
-abbrev pub further : List Given → Trees
-further [] = NoTree
-further (g ∷ rest) = AndTree g.tree (further rest)
+-- the arguments of a function: its named parameters, an omitted one being NULL, then the further arguments, as many as
+-- may follow
+abbrev pub further : ℕ → List Given → Trees
+further more [] = NoTree
+further zero (g ∷ rest) = NoTree
+further (suc more) (g ∷ rest) = AndTree g.tree (further more rest)
 
-abbrev pub inputs : List Text → ℕ → List Given → Trees
-inputs [] i gs = further (drop i gs)
-inputs (p ∷ rest) i gs = AndTree (or_tree (given_for gs i p) null_tree) (inputs rest (suc i) gs)
+abbrev pub inputs : List Text → ℕ → ℕ → List Given → Trees
+inputs [] more i gs = further more (drop i gs)
+inputs (p ∷ rest) more i gs = AndTree (or_tree (given_for gs i p) null_tree) (inputs rest more (suc i) gs)
 
 abbrev pub default_tree : Option Const → Tree
 default_tree (Some c) = ConstantTree c
@@ -145,7 +147,7 @@ call_expanded u spot step cache (CallsMacro m) args =
     record { result = inner.result; effects = args.effects ++ inner.effects }
 call_expanded u spot step cache (CallsFunction f) args =
     let place : Place = record { site = spot.base ++ step ∷ []; path = spot.path; cache = cache } in
-    let c = TreeCall f place (inputs (row_of f).params 0 args.given) in
+    let c = TreeCall f place (inputs (row_of f).params (row_of f).more 0 args.given) in
     record { result = function_result (row_of f).results c; effects = args.effects ++ own_effect f c }
 
 -- `before` are the calls that stand before in the same text
