@@ -13,6 +13,7 @@ pub enum RunFail {
 }
 
 impl From<AllocError> for RunFail {
+    ghost use Rattle.std.specs.Prelude.{◌≡◌};
     ghost use Rattle.dx_objects.specs.declared.run_fail.RunFail.TheVariants.{Memory};
 
     ghost from_gives = { λ _ e. e ≡ Memory };
