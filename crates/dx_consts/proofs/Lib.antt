@@ -1,0 +1,2 @@
+pub mod PlainInts
+pub mod Members
