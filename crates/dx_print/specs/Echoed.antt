@@ -1,0 +1,31 @@
+-- The line that Echo prints of its inputs.
+use Rattle.std.specs.Prelude.{ℕ, Bool, List, [], ◌∷◌, ◌++◌, ◌==◌, ◌&&◌, map, length, Option, Some, None, if◌then◌else◌}
+use Rattle.std.specs.Fmt.{signed_decimal}
+use Rattle.dx_base.specs.Tokens.Ascii as ascii
+use Rattle.dx_base.specs.Array.{ArrayData, items, value}
+use Rattle.dx_base.specs.Object.{Tree, array, text, field, group, series}
+use Rattle.dx_print.specs.Words.{spaced}
+use Rattle.dx_print.specs.Header.{header, array_header, object_header}
+
+-- a number is an array of rank 0 with one item, whatever its class and type
+abbrev pub is_number : ArrayData → Bool
+is_number a = (length a.extents == 0) && (items a == 1)
+
+-- a number in decimal, and any other array as its header
+abbrev pub array_word : ArrayData → List ℕ
+array_word a = if is_number a then signed_decimal (value a 0 0) else array_header a
+
+-- a text as its bytes, a number in decimal, and anything else as its header
+abbrev pub object_word : Tree → List ℕ
+object_word (array a xs) = array_word a
+object_word (text b xs) = b
+object_word (field ps xs) = object_header (field ps xs)
+object_word (group ps xs) = object_header (group ps xs)
+object_word (series ps xs) = object_header (series ps xs)
+
+abbrev pub value_word : Option Tree → List ℕ
+value_word None = header None
+value_word (Some t) = object_word t
+
+abbrev pub echo_of : List (Option Tree) → List ℕ
+echo_of vs = spaced (map value_word vs) ++ ascii.newline ∷ []

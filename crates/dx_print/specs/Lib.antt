@@ -1,0 +1,6 @@
+pub mod Words
+pub mod Header
+pub mod ItemLines
+pub mod Printed
+pub mod Echoed
+pub mod Results

@@ -1,0 +1,16 @@
+-- What the calls answer: the text or the code of the definition, or that memory ran out.
+use Rattle.std.specs.Prelude.{◌≡◌, ℕ, List, Result, Ok, Err}
+use Rattle.dx_base.specs.declared.code.Code.{Code}
+use Rattle.dx_objects.specs.declared.run_fail.RunFail.{RunFail}
+use Rattle.dx_objects.specs.declared.run_fail.RunFail.TheVariants as fail
+
+abbrev pub Prints : Result (List ℕ) Code → Result (List ℕ) RunFail → Type 0
+Prints r (Ok text) = r ≡ Ok text
+Prints r (Err (fail.Code code)) = r ≡ Err code
+Prints r (Err fail.Memory) = Unit {0}
+
+-- Echo has no refusal
+abbrev pub Echoes : List ℕ → Result (List ℕ) RunFail → Type 0
+Echoes line (Ok text) = text ≡ line
+Echoes line (Err (fail.Code code)) = ⊥
+Echoes line (Err fail.Memory) = Unit {0}

@@ -1,0 +1,86 @@
+// The line that Echo prints.
+ghost use Rattle.std.specs.Prelude.{◌≡◌, ◌++◌, OnOk, map};
+ghost use Rattle.dx_objects.specs.Values.{value_of, values_of};
+ghost use Rattle.dx_print.specs.Words.{behind, spaced};
+ghost use Rattle.dx_print.specs.Echoed.{echo_of, array_word, is_number as spec_is_number, object_word, value_word};
+ghost use Rattle.dx_print.specs.Results.{Echoes};
+
+use crate::header::{push_array_header, push_header, push_object_header};
+use crate::item_lines::push_value;
+use dx_arrays::Array;
+use dx_base::Bytes;
+use dx_objects::{Object, Outs, RunFail, Value};
+use std::alloc::{AllocError, Global};
+
+/// The line that Echo prints of its inputs, with its newline. They are separated by a space: a text as its bytes, a
+/// number in decimal, and anything else as its header, which is `NULL` for NULL. A number is an array of rank 0 with
+/// one item. Echo has no refusal (User's Reference, Echo).
+pub fn echo_text(alloc: Global, inputs: &Outs) -> Result<Bytes, RunFail>
+    ensures { Echoes (echo_of inputs.now) result }
+{
+    let mut line = Vec::new(alloc);
+    push_words(&mut line, inputs.as_slice())?;
+    line.extend_from_slice(b"\n")?;
+    Ok(Bytes::from_vec(line))
+}
+
+fn push_words(out: &mut Vec<u8>, values: &[Value]) -> Result<(), AllocError>
+    ensures { OnOk result (out.new.items ≡ out.old.items ++ spaced (map value_word (values_of values.now))) }
+{
+    match values {
+        [] => Ok(()),
+        [first, others @ ..] => {
+            push_word(out, first)?;
+            push_others(out, others)
+        }
+    }
+}
+
+// Each word behind a space.
+fn push_others(out: &mut Vec<u8>, values: &[Value]) -> Result<(), AllocError>
+    ensures { OnOk result (out.new.items ≡ out.old.items ++ behind (map value_word (values_of values.now))) }
+{
+    for value in values {
+        out.push(b' ')?;
+        push_word(out, value)?;
+    }
+    Ok(())
+}
+
+fn push_word(out: &mut Vec<u8>, value: &Value) -> Result<(), AllocError>
+    ensures { OnOk result (out.new.items ≡ out.old.items ++ value_word (value_of value.now)) }
+{
+    match value {
+        None => push_header(out, value),
+        Some(object) => push_object_word(out, object),
+    }
+}
+
+fn push_object_word(out: &mut Vec<u8>, object: &Object) -> Result<(), AllocError>
+    ensures { OnOk result (out.new.items ≡ out.old.items ++ object_word object.now) }
+{
+    if let Some(text) = object.as_text() {
+        return out.extend_from_slice(text);
+    }
+    match object.as_array() {
+        None => push_object_header(out, object),
+        Some(array) => push_array_word(out, array),
+    }
+}
+
+fn push_array_word(out: &mut Vec<u8>, array: &Array) -> Result<(), AllocError>
+    ensures { OnOk result (out.new.items ≡ out.old.items ++ array_word array.now) }
+{
+    if is_number(array) {
+        push_value(out, array, 0, 0)
+    } else {
+        push_array_header(out, array)
+    }
+}
+
+// Whether the array is a number: one item of rank 0, whatever its class and type.
+fn is_number(array: &Array) -> bool
+    ensures { result ≡ spec_is_number array.now }
+{
+    array.extents().is_empty() && array.items() == 1
+}

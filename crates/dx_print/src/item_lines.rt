@@ -1,0 +1,80 @@
+// Items of arrays, each on a line.
+ghost use Rattle.std.specs.Prelude.{◌≡◌, ◌++◌, ◌-◌, ◌<◌, ◌≤◌, OnOk};
+ghost use Rattle.std.specs.Fmt.{signed_decimal};
+ghost use Rattle.dx_base.specs.Array.{items, value, width};
+ghost use Rattle.dx_print.specs.ItemLines as spec;
+
+use crate::words::push_number;
+use dx_arrays::Array;
+use std::alloc::AllocError;
+
+/// The most items that are all shown.
+const MOST_ITEMS: u64 = 50;
+
+/// How many items of a longer array are shown at each end.
+const END_ITEMS: u64 = 25;
+
+/// The items of an array, a line for each; of more than 50 the first 25, a line `...`, and the last 25.
+#[tactic(auto, unfolding(crate::specs::ItemLines::few_items))]
+pub(crate) fn push_few_items(out: &mut Vec<u8>, array: &Array) -> Result<(), AllocError>
+    ensures { OnOk result (out.new.items ≡ out.old.items ++ spec.few_items 0 array.now) }
+{
+    if array.items() <= MOST_ITEMS {
+        push_lines(out, array, 0, array.items())
+    } else {
+        push_items_at_ends(out, array)
+    }
+}
+
+// The first and the last items, and a line between them.
+#[tactic(auto, unfolding(crate::specs::ItemLines::items_at_ends))]
+fn push_items_at_ends(out: &mut Vec<u8>, array: &Array) -> Result<(), AllocError>
+    requires { spec.most_items < items array.now }
+    ensures { OnOk result (out.new.items ≡ out.old.items ++ spec.items_at_ends 0 array.now) }
+{
+    let items = array.items();
+    push_lines(out, array, 0, END_ITEMS)?;
+    out.extend_from_slice(b"...\n")?;
+    push_lines(out, array, items - END_ITEMS, items)
+}
+
+// The lines of the items from one number on, up to another that is left out.
+fn push_lines(out: &mut Vec<u8>, array: &Array, from: u64, to: u64) -> Result<(), AllocError>
+    requires order { from ≤ to }
+    requires within { to ≤ items array.now }
+    ensures { OnOk result (out.new.items ≡ out.old.items ++ spec.lines_of 0 array.now from (to - from)) }
+{
+    for item in from..to {
+        push_item(out, array, item)?;
+        out.push(b'\n')?;
+    }
+    Ok(())
+}
+
+// The values of an item, separated by a space.
+fn push_item(out: &mut Vec<u8>, array: &Array, item: u64) -> Result<(), AllocError>
+    requires { item < items array.now }
+    ensures { OnOk result (out.new.items ≡ out.old.items ++ spec.item_text array.now item) }
+{
+    let width = array.width();
+    push_value(out, array, item, 0)?;
+    for place in 1..width {
+        out.push(b' ')?;
+        push_value(out, array, item, place)?;
+    }
+    Ok(())
+}
+
+/// The value of an item in a place.
+pub(crate) fn push_value(
+    out: &mut Vec<u8>,
+    array: &Array,
+    item: u64,
+    place: u64,
+) -> Result<(), AllocError>
+    requires item { item < items array.now }
+    requires place { place < width array.now }
+    ensures { OnOk result (out.new.items ≡ out.old.items ++ signed_decimal (value array.now item place)) }
+{
+    push_number(out, array.value(item, place))
+}

@@ -1,0 +1,17 @@
+//! The texts of Print and Echo: headers of values, items of arrays line by line, and words on a line.
+#![tactic(auto)]
+
+mod detail;
+mod echo;
+mod header;
+mod item_lines;
+mod print;
+mod words;
+
+pub use dx_base::{Bytes, Code};
+pub use dx_objects::{Outs, RunFail};
+pub use echo::echo_text;
+pub use print::print_text;
+
+#[cfg(test)]
+mod tests;
