@@ -10,7 +10,7 @@ use Rattle.dx_macros.specs.declared.fault.StaticFault.TheVariants as fault
 use Rattle.dx_macros.specs.Site.{Step, Nth, next_step, first_target}
 use Rattle.dx_macros.specs.Names.{count}
 use Rattle.dx_macros.specs.Dictionary.{Dictionary, TopText, param_names, Callee, Unknown, CallsMacro, CallsFunction, callee, definition}
-use Rattle.dx_macros.specs.Walk.{Walk, Walked, Goes, Faulty, and_then, fault_of_call, arg_names, fault_in, walk_of, walk_begins}
+use Rattle.dx_macros.specs.Walk.{Walk, Walked, Goes, Faulty, and_then, fault_of_call, arg_names, fault_in, walk_of, walk_begins, read_in}
 use Rattle.dx_ast.specs.declared.expressions.Arg.{Arg}
 use Rattle.dx_ast.specs.declared.expressions.Call.{Call, out-Call}
 use Rattle.dx_ast.specs.declared.statements.Assign.{Assign}
@@ -30,7 +30,7 @@ use Rattle.dx_macros.specs.declared.machine.Job.{Job}
 use Rattle.dx_macros.specs.declared.machine.Machine.{Machine}
 use Rattle.dx_macros.specs.declared.machine.Stop.{Stop}
 use Rattle.dx_macros.specs.declared.machine.Stop.TheVariants as stop
-use Rattle.dx_macros.specs.MachineView.{plain_frame, plain_job, walk_now, rest, means, job_first, Continues, accepted, FaultIs, IsPushed, IsCounted, CountsCall, IsEntered, definition_first, Ends, Finds}
+use Rattle.dx_macros.specs.MachineView.{plain_frame, plain_job, walk_now, rest, means, job_first, Continues, accepted, FaultIs, IsPushed, IsCounted, CountsCall, IsEntered, definition_first, Stops, Ends, Finds}
 use Rattle.dx_macros.proofs.Steps.{enter_step, args_step, body_call_step, body_assign_step, names_step, call_fault_step, call_macro_step, call_function_step}
 use Rattle.dx_macros.proofs.Pushes.{rest_push, pushed, pushed_twice, entered}
 
@@ -224,10 +224,14 @@ pub then_goes : (a : Walked) → and_then a (λ w. Goes w) ≡ a
 then_goes (Goes w) = refl
 then_goes (Faulty site x) = refl
 
-pub finds : {A : Type 0} (r : Result A Stop) (a b : Walked) → a ≡ b → Ends a r → Finds (fault_in b) r
-finds (Ok u) a b e h = ap fault_in (sym e ∙ h.1)
+pub finds : (r : Result (Vec Bool Global) Stop) (a b : Walked) → a ≡ b → Ends a r → Finds (fault_in b) r
+finds (Ok read) a b e h = ap fault_in (sym e ∙ h.1)
 finds (Err (stop.Fault s x)) a b e h = ap fault_in (sym e ∙ h)
 finds (Err stop.Memory) a b e h = tt
+
+pub reads : (r : Result (Vec Bool Global) Stop) (a b : Walked) → a ≡ b → Ends a r → IfOk r (λ read. read.items ≡ read_in b)
+reads (Ok read) a b e h = sym h.2 ∙ ap read_in (sym h.1 ∙ e)
+reads (Err why) a b e h = tt
 
 pub with_ok : {A E : Type 0} (P Q : A → Type 0) (r : Result A E) → IfOk r P → ((a : A) → P a → Q a) → IfOk r Q
 with_ok P Q (Ok a) h go = go a h
@@ -239,13 +243,9 @@ pub started : (d : Dictionary) (f : Frame) (place n : ℕ) (ts : List Text) (t :
 started d f place n ts t e h a l =
     ap₂ (λ k g. m.do_job d (m.ExprJob k t.value) m.at_end g (walk_begins d)) l (e ∙ ap₂ (λ us p. m.frame_at_top (first_target us) p) a h) ∙ then_goes (walk_of d t)
 
-pub fails : {A : Type 0} (r r' : Result A Stop) (e : Stop) (a before after : Walked) → a ≡ before → Continues before r after → r ≡ Err e → r' ≡ Err e → Ends a r'
-fails {A = A} r r' e a before after h c p q =
-    let P : Result A Stop → Type 0 = λ x. Continues before x after in
-    let Q : Result A Stop → Type 0 = λ x. Ends a x in
-    subst Q (p ∙ sym q) (go r (subst P refl c) p)
-  where
-    go : (r : Result A Stop) → Continues before r after → r ≡ Err e → Ends a r
-    go (Ok x) c p = cc
-    go (Err (stop.Fault s x)) c p = h ∙ c
-    go (Err stop.Memory) c p = tt
+stopped : (A : Type 0) (e : Stop) (a before after : Walked) → a ≡ before → Continues {A = A} before (Err e) after → Stops a e
+stopped A (stop.Fault s x) a before after h c = h ∙ c
+stopped A stop.Memory a before after h c = tt
+
+pub fails : {A : Type 0} (r : Result A Stop) (r' : Result (Vec Bool Global) Stop) (e : Stop) (a before after : Walked) → a ≡ before → Continues before r after → r ≡ Err e → r' ≡ Err e → Ends a r'
+fails {A = A} r r' e a before after h c p q = subst (Ends a) (sym q) (stopped A e a before after h (subst (λ (x : Result A Stop). Continues before x after) p c))

@@ -1,5 +1,6 @@
 -- The code's walk under way as the jobs that are left, and what each step of it does.
-use Rattle.std.specs.Prelude.{◌≡◌, ℕ, suc, length, true, slice_set, List, [], ◌∷◌, ◌++◌, map, Result, Ok, Err, Option, Some, None}
+use Rattle.std.specs.Prelude.{◌≡◌, ℕ, suc, length, true, slice_set, List, [], ◌∷◌, ◌++◌, map, Result, Ok, Err, Option, Some, None, Bool, Vec}
+use Rattle.std.specs.declared.alloc.Global.{Global}
 use Rattle.dx_ast.specs.Classes.{Text}
 use Rattle.dx_ast.specs.Plain.{plain_expr, plain_call, plain_args, plain_macro, plain_stmts}
 use Rattle.dx_ast.specs.Syntax.{Args}
@@ -45,11 +46,15 @@ Continues before (Ok a) after = before ≡ after
 Continues before (Err (stop.Fault s f)) after = before ≡ Faulty (plain_steps s.items) f
 Continues before (Err stop.Memory) after = Unit {0}
 
--- the walk ends without a fault, or at the fault
-abbrev pub Ends : {A : Type 0} → Walked → Result A Stop → Type 0
-Ends walked (Ok a) = (w : Walk) × (walked ≡ Goes w)
-Ends walked (Err (stop.Fault s f)) = walked ≡ Faulty (plain_steps s.items) f
-Ends walked (Err stop.Memory) = Unit {0}
+-- the walk ends at the fault, or want of memory stops it
+abbrev pub Stops : Walked → Stop → Type 0
+Stops walked (stop.Fault s f) = walked ≡ Faulty (plain_steps s.items) f
+Stops walked stop.Memory = Unit {0}
+
+-- the walk ends without a fault and has read these definitions, or is stopped
+abbrev pub Ends : Walked → Result (Vec Bool Global) Stop → Type 0
+Ends walked (Ok read) = (w : Walk) × (walked ≡ Goes w) × (w.read ≡ read.items)
+Ends walked (Err why) = Stops walked why
 
 -- one more job, and nothing else is changed
 pub record IsPushed (old : Machine) (j : Job) (new : Machine) : Type 0 where

@@ -177,6 +177,19 @@ walk_begins d = record { calls = 0; read = replicate (length d.definitions) fals
 abbrev pub walk_of : Dictionary → TopText → Walked
 walk_of d t = walk_text d.macros (reader_of d) t (walk_begins d)
 
+-- the walk of a statement; a statement that isn't executed has no calls
+abbrev pub walk_by : Dictionary → Option TopText → Walked
+walk_by d None = Goes (walk_begins d)
+walk_by d (Some t) = walk_of d t
+
+-- the definitions that a walk without a fault read
+abbrev pub read_in : Walked → List Bool
+read_in (Goes w) = w.read
+read_in (Faulty site f) = []
+
+abbrev pub definitions_read : Dictionary → Stmt → List Bool
+definitions_read d s = read_in (walk_by d (top_text s))
+
 -- ---- the first static fault
 
 pub record Fault : Type 0 where

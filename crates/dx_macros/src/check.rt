@@ -1,4 +1,4 @@
-ghost use Rattle.std.specs.Prelude.{◌≡◌, IfOk};
+ghost use Rattle.std.specs.Prelude.{◌≡◌, None, IfOk};
 ghost use Rattle.dx_ast.specs.Lawful.{IsLawful};
 ghost use Rattle.dx_ast.specs.Plain.{plain_call, plain_stmt};
 ghost use Rattle.dx_macros.specs.Dictionary.{of_call, IsExecuted};
@@ -6,7 +6,7 @@ ghost use Rattle.dx_macros.specs.DictionaryView.{dictionary_of};
 ghost use Rattle.dx_macros.specs.Machine.{do_job, at_end};
 ghost use Rattle.dx_macros.specs.MachineView.{plain_frame, plain_job, means, Ends, Finds};
 ghost use Rattle.dx_macros.specs.Shown.{text_of};
-ghost use Rattle.dx_macros.specs.Walk.{walk_of, walk_begins, fault_in, first_fault};
+ghost use Rattle.dx_macros.specs.Walk.{walk_of, walk_begins, fault_in, first_fault, read_in, definitions_read};
 ghost use Rattle.dx_macros.specs.Weight.{IsFit};
 ghost use Rattle.dx_macros.specs.Checking.{Checks};
 
@@ -18,15 +18,15 @@ use crate::site::site_text;
 use dx_ast::{Assign, Call, Stmt};
 use std::alloc::{AllocError, Global};
 
-/// Does all jobs.
-fn run<'a>(alloc: Global, d: &'a Dictionary, m: Machine<'a>) -> Result<(), Stop<'a>>
+/// Does all jobs, and answers which definitions were read.
+fn run<'a>(alloc: Global, d: &'a Dictionary, m: Machine<'a>) -> Result<Vec<bool>, Stop<'a>>
     requires { IsFit (dictionary_of d.now) m }
     ensures { Ends (means (dictionary_of d.now) m.entry) result }
 {
     let mut m = m;
     loop {
         match m.jobs.pop() {
-            None => return Ok(()),
+            None => return Ok(m.read),
             Some(job) => match do_job(alloc, d, &mut m, job) {
                 Ok(()) => (),
                 Err(stop) => return Err(stop),
@@ -55,8 +55,9 @@ fn begin<'a>(
     })
 }
 
-fn walk_call<'a>(alloc: Global, d: &'a Dictionary, c: &'a Call) -> Result<(), Stop<'a>>
-    ensures { Finds (fault_in (walk_of (dictionary_of d.now) (of_call (plain_call c.now)))) result }
+fn walk_call<'a>(alloc: Global, d: &'a Dictionary, c: &'a Call) -> Result<Vec<bool>, Stop<'a>>
+    ensures finds { Finds (fault_in (walk_of (dictionary_of d.now) (of_call (plain_call c.now)))) result }
+    ensures reads { IfOk result (λ read. read.items ≡ read_in (walk_of (dictionary_of d.now) (of_call (plain_call c.now)))) }
 {
     let place = d.len();
     let frame = top_frame(alloc, &[], place)?;
@@ -64,8 +65,9 @@ fn walk_call<'a>(alloc: Global, d: &'a Dictionary, c: &'a Call) -> Result<(), St
     run(alloc, d, m)
 }
 
-fn walk_assign<'a>(alloc: Global, d: &'a Dictionary, a: &'a Assign) -> Result<(), Stop<'a>>
-    ensures { Finds (fault_in (walk_of (dictionary_of d.now) (text_of a.now))) result }
+fn walk_assign<'a>(alloc: Global, d: &'a Dictionary, a: &'a Assign) -> Result<Vec<bool>, Stop<'a>>
+    ensures finds { Finds (fault_in (walk_of (dictionary_of d.now) (text_of a.now))) result }
+    ensures reads { IfOk result (λ read. read.items ≡ read_in (walk_of (dictionary_of d.now) (text_of a.now))) }
 {
     let place = d.len();
     let frame = top_frame(alloc, a.targets.as_slice(), place)?;
@@ -73,9 +75,10 @@ fn walk_assign<'a>(alloc: Global, d: &'a Dictionary, a: &'a Assign) -> Result<()
     run(alloc, d, m)
 }
 
-fn walk<'a>(alloc: Global, d: &'a Dictionary, s: &'a Stmt) -> Result<(), Stop<'a>>
+fn walk<'a>(alloc: Global, d: &'a Dictionary, s: &'a Stmt) -> Result<Vec<bool>, Stop<'a>>
     requires { IsExecuted (plain_stmt s.now) }
-    ensures { Finds (first_fault (dictionary_of d.now) (plain_stmt s.now)) result }
+    ensures finds { Finds (first_fault (dictionary_of d.now) (plain_stmt s.now)) result }
+    ensures reads { IfOk result (λ read. read.items ≡ definitions_read (dictionary_of d.now) (plain_stmt s.now)) }
 {
     match s {
         Stmt::Call(c) => walk_call(alloc, d, c),
@@ -94,12 +97,26 @@ impl Dictionary {
         ensures { Checks (first_fault (dictionary_of self.now) (plain_stmt s.now)) result }
     {
         match walk(alloc, self, s) {
-            Ok(()) => Ok(()),
+            Ok(_) => Ok(()),
             Err(Stop::Memory) => Err(CheckFail::Memory),
             Err(Stop::Fault(site, fault)) => match site_text(alloc, site.as_slice()) {
                 Ok(text) => Err(CheckFail::Fault(text, fault)),
                 Err(_) => Err(CheckFail::Memory),
             },
+        }
+    }
+
+    /// Which definitions the walk of a statement reads that has no static fault: a flag for each place, in the order in
+    /// which the definitions joined.
+    pub fn reads(&self, alloc: Global, s: &Stmt) -> Result<Vec<bool>, AllocError>
+        requires lawful { IsLawful (plain_stmt s.now) }
+        requires executed { IsExecuted (plain_stmt s.now) }
+        requires no_fault { first_fault (dictionary_of self.now) (plain_stmt s.now) ≡ None }
+        ensures { IfOk result (λ read. read.items ≡ definitions_read (dictionary_of self.now) (plain_stmt s.now)) }
+    {
+        match walk(alloc, self, s) {
+            Ok(read) => Ok(read),
+            Err(_) => Err(AllocError),
         }
     }
 }
