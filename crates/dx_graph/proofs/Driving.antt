@@ -1,0 +1,246 @@
+-- The texts of the top level, one after the other.
+use Rattle.std.proofs.Common.{◌≡◌, ◌⊎◌, inl, inr, ℕ, zero, suc, ◌+◌, ◌*◌, ◌<◌, List, [], ◌∷◌, ◌++◌, length, get_or, map, take, Option, Some, None, Vec, refl, sym, ap, ap₂, subst, ◌∙◌, arith, length-append}
+use Rattle.std.specs.Prelude.{slice_set, slice_index_or, All}
+use Rattle.std.proofs.Math.Logic.{∥∥₁_map}
+use Rattle.std.proofs.lemmas.List.{length-map, length-set, get_or-set_same, get_or-set_other, get_or_append_left, get_or_push}
+use Rattle.std.proofs.lemmas.List.Elements.{All-cons, All-push}
+use Rattle.std.proofs.lemmas.Bool.{cases_eq}
+use Rattle.std.proofs.Math.Seq.{take-append_seam}
+use Rattle.std.specs.Str.{bytes_eq}
+use Rattle.std.specs.declared.alloc.Global.{Global}
+use Rattle.std.specs.HashMap.{HashMap, IsEmpty}
+use Rattle.std.specs.Map.{lookup}
+use Rattle.dx_base.specs.NameTable.{under_name}
+use Rattle.dx_ast.specs.Classes.{Text as Name}
+use Rattle.dx_ast.specs.declared.statements.Assign.{Assign}
+use Rattle.dx_ast.specs.Lawful.{IsLawfulExpr}
+use Rattle.dx_ast.specs.Plain.{plain_expr}
+use Rattle.dx_macros.specs.Site.{Spot}
+use Rattle.dx_macros.specs.Dictionary.{TopText, definition}
+use Rattle.dx_macros.specs.DictionaryView.{dictionary_of}
+use Rattle.dx_macros.specs.Shown.{text_of, AreLawfulDefinitions}
+use Rattle.dx_ast.specs.declared.sequencing.Frames.{Frames}
+use Rattle.dx_macros.specs.Tree.{Tree, CallTree}
+use Rattle.dx_macros.specs.Expansion.{Scope, Expanded, top_spot, scope_within, expand_within, effects_of}
+use Rattle.dx_macros.specs.declared.dictionary.Dictionary.{Dictionary}
+use Rattle.dx_graph.specs.Graph as plain
+use Rattle.dx_graph.specs.Graph.{Node}
+use Rattle.dx_graph.specs.Unfolding.{call_at, calls_of, unfolded}
+use Rattle.dx_graph.specs.GraphView.{graph_of}
+use Rattle.dx_graph.specs.Operands.{Gives, meaning, scope_with}
+use Rattle.dx_graph.specs.Expanding.{Setting, Expands, Remembers, Starts, expr_in, dictionary_in, top_scope, top_results}
+use Rattle.dx_graph.specs.Driving.{top_setting, top_expanded, effects_in, Memo, missing, IsMissing, SameWorld, Rests, Learned}
+use Rattle.dx_graph.specs.declared.graph.Graph.{Graph}
+use Rattle.dx_graph.specs.declared.operand.Operand.{Operand}
+use Rattle.dx_graph.specs.declared.operand.Results.{Results}
+use Rattle.dx_graph.specs.declared.text.World.{World}
+use Rattle.dx_graph.proofs.Standing.{remembers_later}
+
+-- ---- a text without own names
+
+none_own : {S : Type 0} (own : HashMap (Vec ℕ Global) Operand S) → IsEmpty own → (n : Name) → under_name own n ≡ None
+none_own own e n = ap (λ (es : List (Vec ℕ Global × Operand)). lookup (λ (key : Vec ℕ Global). bytes_eq n key.items) es) e
+
+pub scope_none : {S : Type 0} (nodes : List Node) (own : HashMap (Vec ℕ Global) Operand S) (top : Scope) → IsEmpty own → scope_with nodes (under_name own) top ≡ top
+scope_none nodes own top e =
+    let each : (n : Name) → scope_with nodes (under_name own) top n ≡ top n = λ n. ap (λ (o : Option Operand). meaning nodes o (top n)) (none_own own e n) in
+    λ i n. each n i
+
+-- what a text comes to in the setting of the top level
+pub at_top : (w : World) (place : ℕ) (t : TopText) (s : Setting) (spot : Spot) (before : List Name) (old mid new : Graph) (r : Results) → before ≡ [] → s ≡ top_setting w place spot → spot ≡ top_spot t.targets →
+    graph_of mid ≡ graph_of old → Expands (expr_in s before t.value) mid new r → Expands (top_expanded w place t) old new r
+at_top w place t s spot before old mid new r none is here same h =
+    let e : expr_in s before t.value ≡ top_expanded w place t = ap₂ (λ (x : Setting) (names : List Name). expr_in x names t.value) (is ∙ ap (top_setting w place) here) none in
+    record {
+      gives = subst (λ (x : Expanded). Gives (graph_of new).nodes r x.result) e h.gives;
+      effects = h.effects ∙ ap₂ (λ (g : plain.Graph) (x : Expanded). unfolded g ++ x.effects) same e;
+    }
+
+-- ---- definitions
+
+defined_lawful : (ds : List Assign) (i : ℕ) → i < length ds → AreLawfulDefinitions ds → IsLawfulExpr (definition (map text_of ds) i).value
+defined_lawful [] i h all = absurd (omega arith)
+defined_lawful (a ∷ ds) zero h all = (all 0 a (omega arith)).value
+defined_lawful (a ∷ ds) (suc i) h all = defined_lawful ds i (omega (arith, h)) (λ k d lt. all (suc k) d (omega (arith, lt)))
+
+pub value_lawful : (d : Dictionary) (i : ℕ) (a : Assign) → i < length (dictionary_of d).definitions → text_of a ≡ definition (dictionary_of d).definitions i → ∥ IsLawfulExpr (plain_expr a.value) ∥₁
+value_lawful d i a h e =
+    let below : i < length d.definitions = omega (arith, h, length-map d.definitions text_of) in
+    ∥∥₁_map d.lawful_definitions (λ all. subst (λ (t : TopText). IsLawfulExpr t.value) (sym e) (defined_lawful d.definitions i below all))
+
+pub defined : (w : World) (i : ℕ) (a : Assign) (old new : Graph) (r : Results) → text_of a ≡ definition (dictionary_in w).definitions i → Expands (top_expanded w i (text_of a)) old new r → Gives (graph_of new).nodes r (top_results w i)
+unfolding top_results
+defined w i a old new r e h = subst (λ (t : TopText). Gives (graph_of new).nodes r (top_expanded w i t).result) e h.gives
+
+-- ---- what is remembered
+
+abbrev results_at : Dictionary → Frames → ℕ → ℕ → Tree
+results_at d f i =
+    let plain = dictionary_of d in
+    (expand_within 64 plain.macros f (scope_within 64 plain.macros f plain.definitions i) (definition plain.definitions i)).result
+
+-- the results of a definition don't depend on what is remembered
+pub results_same : (w v : World) → SameWorld w v → (i : ℕ) → top_results v i ≡ top_results w i
+unfolding top_results top_scope
+results_same w v same i = ap₂ (λ (d : Dictionary) (f : Frames). results_at d f i) same.dictionary same.frames
+
+same_some : (x y : Results) (o : Option Results) → o ≡ Some x → o ≡ Some y → x ≡ y
+same_some x y o e f = cc
+
+found_by : (memo : Memo) (i j : ℕ) (r x : Results) → i < length memo → slice_index_or (slice_set memo i (Some r)) j None ≡ Some x → (j ≡ i) ⊎ (j ≡ i → ⊥) → ((j ≡ i) × (x ≡ r)) ⊎ (slice_index_or memo j None ≡ Some x)
+found_by memo i j r x h e (inl same) = inl (same, same_some x r _ e (ap (λ (k : ℕ). get_or (slice_set memo i (Some r)) k None) same ∙ get_or-set_same memo i (Some r) None h))
+found_by memo i j r x h e (inr other) = inr (sym (get_or-set_other memo i j (Some r) None other) ∙ e)
+
+found : (memo : Memo) (i j : ℕ) (r x : Results) → i < length memo → slice_index_or (slice_set memo i (Some r)) j None ≡ Some x → ((j ≡ i) × (x ≡ r)) ⊎ (slice_index_or memo j None ≡ Some x)
+found memo i j r x h e = found_by memo i j r x h e (cases_eq j i)
+
+remembered_by : (w : World) (nodes : List Node) (i j : ℕ) (r x : Results) → Remembers nodes w → Gives nodes r (top_results w i) → ((j ≡ i) × (x ≡ r)) ⊎ (slice_index_or w.memo.items j None ≡ Some x) →
+    Gives nodes x (top_results w j)
+remembered_by w nodes i j r x all h (inl same) = subst (λ (y : Results). Gives nodes y (top_results w j)) (sym same.1) (subst (λ (k : ℕ). Gives nodes r (top_results w k)) (sym same.0) h)
+remembered_by w nodes i j r x all h (inr e) = all j x e
+
+pub remembers_set : (w v : World) (nodes : List Node) (i : ℕ) (r : Results) → SameWorld w v → i < length w.memo.items → v.memo.items ≡ slice_set w.memo.items i (Some r) →
+    Remembers nodes w → Gives nodes r (top_results w i) → Remembers nodes v
+remembers_set w v nodes i r same below set all h j x e =
+    subst (λ (f : ℕ → Tree). Gives nodes x f) (sym (results_same w v same j))
+    (remembered_by w nodes i j r x all h (found w.memo.items i j r x below (ap (λ (memo : Memo). slice_index_or memo j None) (sym set) ∙ e)))
+
+-- after a definition got its results
+pub rests_learned : (w v : World) (old mid new : Graph) (i : ℕ) (r : Results) → SameWorld w v → i < length w.memo.items → v.memo.items ≡ slice_set w.memo.items i (Some r) → Rests w old →
+    Starts (graph_of old).nodes (graph_of mid).nodes → Gives (graph_of mid).nodes r (top_results w i) → graph_of new ≡ plain.with_effects (take 0 (graph_of mid).effects) (graph_of mid) → Rests v new
+rests_learned w v old mid new i r same below set rests grows gives cleared = record {
+  memo = subst (λ (ns : List Node). Remembers ns v) (sym (ap (λ (g : plain.Graph). g.nodes) cleared))
+      (remembers_set w v (graph_of mid).nodes i r same below set (remembers_later w (graph_of old).nodes (graph_of mid).nodes grows rests.memo) gives);
+  places = same.places ∙ rests.places ∙ sym (ap (λ (d : Dictionary). length (dictionary_of d).definitions) same.dictionary);
+  effects = ap (λ (g : plain.Graph). g.effects) cleared;
+}
+
+-- after a text that stopped, when the graph is cut back
+pub rests_cut : (w : World) (old mid new : Graph) (count : ℕ) → Rests w old → count ≡ length (graph_of old).nodes → Starts (graph_of old).nodes (graph_of mid).nodes → graph_of new ≡ plain.first_nodes count (graph_of mid) → Rests w new
+rests_cut w old mid new count rests all grows is_cut =
+    let kept : (graph_of new).nodes ≡ (graph_of old).nodes =
+    ap (λ (g : plain.Graph). g.nodes) is_cut ∙ ap₂ (λ (n : ℕ) (ns : List Node). take n ns) all grows.1 ∙ take-append_seam (graph_of old).nodes grows.0 in
+    record {
+      memo = subst (λ (ns : List Node). Remembers ns w) (sym kept) rests.memo;
+      places = rests.places;
+      effects = ap (λ (g : plain.Graph). g.effects) is_cut;
+    }
+
+pub missing_set : (memo : Memo) (i : ℕ) (r : Results) → i < length memo → slice_index_or memo i None ≡ None → missing (slice_set memo i (Some r)) + 1 ≡ missing memo
+missing_set [] i r h e = absurd (omega arith)
+missing_set (None ∷ memo) zero r h e = omega arith
+missing_set (Some x ∷ memo) zero r h e = cc
+missing_set (None ∷ memo) (suc i) r h e = omega (arith, missing_set memo i r (omega (arith, h)) e)
+missing_set (Some x ∷ memo) (suc i) r h e = omega (arith, missing_set memo i r (omega (arith, h)) e)
+
+-- ---- texts that wait for one another: each stands before those that wait for it
+
+abbrev pub IsFalling : List ℕ → Type 0
+IsFalling [] = Unit {0}
+IsFalling (i ∷ rest) = All (λ j. j < i) rest × IsFalling rest
+
+all_first : (P : ℕ → Type 0) (xs : List ℕ) (i : ℕ) → All P (xs ++ i ∷ []) → All P xs
+all_first P xs i all k d lt = subst P (get_or_append_left xs (i ∷ []) d k lt) (all k d (omega (arith, lt, length-append xs (i ∷ []))))
+
+all_last : (P : ℕ → Type 0) (xs : List ℕ) (i : ℕ) → All P (xs ++ i ∷ []) → P i
+all_last P xs i all = subst P (get_or_push xs i i (length xs) refl) (all (length xs) i (omega (arith, length-append xs (i ∷ []))))
+
+falling_push : (xs : List ℕ) (i : ℕ) → IsFalling xs → All (λ (j : ℕ). i < j) xs → IsFalling (xs ++ i ∷ [])
+falling_push [] i h above = (λ k d lt. absurd (omega (arith, lt)), tt)
+falling_push (x ∷ xs) i h above =
+    (All-push (λ (j : ℕ). j < x) xs i h.0 (above 0 x (omega arith)), falling_push xs i h.1 (λ k d lt. above (suc k) d (omega (arith, lt))))
+
+falling_last : (xs : List ℕ) (i : ℕ) → IsFalling (xs ++ i ∷ []) → IsFalling xs × All (λ (j : ℕ). i < j) xs
+falling_last [] i h = (tt, λ k d lt. absurd (omega (arith, lt)))
+falling_last (x ∷ xs) i h =
+    let later = falling_last xs i h.1 in (
+      (all_first (λ (j : ℕ). j < x) xs i h.0, later.0),
+      All-cons (λ (j : ℕ). i < j) x xs (all_last (λ (j : ℕ). j < x) xs i h.0) later.1,
+    )
+
+pub record IsWaiting (memo : Memo) (pending : List ℕ) (next : ℕ) : Type 0 where
+  pub missing : All (IsMissing memo) pending
+  pub above : All (λ i. next < i) pending
+  pub falling : IsFalling pending
+  pub next_missing : IsMissing memo next
+
+-- when the next text needs an earlier one
+pub waits_longer : (memo : Memo) (pending new : List ℕ) (next i : ℕ) → new ≡ pending ++ next ∷ [] → (i < next) × (slice_index_or memo i None ≡ None) → IsWaiting memo pending next → IsWaiting memo new i
+waits_longer memo pending new next i is needs h = subst (λ (xs : List ℕ). IsWaiting memo xs i) (sym is) (record {
+  missing = All-push (IsMissing memo) pending next h.missing h.next_missing;
+  above = All-push (λ (j : ℕ). i < j) pending next (λ k d lt. omega (arith, needs.0, h.above k d lt)) needs.0;
+  falling = falling_push pending next h.falling h.above;
+  next_missing = record { below = omega (arith, needs.0, h.next_missing.below); none = needs.1 };
+})
+
+still_missing : (memo new : Memo) (i j : ℕ) (r : Results) → new ≡ slice_set memo i (Some r) → i < j → IsMissing memo j → IsMissing new j
+still_missing memo new i j r is lt h = record {
+  below = omega (arith, h.below, ap length is, length-set memo i (Some r));
+  none = ap (λ (m : Memo). get_or m j None) is ∙ get_or-set_other memo i j (Some r) None (λ e. omega (arith, lt, e)) ∙ h.none;
+}
+
+-- when the next text has its results, the last one that waits is the next
+pub waits_shorter : (memo new : Memo) (pending rest : List ℕ) (next i : ℕ) (learned : Learned next memo new) → pending ≡ rest ++ i ∷ [] → IsWaiting memo pending next → IsWaiting new rest i
+waits_shorter memo new pending rest next i learned is h =
+    let above = subst (All (λ (j : ℕ). next < j)) is h.above in
+    let all = subst (All (IsMissing memo)) is h.missing in
+    let falling = falling_last rest i (subst IsFalling is h.falling) in
+    record {
+      missing = λ k d lt. still_missing memo new next (get_or rest k d) learned.0 learned.1 (all_first (λ (j : ℕ). next < j) rest i above k d lt) (all_first (IsMissing memo) rest i all k d lt);
+      above = falling.1;
+      falling = falling.0;
+      next_missing = still_missing memo new next i learned.0 learned.1 (all_last (λ (j : ℕ). next < j) rest i above) (all_last (IsMissing memo) rest i all);
+    }
+
+pub fewer : (memo new : Memo) (i : ℕ) → IsMissing memo i → Learned i memo new → missing new + 1 ≡ missing memo
+fewer memo new i h learned = ap (λ (m : Memo). missing m + 1) learned.1 ∙ missing_set memo i learned.0 h.below h.none
+
+more_by : (m c : ℕ) → (m + 1) * c ≡ m * c + c
+more_by m c = grind arith
+
+-- one missing less pays for any place
+pub less_left : (old new places other place next : ℕ) → new + 1 ≡ old → other ≡ places → place < places → new * (other + 1) + place < old * (places + 1) + next
+less_left old new places other place next e same h =
+    let before : old * (places + 1) ≡ new * (places + 1) + (places + 1) = ap (λ (k : ℕ). k * (places + 1)) (sym e) ∙ more_by new (places + 1) in
+    let after : new * (other + 1) ≡ new * (places + 1) = ap (λ (k : ℕ). new * (k + 1)) same in
+    omega (arith, before, after, h)
+
+-- the same places, and an earlier one
+pub less_same : (old new places other place next : ℕ) → new ≡ old → other ≡ places → place < next → new * (other + 1) + place < old * (places + 1) + next
+less_same old new places other place next e same h =
+    let after : new * (other + 1) ≡ old * (places + 1) = ap₂ (λ (m k : ℕ). m * (k + 1)) e same in
+    omega (arith, after, h)
+
+pub same_on : (u v w : World) → SameWorld u v → SameWorld v w → SameWorld u w
+same_on u v w a b = record {
+  dictionary = b.dictionary ∙ a.dictionary;
+  frames = b.frames ∙ a.frames;
+  places = b.places ∙ a.places;
+}
+
+-- ---- the last text
+
+abbrev effects_at : Option TopText → Dictionary → Frames → ℕ → List CallTree
+effects_at None d f place = []
+effects_at (Some t) d f place =
+    let plain = dictionary_of d in
+    (expand_within 64 plain.macros f (scope_within 64 plain.macros f plain.definitions place) t).effects
+
+shown_at : (t : Option TopText) (w : World) (place : ℕ) → effects_in t w place ≡ effects_at t w.dictionary.now w.frames place
+unfolding top_scope
+shown_at None w place = refl
+shown_at (Some t) w place = refl
+
+plain_at : (t : Option TopText) (d : Dictionary) (f : Frames) → effects_at t d f (length (dictionary_of d).definitions) ≡ effects_of 64 (dictionary_of d) f t
+plain_at None d f = refl
+plain_at (Some t) d f = refl
+
+pub last_effects : (w v : World) (place : ℕ) (t : Option TopText) → SameWorld w v → place ≡ length (dictionary_in w).definitions → effects_in t v place ≡ effects_of 64 (dictionary_in w) w.frames t
+last_effects w v place t same here =
+    shown_at t v place
+    ∙ ap₂ (λ (d : Dictionary) (f : Frames). effects_at t d f place) same.dictionary same.frames
+    ∙ ap (effects_at t w.dictionary.now w.frames) here
+    ∙ plain_at t w.dictionary.now w.frames
+
+pub no_effects : (g : plain.Graph) → g.effects ≡ [] → unfolded g ≡ []
+no_effects g e = ap (map (call_at (calls_of g.nodes))) e

@@ -1,0 +1,16 @@
+pub mod Earlier
+pub mod Walking
+pub mod Unfolding
+pub mod Growing
+pub mod Named
+pub mod Arguments
+pub mod Scopes
+pub mod TopLevel
+pub mod Outcomes
+pub mod Taking
+pub mod Standing
+pub mod Adding
+pub mod LawfulParts
+pub mod Expansions
+pub mod Measures
+pub mod Driving

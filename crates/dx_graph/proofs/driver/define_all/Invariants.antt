@@ -1,0 +1,15 @@
+use Rattle.std.proofs.Common.{◌≤◌, ◌+◌, ◌*◌, length}
+use Rattle.dx_graph.specs.Driving.{missing, SameWorld, Rests}
+use Rattle.dx_graph.proofs.Driving.{IsWaiting}
+use Rattle.dx_graph.proofs.driver.define_all.Given as goal
+
+abbrev pub invariant-loop-pending : goal.invariant-loop-pending
+invariant-loop-pending l = record {
+  rests : Rests l.w l.graph;
+  same : SameWorld l.initial.w l.w;
+  waiting : IsWaiting l.w.memo.items l.pending.items l.last;
+  fewer : missing l.w.memo.items ≤ missing l.initial.w.memo.items;
+}
+
+abbrev pub decreases-loop-pending : goal.decreases-loop-pending
+decreases-loop-pending l = missing l.w.memo.items * (length l.w.memo.items + 1) + l.last

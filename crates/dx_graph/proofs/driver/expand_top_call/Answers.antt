@@ -1,0 +1,15 @@
+use Rattle.std.proofs.Common.{arith, refl}
+use Rattle.dx_ast.specs.Plain.{plain_call}
+use Rattle.dx_macros.specs.Dictionary.{of_call}
+use Rattle.dx_graph.proofs.Growing.{if_ok}
+use Rattle.dx_graph.proofs.Driving.{at_top}
+use Rattle.dx_graph.proofs.driver.expand_top_call.Goals as goal
+
+pub expand_call-requires-clause-ready : goal.expand_call-requires-clause-ready
+expand_call-requires-clause-ready c = c.text_at_top-text.ensures.ready c.args.graph.now c.requires.memo (omega arith)
+
+pub returns-clause-expands : goal.returns-clause-expands
+returns-clause-expands c =
+    let w = c.args.w.now in
+    let old = c.args.graph.now in
+    if_ok c.expand_call.result (λ r h. at_top w c.args.place (of_call (plain_call c.args.c.now)) _ _ _ old old c.expand_call.new.graph r c.new-before.ensures (c.text_at_top-text.ensures.setting old) refl refl h) c.expand_call.ensures.expands

@@ -1,0 +1,14 @@
+use Rattle.std.proofs.Common.{◌≡◌, ◌+◌, ◌-◌, ◌≤◌, List, All, map, drop, length}
+use Rattle.dx_macros.specs.Expansion as plain
+use Rattle.dx_graph.specs.Graph.{Node, MayTake}
+use Rattle.dx_graph.specs.Operands.{given_of, GivenFits, before_trees}
+use Rattle.dx_graph.proofs.inputs.put_further.Given as goal
+
+abbrev pub invariant-loop-i : goal.invariant-loop-i
+invariant-loop-i l = record {
+  count : length l.inputs.items ≡ length l.initial.inputs.items + l.i;
+  within : l.i ≤ l.more;
+  trees : (nodes : List Node) → before_trees nodes l.inputs.items (plain.further (l.more - l.i) (map (given_of nodes) (drop l.i l.given)))
+      ≡ before_trees nodes l.initial.inputs.items (plain.further l.more (map (given_of nodes) l.given));
+  fits : (nodes : List Node) → All (GivenFits nodes) l.given → All (MayTake nodes (length nodes)) l.initial.inputs.items → All (MayTake nodes (length nodes)) l.inputs.items;
+}

@@ -1,0 +1,14 @@
+use Rattle.std.proofs.Common.{◌≡◌, List, All, map, drop}
+use Rattle.dx_base.specs.NameTable.{under_name}
+use Rattle.dx_ast.specs.Lawful.{IsLawfulParam}
+use Rattle.dx_macros.specs.Expansion as plain
+use Rattle.dx_graph.specs.Graph.{Node}
+use Rattle.dx_graph.specs.Operands.{given_of, GivenFits, scope_with, OwnFits}
+use Rattle.dx_graph.proofs.own.bind_params.Given as goal
+
+abbrev pub invariant-loop-i : goal.invariant-loop-i
+invariant-loop-i l = record {
+  scope : (nodes : List Node) (top : plain.Scope) → plain.with_params (drop l.i l.params) l.i (map (given_of nodes) l.given) (scope_with nodes (under_name l.own) top)
+      ≡ plain.with_params l.params 0 (map (given_of nodes) l.given) top;
+  fits : (nodes : List Node) → All (GivenFits nodes) l.given → ∥ All IsLawfulParam l.params ∥₁ → OwnFits nodes (under_name l.own);
+}

@@ -1,0 +1,10 @@
+pub mod Earlier
+pub mod Trails
+pub mod Graph
+pub mod Unfolding
+pub mod Walked
+pub mod Shown
+pub mod GraphView
+pub mod Operands
+pub mod Expanding
+pub mod Driving

@@ -1,0 +1,309 @@
+ghost use Rattle.std.specs.Prelude.{◌≡◌, ◌<◌, ◌≤◌, ◌+◌, ◌∷◌, ◌++◌, [], ℕ, List, Some, All, map, length, IfOk, OnOk};
+ghost use Rattle.dx_base.specs.NameTable.{under_name};
+ghost use Rattle.dx_ast.specs.Lawful.{IsLawfulExpr, IsLawfulCall, AreLawfulArgs, IsLawfulInBody, IsLawfulBody, IsLawfulMacro};
+ghost use Rattle.dx_ast.specs.Plain.{plain_expr, plain_call, plain_args, plain_stmt, plain_stmts, plain_macro};
+ghost use Rattle.dx_ast.specs.declared.expressions.Call.{out-Call};
+ghost use Rattle.dx_ast.specs.declared.statements.MacroDef.{out-MacroDef};
+ghost use Rattle.dx_macros.specs.Names.{calls_in, calls_of, calls_in_args, calls_after};
+ghost use Rattle.dx_macros.specs.Site.{Nth};
+ghost use Rattle.dx_macros.specs.Expansion as plain;
+ghost use Rattle.dx_graph.specs.Trails.{IsTrail, spot_under};
+ghost use Rattle.dx_graph.specs.Graph.{Node};
+ghost use Rattle.dx_graph.specs.Unfolding as trees;
+ghost use Rattle.dx_graph.specs.GraphView.{graph_of, spots_in};
+ghost use Rattle.dx_graph.specs.Operands.{GivenFits, given_of, OwnFits, Gives};
+ghost use Rattle.dx_graph.specs.Expanding.{Ready, Remembers, Needs, Grows, Expands, ExpandsArgs, ExpandsStatement, ExpandsBody, IsCallOf, SameText, dictionary_in, top_scope, setting, inner_setting, scope_of, expr_in, call_in, args_in, body_in, function_call, function_expanded, applied};
+
+use crate::given::Given;
+use crate::graph::Graph;
+use crate::inputs::inputs_of;
+use crate::operand::{Operand, Results, frame_value};
+use crate::own::{assign, bind_params};
+use crate::put::put;
+use crate::text::{Stop, Text, World, meaning};
+use dx_ast::{Arg, Call, Expr, MacroDef, Stmt, results};
+use dx_base::{Bytes, Function};
+use dx_macros::{Callee, Names, called};
+use std::alloc::{AllocError, Global};
+
+/// A call of a function that has an effect is the next effect.
+fn note_effect(graph: &mut Graph, f: Function, n: u32) -> Result<(), AllocError>
+    requires { IsCallOf (graph_of graph.old).nodes n f }
+    ensures grows { Grows graph.old graph.new }
+    ensures nodes { (graph_of graph.new).nodes ≡ (graph_of graph.old).nodes }
+    ensures effects { OnOk result (trees.unfolded (graph_of graph.new) ≡ trees.unfolded (graph_of graph.old) ++ plain.own_effect f (trees.call_at (trees.calls_of (graph_of graph.old).nodes) n)) }
+{
+    match f {
+        Function::Effect(_) => graph.effect(n),
+        _ => Ok(()),
+    }
+}
+
+/// A node for a call of a function.
+fn add_node<'a>(
+    alloc: Global,
+    graph: &mut Graph,
+    f: Function,
+    given: &[Given<'a>],
+    cache: u8,
+    trail: Option<u32>,
+    k: usize,
+) -> Result<u32, AllocError>
+    requires given { All (GivenFits (graph_of graph.old).nodes) given.now }
+    requires cache { cache ≤ 2 }
+    requires trail { IsTrail (length (spots_in graph.old)) trail }
+    ensures grows { Grows graph.old graph.new }
+    ensures call { IfOk result (λ n. IsCallOf (graph_of graph.new).nodes n f) }
+    ensures unfolds { IfOk result (λ n. trees.call_at (trees.calls_of (graph_of graph.new).nodes) n ≡
+        function_call (spot_under (spots_in graph.old) trail) f cache k (map (given_of (graph_of graph.old).nodes) given.now)) }
+    ensures effects { trees.unfolded (graph_of graph.new) ≡ trees.unfolded (graph_of graph.old) }
+{
+    let inputs = inputs_of(alloc, f, given)?;
+    graph.call(f, inputs, cache, trail, k)
+}
+
+/// A call of a function.
+fn call_function<'a>(
+    alloc: Global,
+    graph: &mut Graph,
+    f: Function,
+    given: &[Given<'a>],
+    cache: u8,
+    trail: Option<u32>,
+    k: usize,
+) -> Result<Results<'a>, AllocError>
+    requires given { All (GivenFits (graph_of graph.old).nodes) given.now }
+    requires cache { cache ≤ 2 }
+    requires trail { IsTrail (length (spots_in graph.old)) trail }
+    ensures grows { Grows graph.old graph.new }
+    ensures expands { IfOk result (λ r. Expands (function_expanded f (function_call (spot_under (spots_in graph.old) trail) f cache k (map (given_of (graph_of graph.old).nodes) given.now))) graph.old graph.new r) }
+{
+    let n = add_node(alloc, graph, f, given, cache, trail, k)?;
+    note_effect(graph, f, n)?;
+    Ok(Results::Node(n, results(f)))
+}
+
+/// An expression of a text.
+#[cycle(expand)]
+pub fn expand_expr<'a>(
+    w: &World<'a>,
+    t: &Text<'a>,
+    graph: &mut Graph,
+    before: &mut Names<'a>,
+    e: &'a Expr,
+) -> Result<Results<'a>, Stop>
+    requires ready { Ready w.now t.now graph.old }
+    requires lawful { ∥ IsLawfulExpr (plain_expr e.now) ∥₁ }
+    ensures grows { Grows graph.old graph.new }
+    ensures before { OnOk result (before.new ≡ before.old ++ calls_in (plain_expr e.now)) }
+    ensures expands { IfOk result (λ r. Expands (expr_in (setting w.now t.now graph.old) before.old (plain_expr e.now)) graph.old graph.new r) }
+    ensures needs { Needs w.now t.now.place result }
+{
+    match e {
+        Expr::Constant(c) => Ok(Results::One(Operand::Constant(c))),
+        Expr::Name(n) => Ok(Results::One(meaning(w, t, n.bytes())?)),
+        Expr::Frame(v) => Ok(Results::One(Operand::Number(frame_value(&w.frames, *v)))),
+        Expr::Call(c) => expand_call(w, t, graph, before, c),
+    }
+}
+
+/// A call in a text: its arguments, and then what it calls.
+#[cycle(expand)]
+pub fn expand_call<'a>(
+    w: &World<'a>,
+    t: &Text<'a>,
+    graph: &mut Graph,
+    before: &mut Names<'a>,
+    c: &'a Call,
+) -> Result<Results<'a>, Stop>
+    requires ready { Ready w.now t.now graph.old }
+    requires lawful { ∥ IsLawfulCall (plain_call c.now) ∥₁ }
+    ensures grows { Grows graph.old graph.new }
+    ensures before { OnOk result (before.new ≡ before.old ++ calls_of (plain_call c.now)) }
+    ensures expands { IfOk result (λ r. Expands (call_in (setting w.now t.now graph.old) before.old (plain_call c.now)) graph.old graph.new r) }
+    ensures needs { Needs w.now t.now.place result }
+{
+    let name = c.name.bytes();
+    let k = before.count(name) + 1;
+    before.push(w.alloc, name)?;
+    let given = expand_args(w, t, graph, before, c.args.as_slice())?;
+    apply(w, t, graph, c, k, given.as_slice())
+}
+
+/// The arguments of a call in a text.
+#[cycle(expand)]
+fn expand_args<'a>(
+    w: &World<'a>,
+    t: &Text<'a>,
+    graph: &mut Graph,
+    before: &mut Names<'a>,
+    args: &'a [Arg],
+) -> Result<Vec<Given<'a>>, Stop>
+    requires ready { Ready w.now t.now graph.old }
+    requires lawful { ∥ AreLawfulArgs (plain_args args.now) ∥₁ }
+    ensures grows { Grows graph.old graph.new }
+    ensures before { OnOk result (before.new ≡ before.old ++ calls_in_args (plain_args args.now)) }
+    ensures expands { IfOk result (λ given. ExpandsArgs (args_in (setting w.now t.now graph.old) before.old (plain_args args.now)) graph.old graph.new given.items) }
+    ensures needs { Needs w.now t.now.place result }
+{
+    let mut given = Vec::new(w.alloc);
+    for arg in args {
+        let results = expand_expr(w, t, graph, before, &arg.value)?;
+        let operand = results.at(0);
+        put(&mut given, Given { arg, operand })?;
+    }
+    Ok(given)
+}
+
+/// A call whose arguments were expanded.
+#[cycle(expand)]
+fn apply<'a>(
+    w: &World<'a>,
+    t: &Text<'a>,
+    graph: &mut Graph,
+    c: &'a Call,
+    k: usize,
+    given: &[Given<'a>],
+) -> Result<Results<'a>, Stop>
+    requires ready { Ready w.now t.now graph.old }
+    requires lawful { ∥ IsLawfulCall (plain_call c.now) ∥₁ }
+    requires given { All (GivenFits (graph_of graph.old).nodes) given.now }
+    ensures grows { Grows graph.old graph.new }
+    ensures expands { IfOk result (λ r. Expands (applied (setting w.now t.now graph.old) (out-Call c.now).name (out-Call c.now).cache k (map (given_of (graph_of graph.old).nodes) given.now)) graph.old graph.new r) }
+    ensures needs { Needs w.now t.now.place result }
+{
+    match called(w.dictionary, c.name.bytes()) {
+        Callee::Unknown => Ok(Results::One(Operand::Null)),
+        Callee::Function(f) => {
+            let results = call_function(w.alloc, graph, f, given, c.cache, t.trail, k)?;
+            Ok(results)
+        }
+        Callee::Macro(m) => enter(w, t, graph, m, c.name.bytes(), k, given),
+    }
+}
+
+/// The text of a macro's body at a call.
+fn inner_text<'a>(
+    w: &World<'a>,
+    t: &Text<'a>,
+    graph: &mut Graph,
+    m: &'a MacroDef,
+    name: &[u8],
+    k: usize,
+    given: &[Given<'a>],
+) -> Result<Text<'a>, AllocError>
+    requires ready { Ready w.now t.now graph.old }
+    requires lawful { ∥ IsLawfulMacro (plain_macro m.now) ∥₁ }
+    requires given { All (GivenFits (graph_of graph.old).nodes) given.now }
+    requires left { 0 < t.now.left }
+    ensures grows { Grows graph.old graph.new }
+    ensures graph { graph_of graph.new ≡ graph_of graph.old }
+    ensures ready { IfOk result (λ inner. Ready w.now inner graph.new) }
+    ensures left { IfOk result (λ inner. inner.left + 1 ≡ t.now.left) }
+    ensures place { IfOk result (λ inner. inner.place ≡ t.now.place) }
+    ensures setting { IfOk result (λ inner. setting w.now inner graph.new ≡ inner_setting (setting w.now t.now graph.old) (top_scope w.now t.now.place) inner.left (out-MacroDef m.now).params (Nth name.now k) (map (given_of (graph_of graph.old).nodes) given.now)) }
+{
+    let trail = graph.step(w.alloc, t.trail, name, k)?;
+    let own = bind_params(w.alloc, m.params.as_slice(), given)?;
+    Ok(Text {
+        trail: Some(trail),
+        left: t.left - 1,
+        place: t.place,
+        own,
+    })
+}
+
+/// A call of a macro, where its body comes to nothing if no macro step is left.
+#[cycle(expand)]
+fn enter<'a>(
+    w: &World<'a>,
+    t: &Text<'a>,
+    graph: &mut Graph,
+    m: &'a MacroDef,
+    name: &[u8],
+    k: usize,
+    given: &[Given<'a>],
+) -> Result<Results<'a>, Stop>
+    requires ready { Ready w.now t.now graph.old }
+    requires lawful { ∥ IsLawfulMacro (plain_macro m.now) ∥₁ }
+    requires given { All (GivenFits (graph_of graph.old).nodes) given.now }
+    requires known { (dictionary_in w.now).macros name.now ≡ Some (plain_macro m.now) }
+    ensures grows { Grows graph.old graph.new }
+    ensures expands { IfOk result (λ r. Expands ((setting w.now t.now graph.old).under.enter (plain_macro m.now) (map (given_of (graph_of graph.old).nodes) given.now) (plain.spot_of_call (setting w.now t.now graph.old).spot (Nth name.now k))) graph.old graph.new r) }
+    ensures needs { Needs w.now t.now.place result }
+{
+    if t.left == 0 {
+        return Ok(Results::One(Operand::Null));
+    }
+    let mut inner = inner_text(w, t, graph, m, name, k, given)?;
+    expand_body(w, &mut inner, graph, m.body.as_slice())?;
+    results_of(w, &inner, m.results.as_slice())
+}
+
+/// The results of a macro: what their names mean at the end of its body.
+fn results_of<'a>(w: &World<'a>, t: &Text<'a>, names: &[Bytes]) -> Result<Results<'a>, Stop>
+    ensures needs { Needs w.now t.now.place result }
+    ensures gives { (nodes : List Node) → Remembers nodes w.now → OwnFits nodes (under_name t.now.own) → IfOk result (λ r. Gives nodes r (plain.results_in names.now (scope_of w.now t.now nodes))) }
+{
+    let mut all = Vec::new(w.alloc);
+    for name in names {
+        let o = meaning(w, t, name.bytes())?;
+        put(&mut all, o)?;
+    }
+    Ok(Results::Many(all))
+}
+
+/// The statements of a macro's body, each in the text that the earlier ones made.
+#[cycle(expand)]
+fn expand_body<'a>(
+    w: &World<'a>,
+    t: &mut Text<'a>,
+    graph: &mut Graph,
+    body: &'a [Stmt],
+) -> Result<(), Stop>
+    requires ready { Ready w.now t.old graph.old }
+    requires lawful { ∥ IsLawfulBody (plain_stmts body.now) ∥₁ }
+    ensures grows { Grows graph.old graph.new }
+    ensures text { SameText t.old t.new }
+    ensures ready { OnOk result (Ready w.now t.new graph.new) }
+    ensures expands { OnOk result ((results : List (List ℕ)) → ExpandsBody (body_in (setting w.now t.old graph.old) results [] (plain_stmts body.now)) graph.old graph.new (plain.results_in results (scope_of w.now t.new (graph_of graph.new).nodes))) }
+    ensures needs { Needs w.now t.old.place result }
+{
+    let mut before = Names::new(w.alloc);
+    for s in body {
+        expand_statement(w, t, graph, &mut before, s)?;
+    }
+    Ok(())
+}
+
+/// A statement of a macro's body.
+#[cycle(expand)]
+fn expand_statement<'a>(
+    w: &World<'a>,
+    t: &mut Text<'a>,
+    graph: &mut Graph,
+    before: &mut Names<'a>,
+    s: &'a Stmt,
+) -> Result<(), Stop>
+    requires ready { Ready w.now t.old graph.old }
+    requires lawful { ∥ IsLawfulInBody (plain_stmt s.now) ∥₁ }
+    ensures grows { Grows graph.old graph.new }
+    ensures text { SameText t.old t.new }
+    ensures before { OnOk result (before.new ≡ calls_after before.old (plain_stmt s.now)) }
+    ensures ready { OnOk result (Ready w.now t.new graph.new) }
+    ensures expands { OnOk result (ExpandsStatement (setting w.now t.old graph.old) before.old (plain_stmt s.now) graph.old graph.new (scope_of w.now t.new (graph_of graph.new).nodes)) }
+    ensures needs { Needs w.now t.old.place result }
+{
+    match s {
+        Stmt::Call(c) => {
+            expand_call(w, t, graph, before, c)?;
+            Ok(())
+        }
+        Stmt::Assign(a) => {
+            let results = expand_expr(w, t, graph, before, &a.value)?;
+            assign(w.alloc, &mut t.own, a.targets.as_slice(), &results)?;
+            Ok(())
+        }
+        _ => Ok(()),
+    }
+}

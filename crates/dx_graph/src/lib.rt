@@ -1,0 +1,21 @@
+//! The expansion of a statement: a graph of calls, in which what has a name stands once.
+#![tactic(auto)]
+
+mod constant;
+mod driver;
+mod expansion;
+mod given;
+mod graph;
+mod inputs;
+mod name;
+mod node;
+mod operand;
+mod own;
+mod put;
+mod text;
+mod trail;
+mod trails;
+
+pub use driver::expand;
+pub use graph::Graph;
+pub use node::{Input, Inputs, Node};

@@ -1,0 +1,144 @@
+ghost use Rattle.std.specs.Prelude.{◌≡◌, ◌<◌, ◌++◌, ◌∷◌, [], length, reverse, IfOk, OnOk, OnErr};
+ghost use Rattle.dx_macros.specs.Steps.{plain_steps};
+ghost use Rattle.dx_graph.specs.Trails.{spots_of, spot_under, parent, IsTrail};
+ghost use Rattle.dx_graph.specs.Walked.{target_step};
+
+use crate::trail::Trail;
+use dx_macros::Step;
+use std::alloc::{AllocError, Global};
+use std::marker::Model;
+
+/// The trails of the texts of a graph, which contracts see as a list. A macro is called in an earlier text.
+#[derive(Drop)]
+pub struct Trails {
+    list: Vec<Trail>,
+}
+
+impl Model for Trails {
+    ghost use Rattle.std.specs.Prelude.{List};
+    ghost use Rattle.std.specs.Coded.{coded_list};
+    ghost use Rattle.dx_graph.specs.declared.trail.Trail.{Trail};
+    ghost use Rattle.dx_graph.specs.contracts.trail.Trail as trail;
+
+    ghost Value = { List Trail };
+
+    ghost coded = { coded_list trail.the_row.coded };
+
+    ghost use Rattle.dx_graph.specs.Trails.{AreOrdered};
+
+    ghost view = { λ t. t.list.items };
+
+    ghost invariant = { λ t. AreOrdered t.list.items };
+}
+
+/// The way back from a text.
+#[derive(Drop)]
+struct Way<'a> {
+    /// The calls of macros that lead to the text, the last one first.
+    steps: Vec<Step<'a>>,
+    /// The first target of the assignment at the top level where the way begins, if it begins at one.
+    target: Option<&'a [u8]>,
+}
+
+/// The number of the element behind so many, if there are not too many for numbers.
+pub fn next_number(count: usize) -> Result<u32, AllocError>
+    ensures number { IfOk result (λ n. n ≡ count) }
+    ensures fits { IfOk result (λ n. n < 4294967295) }
+{
+    if count < 4294967295 {
+        Ok(count as u32)
+    } else {
+        Err(AllocError)
+    }
+}
+
+impl Trails {
+    /// No trails, which take no memory.
+    pub fn new(alloc: Global) -> Trails
+        ensures { result ≡ [] }
+    {
+        Trails {
+            list: Vec::new(alloc),
+        }
+    }
+
+    /// One more trail at the end, and its number. Where memory runs out, or there is no number left, the trails stay as
+    /// they were.
+    pub fn push(&mut self, trail: Trail) -> Result<u32, AllocError>
+        requires { IsTrail (length self.old) (parent trail) }
+        ensures number { IfOk result (λ t. t ≡ length self.old) }
+        ensures ok { OnOk result (self.new ≡ self.old ++ trail ∷ []) }
+        ensures err { OnErr result (self.new ≡ self.old) }
+    {
+        let number = next_number(self.list.len())?;
+        self.list.push(trail)?;
+        Ok(number)
+    }
+
+    /// The way back from the text of a trail.
+    fn way<'a>(&'a self, alloc: Global, trail: Option<u32>) -> Result<Way<'a>, AllocError>
+        requires { IsTrail (length self.now) trail }
+        ensures base { IfOk result (λ way. target_step way.target ++ reverse (plain_steps way.steps.items) ≡ (spot_under (spots_of self.now) trail).base) }
+        ensures path { IfOk result (λ way. reverse (plain_steps way.steps.items) ≡ (spot_under (spots_of self.now) trail).path) }
+    {
+        let mut steps = Vec::new(alloc);
+        let mut at = trail;
+        while let Some(t) = at {
+            match &self.list[t as usize] {
+                Trail::Target(name) => {
+                    return Ok(Way {
+                        steps,
+                        target: Some(name.bytes()),
+                    });
+                }
+                Trail::Macro(parent, name, k) => {
+                    steps.push(Step::Nth(name.bytes(), *k))?;
+                    at = *parent;
+                }
+            }
+        }
+        Ok(Way {
+            steps,
+            target: None,
+        })
+    }
+
+    /// The steps that lead to the text of a trail, in order.
+    pub fn base<'a>(
+        &'a self,
+        alloc: Global,
+        trail: Option<u32>,
+    ) -> Result<Vec<Step<'a>>, AllocError>
+        requires { IsTrail (length self.now) trail }
+        ensures { IfOk result (λ steps. plain_steps steps.items ≡ (spot_under (spots_of self.now) trail).base) }
+    {
+        let way = self.way(alloc, trail)?;
+        let mut steps = way.steps;
+        match way.target {
+            None => {
+                steps.reverse();
+                Ok(steps)
+            }
+            Some(target) => {
+                steps.push(Step::Target(target))?;
+                steps.reverse();
+                Ok(steps)
+            }
+        }
+    }
+
+    /// Those of the steps that are calls of macros.
+    pub fn path<'a>(
+        &'a self,
+        alloc: Global,
+        trail: Option<u32>,
+    ) -> Result<Vec<Step<'a>>, AllocError>
+        requires { IsTrail (length self.now) trail }
+        ensures { IfOk result (λ steps. plain_steps steps.items ≡ (spot_under (spots_of self.now) trail).path) }
+    {
+        let way = self.way(alloc, trail)?;
+        let mut steps = way.steps;
+        steps.reverse();
+        Ok(steps)
+    }
+}
