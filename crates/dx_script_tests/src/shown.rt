@@ -1,0 +1,65 @@
+//! Graphs as text.
+
+use dx_ast::Const;
+use dx_graph::{Graph, Input};
+use std::alloc::{AllocError, Global};
+
+fn write_const(alloc: Global, c: &Const, out: &mut Vec<u8>) -> Result<(), AllocError> {
+    match c {
+        Const::Null => out.extend_from_slice(b"NULL"),
+        Const::Int(n) => {
+            let digits = format!(in alloc; "{n}")?;
+            out.extend_from_slice(digits.as_bytes())
+        }
+        Const::Text(text) => {
+            out.push(b'"')?;
+            out.extend_from_slice(text.bytes())?;
+            out.push(b'"')?;
+            Ok(())
+        }
+        _ => out.extend_from_slice(b"list"),
+    }
+}
+
+fn write_input(alloc: Global, input: &Input, out: &mut Vec<u8>) -> Result<(), AllocError> {
+    match input {
+        Input::Constant(c) => write_const(alloc, c, out),
+        Input::Result(node, result) => {
+            let text = format!(in alloc; "{result} of {node}")?;
+            out.extend_from_slice(text.as_bytes())
+        }
+    }
+}
+
+fn write_inputs(alloc: Global, inputs: &[Input], out: &mut Vec<u8>) -> Result<(), AllocError> {
+    for input in inputs {
+        out.push(b' ')?;
+        write_input(alloc, input, out)?;
+    }
+    Ok(())
+}
+
+/// Writes a node as `SITE in PATH cache CACHE: INPUTS`.
+fn write_node(alloc: Global, g: &Graph, n: u32, out: &mut Vec<u8>) -> Result<(), AllocError> {
+    if n >= g.len() {
+        return Ok(());
+    }
+    let site = g.site(alloc, n)?;
+    let path = g.path(alloc, n)?;
+    let node = g.node(n);
+    out.extend_from_slice(site.bytes())?;
+    out.extend_from_slice(b" in ")?;
+    out.extend_from_slice(path.bytes())?;
+    let cache = format!(in alloc; " cache {}:", node.cache)?;
+    out.extend_from_slice(cache.as_bytes())?;
+    write_inputs(alloc, node.inputs.as_slice(), out)
+}
+
+/// Writes the effects of a graph, a line for each.
+pub fn write_effects(alloc: Global, g: &Graph, out: &mut Vec<u8>) -> Result<(), AllocError> {
+    for n in g.effects() {
+        write_node(alloc, g, *n, out)?;
+        out.push(b'\n')?;
+    }
+    Ok(())
+}
