@@ -1,4 +1,8 @@
+pub mod Effecting
 pub mod Ending
+pub mod Folding
+pub mod Lawfulness
 pub mod Outcomes
 pub mod Playing
-pub mod Reading
+pub mod Plays
+pub mod Stepping

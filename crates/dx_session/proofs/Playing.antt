@@ -1,41 +1,74 @@
--- Items performed one after the other.
-use Rattle.std.proofs.Common.{◌≡◌, ℕ, suc, ◌+◌, ◌<◌, List, [], ◌∷◌, ◌++◌, drop, length, get_or, Option, sym, ap, ◌∙◌, append_assoc, add-one}
-use Rattle.std.proofs.Math.Seq.{drop-cons}
-use Rattle.dx_io.specs.Devices.{Grows, GrowsInto, with_more}
-use Rattle.dx_io.proofs.Growing.{with_more-nil, with_more-with_more}
-use Rattle.dx_session.specs.declared.items.Item.{Item}
-use Rattle.dx_session.specs.Printing.{Assigned, unbound, item_text, after, printed}
+-- How many steps a play makes.
+use Rattle.std.proofs.Common.{◌≡◌, ℕ, zero, suc, ◌+◌, ◌<◌, ◌≤◌, ℤ, pos, ◌+ℤ◌, ◌*ℤ◌, Bool, true, false, refl, sym, ap, ◌∙◌, arith}
+use Rattle.std.specs.Prelude.{nat_lt, min}
+use Rattle.std.proofs.Math.IntN.{suc_ℤ-*ℤ, zero-*ℤ}
+use Rattle.std.proofs.lemmas.Bool.Decides.{nat_tests}
+use Rattle.std.proofs.lemmas.Int.{ints}
+use Rattle.dx_sequencer.specs.Sequencer as seq
+use Rattle.dx_sequencer.specs.Sequencer.{is_inside, moved, frame_behind, IsPlay, IsLongPlay, max_steps}
+use Rattle.dx_session.specs.Session.{frames_inside, play_steps, is_too_long}
 
--- the items before place i printed what was told since, and the others print the rest
-abbrev pub SoFar : List Item → ℕ → Assigned → Option (List ℕ) → Option (List ℕ) → Type 0
-SoFar items i values told now = (front : List ℕ) × (printed unbound items ≡ front ++ printed values (drop i items)) × Grows told now front
+no_frames : (s : seq.State) (x : ℤ) → frames_inside 0 s x ≡ 0
+unfolding frames_inside
+no_frames s x = refl
 
-pub begins : (items : List Item) (values : Assigned) (told : Option (List ℕ)) → values ≡ unbound → SoFar items 0 values told told
-begins items values told e = ([], ap (λ (v : Assigned). printed v items) (sym e), sym (with_more-nil told))
+one_frame : (bound : ℕ) (s : seq.State) (x : ℤ) → is_inside s x ≡ true → frames_inside (suc bound) s x ≡ suc (frames_inside bound s (moved s x))
+unfolding frames_inside
+one_frame bound s x is = rw is refl
 
-next_item : (items : List Item) (i : ℕ) (item : Item) → i < length items → item ≡ get_or items i item → drop i items ≡ item ∷ drop (i + 1) items
-next_item items i item lt e = rw add-one (drop-cons items i item lt ∙ ap (λ (x : Item). x ∷ drop (suc i) items) (sym e))
+no_frame : (bound : ℕ) (s : seq.State) (x : ℤ) → is_inside s x ≡ false → frames_inside (suc bound) s x ≡ 0
+unfolding frames_inside
+no_frame bound s x is = rw is refl
 
-split : (items : List Item) (i : ℕ) (item : Item) (values : Assigned) (front : List ℕ) → i < length items → item ≡ get_or items i item
-    → printed unbound items ≡ front ++ printed values (drop i items) → printed unbound items ≡ front ++ (item_text values item ++ printed (after values item) (drop (i + 1) items))
-split items i item values front lt e so_far = so_far ∙ ap (λ (xs : List Item). front ++ printed values xs) (next_item items i item lt e)
+-- ---- the frames of a play, one after the other
 
-pub goes_on : (items : List Item) (i : ℕ) (item : Item) (values next : Assigned) (told now later : Option (List ℕ)) → i < length items → item ≡ get_or items i item
-    → next ≡ after values item → Grows now later (item_text values item) → SoFar items i values told now → SoFar items (i + 1) next told later
-goes_on items i item values next told now later lt e changed one so_far =
-    let front = so_far.0 in (
-      front ++ item_text values item,
-      split items i item values front lt e so_far.1 ∙ sym (append_assoc front (item_text values item) (printed (after values item) (drop (i + 1) items))) ∙ ap (λ (v : Assigned). (front ++ item_text values item) ++ printed v (drop (i + 1) items)) (sym changed),
-      one ∙ ap (λ t. with_more t (item_text values item)) so_far.2 ∙ with_more-with_more told front (item_text values item),
-    )
+next_frame_by : (s : seq.State) (k : ℕ) (f : Bool) → s.forward ≡ f → frame_behind s (suc k) ≡ moved s (frame_behind s k)
+next_frame_by s k true f =
+    let more : pos (suc k) *ℤ s.delta ≡ pos k *ℤ s.delta +ℤ s.delta = suc_ℤ-*ℤ (pos k) s.delta in
+    rw f (omega (arith, ints, more))
+next_frame_by s k false f =
+    let more : pos (suc k) *ℤ s.delta ≡ pos k *ℤ s.delta +ℤ s.delta = suc_ℤ-*ℤ (pos k) s.delta in
+    rw f (omega (arith, ints, more))
 
-pub is_cut : (items : List Item) (i : ℕ) (item : Item) (values : Assigned) (told now later : Option (List ℕ)) → i < length items → item ≡ get_or items i item
-    → GrowsInto now later (item_text values item) → SoFar items i values told now → GrowsInto told later (printed unbound items)
-is_cut items i item values told now later lt e one so_far =
-    let front = so_far.0 in
-    let more = printed (after values item) (drop (i + 1) items) in (
-      front ++ one.0,
-      one.1 ++ more,
-      split items i item values front lt e so_far.1 ∙ ap (λ (xs : List ℕ). front ++ (xs ++ more)) one.2 ∙ simp append_assoc,
-      one.3 ∙ ap (λ t. with_more t one.0) so_far.2 ∙ with_more-with_more told front one.0,
-    )
+next_frame : (s : seq.State) (k : ℕ) → frame_behind s (suc k) ≡ moved s (frame_behind s k)
+next_frame s k = next_frame_by s k s.forward refl
+
+first_frame_by : (s : seq.State) (f : Bool) → s.forward ≡ f → frame_behind s 0 ≡ s.next
+first_frame_by s true f = let none : pos 0 *ℤ s.delta ≡ pos 0 = zero-*ℤ s.delta in rw f (omega (arith, ints, none))
+first_frame_by s false f = let none : pos 0 *ℤ s.delta ≡ pos 0 = zero-*ℤ s.delta in rw f (omega (arith, ints, none))
+
+-- the frames inside from one of them on, counted up to a bound
+frames_from : (s : seq.State) (steps bound left k : ℕ) → IsPlay s steps → k + left ≡ steps → frames_inside bound s (frame_behind s k) ≡ min bound left
+frames_from s steps zero left k play e = no_frames s (frame_behind s k) ∙ omega arith
+frames_from s steps (suc bound) zero k play e =
+    let here : k ≡ steps = omega arith in
+    no_frame bound s (frame_behind s k) (ap (λ (n : ℕ). is_inside s (frame_behind s n)) here ∙ play.outside) ∙ omega arith
+frames_from s steps (suc bound) (suc left) k play e =
+    let before : k < steps = omega arith in
+    let others : suc k + left ≡ steps = omega arith in
+    let rest : frames_inside bound s (moved s (frame_behind s k)) ≡ min bound left = ap (frames_inside bound s) (sym (next_frame s k)) ∙ frames_from s steps bound left (suc k) play others in
+    one_frame bound s (frame_behind s k) (play.inside k before) ∙ ap suc rest ∙ omega arith
+
+counted : (s : seq.State) (steps : ℕ) → IsPlay s steps → play_steps s ≡ min 65537 steps
+counted s steps play =
+    let all : 0 + steps ≡ steps = omega arith in
+    ap (frames_inside 65537 s) (sym (first_frame_by s s.forward refl)) ∙ frames_from s steps 65537 steps 0 play all
+
+-- a play of few steps
+pub steps_are : (s : seq.State) (steps : ℕ) → IsPlay s steps → steps ≤ max_steps → play_steps s ≡ steps
+steps_are s steps play few = counted s steps play ∙ omega arith
+
+not_past : (n : ℕ) → n ≤ max_steps → nat_lt max_steps n ≡ false
+not_past n le = grind (arith, nat_tests)
+
+past : (n : ℕ) → max_steps < n → nat_lt max_steps n ≡ true
+past n lt = grind (arith, nat_tests)
+
+pub is_short : (s : seq.State) (steps : ℕ) → IsPlay s steps → steps ≤ max_steps → is_too_long s ≡ false
+is_short s steps play few = ap (nat_lt max_steps) (steps_are s steps play few) ∙ not_past steps few
+
+-- a play of more steps than a play may have
+pub is_long : (s : seq.State) → IsLongPlay s → is_too_long s ≡ true
+is_long s long =
+    let most : play_steps s ≡ 65537 = counted s long.steps long.play ∙ (let more : max_steps < long.steps = long.long in omega arith) in
+    ap (nat_lt max_steps) most ∙ past 65537 (omega arith)

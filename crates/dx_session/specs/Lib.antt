@@ -1,7 +1,11 @@
-pub mod Built
 pub mod Computed
+pub mod Does
+pub mod Effects
+pub mod Ended
 pub mod Ends
+pub mod Executing
 pub mod Lines
 pub mod Outcome
-pub mod Printing
-pub mod Values
+pub mod Sequence
+pub mod Session
+pub mod SessionView

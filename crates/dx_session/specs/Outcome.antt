@@ -1,18 +1,18 @@
 -- What a session prints and asks for, and the status with which it ends.
-use Rattle.std.specs.Prelude.{◌≡◌, ◌⊎◌, ℕ, List, [], ◌∷◌, Option, Some, None, Result, Ok, Err, String, map, Bool, not, nat_eq, ◌||◌, ◌==◌, if◌then◌else◌, string_bytes, codes}
+use Rattle.std.specs.Prelude.{◌≡◌, ◌⊎◌, ℕ, List, [], ◌∷◌, Option, Some, None, Result, Ok, Err, String, map, Bool, true, false, not, nat_eq, ◌||◌, ◌==◌, if◌then◌else◌, string_bytes, codes}
 use Rattle.std.specs.Str.{bytes_eq}
 use Rattle.std.specs.List.{starts_with}
 use Rattle.std.specs.Bool.{MatchBool}
 use Rattle.std.specs.declared.alloc.Global.{Global}
 use Rattle.dx_session.specs.declared.end.End.{End}
 use Rattle.dx_io.specs.Devices.{FileMap, Grows, GrowsInto}
+use Rattle.dx_ast.specs.declared.statements.Stmt.{Stmt}
+use Rattle.dx_ast.specs.Plain.{plain_stmts}
 use Rattle.dx_include.specs.declared.fail.LoadFail.{LoadFail}
 use Rattle.dx_include.specs.declared.loaded.Loaded.{Loaded}
 use Rattle.dx_include.specs.Loading.{Loading, IsLoading}
-use Rattle.dx_session.specs.declared.items.Item.{Item}
-use Rattle.dx_session.specs.Built.{items_of}
-use Rattle.dx_session.specs.Printing.{printed, unbound}
-use Rattle.dx_session.specs.Lines.{usage_line, refusal_line, not_built_line}
+use Rattle.dx_session.specs.Lines.{usage_line, refusal_line}
+use Rattle.dx_session.specs.Session.{Done, statements, initial}
 
 -- the words as texts
 abbrev pub texts : List (String Global) → List (List ℕ)
@@ -34,15 +34,22 @@ pub record Outcome : Type 0 where
   pub reads : List (List ℕ)
   pub status : ℕ
 
+-- the statements that were loaded, from the beginning of a session on
+abbrev pub session : List Stmt → Done
+session loaded = statements initial (plain_stmts loaded)
+
+-- 1 exactly where an error line was due
+abbrev pub status_of : Bool → ℕ
+status_of false = 0
+status_of true = 1
+
 -- What a session comes to. It loads the file that it names with its includes, and then performs the statements.
 pub data IsOutcome (words : List (List ℕ)) (files : FileMap) : Outcome → Type 0 where
   no_line : line words ≡ None → IsOutcome words files (record { text = usage_line; reads = []; status = 3 })
   refused : (name : List ℕ) (loading : Loading) (why : LoadFail) → line words ≡ Some name → IsLoading files name loading → loading.ends ≡ Err why
       → IsOutcome words files (record { text = refusal_line why; reads = loading.reads; status = 2 })
-  not_built : (name : List ℕ) (loading : Loading) (loaded : Loaded) → line words ≡ Some name → IsLoading files name loading → loading.ends ≡ Ok loaded → items_of loaded.statements ≡ None
-      → IsOutcome words files (record { text = not_built_line name; reads = loading.reads; status = 2 })
-  performed : (name : List ℕ) (loading : Loading) (loaded : Loaded) (items : List Item) → line words ≡ Some name → IsLoading files name loading → loading.ends ≡ Ok loaded → items_of loaded.statements ≡ Some items
-      → IsOutcome words files (record { text = printed unbound items; reads = loading.reads; status = 0 })
+  performed : (name : List ℕ) (loading : Loading) (loaded : Loaded) → line words ≡ Some name → IsLoading files name loading → loading.ends ≡ Ok loaded
+      → IsOutcome words files (record { text = (session loaded.statements).text; reads = loading.reads; status = status_of (session loaded.statements).erred })
 
 -- the status of a session that was cut short by a device or by want of memory
 abbrev pub is_cut : ℕ → Bool
@@ -50,7 +57,7 @@ is_cut status = (status == 4) || (status == 5) || (status == 7)
 
 -- the status of a session that came to its end
 abbrev pub IsWhole : ℕ → Type 0
-IsWhole status = (status ≡ 0) ⊎ (status ≡ 2) ⊎ (status ≡ 3)
+IsWhole status = (status ≡ 0) ⊎ (status ≡ 1) ⊎ (status ≡ 2) ⊎ (status ≡ 3)
 
 -- the outcome came whole with its own status, or was cut short
 abbrev pub EndsAs : ℕ → Outcome → Option (List ℕ) → Option (List ℕ) → Option (List (List ℕ)) → Option (List (List ℕ)) → Type 0

@@ -1,14 +1,17 @@
 //! A whole session: the words of the command line, the file that they name, and what is printed.
 #![tactic(auto)]
 
+mod effects;
 mod end;
-mod items;
+mod ended;
+mod execute;
 mod lines;
-mod play;
 mod run;
-mod values;
+mod session;
 
+pub use end::End;
 pub use run::{one_outcome, run_dxi};
+pub use session::Session;
 
 #[cfg(test)]
 mod tests;

@@ -1,17 +1,17 @@
 ghost use Rattle.std.specs.Prelude.{◌≡◌, ◌⊎◌, List, [], ℕ, Some, None, IfOk, IsErrOf, IsTrue, option_map};
+ghost use Rattle.dx_ast.specs.Lawful.{AreLawful};
+ghost use Rattle.dx_ast.specs.Plain.{plain_stmts};
 ghost use Rattle.dx_io.specs.Devices.{FileMap, Rose, Writes};
 ghost use Rattle.dx_include.specs.Answers.{LoadCause, Loads};
 ghost use Rattle.dx_include.specs.Computed.{loading_of};
-ghost use Rattle.dx_session.specs.Built.{items_of};
-ghost use Rattle.dx_session.specs.Computed.{of_items, of_loading, outcome_of};
+ghost use Rattle.dx_session.specs.Computed.{of_loading, outcome_of};
 ghost use Rattle.dx_session.specs.Ends.{PrintCause, end_of};
 ghost use Rattle.dx_session.specs.Lines.{refusal_line};
-ghost use Rattle.dx_session.specs.Outcome.{Outcome, IsOutcome, Ends, EndsAs, IsWhole, is_cut, texts, line};
+ghost use Rattle.dx_session.specs.Outcome.{Outcome, IsOutcome, Ends, EndsAs, IsWhole, is_cut, texts, line, session as session_of, status_of};
 
 use crate::end::End;
-use crate::items::items;
 use crate::lines;
-use crate::play::play;
+use crate::session::Session;
 use dx_ast::Stmts;
 use dx_base::Bytes;
 use dx_include::{LoadFail, load};
@@ -101,27 +101,27 @@ fn session<F: Files, O: Sink>(
             write_all(out, USAGE)?;
             Ok(3)
         }
-        Some(name) => load_and_play(alloc, name, files, out),
+        Some(name) => load_and_perform(alloc, name, files, out),
     }
 }
 
 // Loads the session of this name, and performs its statements.
-fn load_and_play<F: Files, O: Sink>(
+fn load_and_perform<F: Files, O: Sink>(
     alloc: Global,
     name: &[u8],
     files: &mut F,
     out: &mut O,
 ) -> Result<u8, End>
     ensures session { (map : FileMap) → F.content files.old ≡ Some map →
-        Ends result (of_loading name.now (loading_of map name.now))
+        Ends result (of_loading (loading_of map name.now))
         (O.written out.old) (O.written out.new) (F.asked files.old) (F.asked files.new) }
-    ensures own_status { IfOk result (λ status. (status ≡ 0) ⊎ (status ≡ 2)) }
+    ensures own_status { IfOk result (λ status. (status ≡ 0) ⊎ (status ≡ 1) ⊎ (status ≡ 2)) }
     ensures read_fault { IsErrOf result End.ReadFault → Rose (F.faults files.old) (F.faults files.new) }
     ensures write_fault { IsErrOf result End.WriteFault → Rose (O.faults out.old) (O.faults out.new) }
 {
     let name = Bytes::copy_of(alloc, name)?;
     match load_session(alloc, files, &name) {
-        Ok(statements) => perform(alloc, &name, &statements, out),
+        Ok(statements) => perform(alloc, statements, files, out),
         Err(why) => match cut_by(&why) {
             Some(end) => Err(end),
             None => refuse(alloc, &why, out),
@@ -144,6 +144,7 @@ fn cut_by(why: &LoadFail) -> Option<End>
 fn load_session<F: Files>(alloc: Global, files: &mut F, name: &Bytes) -> Result<Stmts, LoadFail>
     ensures loading { (map : FileMap) → F.content files.old ≡ Some map →
         Loads (loading_of map name.now) result (F.asked files.old) (F.asked files.new) }
+    ensures lawful { IfOk result (λ statements. AreLawful (plain_stmts statements)) }
     ensures cause { LoadCause (F.faults files.old) (F.faults files.new) result }
 {
     load(alloc, files, name)
@@ -152,7 +153,7 @@ fn load_session<F: Files>(alloc: Global, files: &mut F, name: &Bytes) -> Result<
 fn refuse<O: Sink>(alloc: Global, why: &LoadFail, out: &mut O) -> Result<u8, End>
     ensures writes { Writes (O.written out.old) (O.written out.new) (refusal_line why.now) result }
     ensures status { IfOk result (λ status. status ≡ 2) }
-    ensures own_status { IfOk result (λ status. (status ≡ 0) ⊎ (status ≡ 2)) }
+    ensures own_status { IfOk result (λ status. (status ≡ 0) ⊎ (status ≡ 1) ⊎ (status ≡ 2)) }
     ensures cause { PrintCause (O.faults out.old) (O.faults out.new) result }
 {
     let line = lines::refusal(alloc, why)?;
@@ -160,24 +161,35 @@ fn refuse<O: Sink>(alloc: Global, why: &LoadFail, out: &mut O) -> Result<u8, End
     Ok(2)
 }
 
-// Performs the statements, if all of them are built.
-fn perform<O: Sink>(alloc: Global, name: &Bytes, statements: &Stmts, out: &mut O) -> Result<u8, End>
-    ensures writes { Writes (O.written out.old) (O.written out.new) (of_items name.now [] (items_of statements.now)).text result }
-    ensures status { IfOk result (λ status. status ≡ (of_items name.now [] (items_of statements.now)).status) }
-    ensures own_status { IfOk result (λ status. (status ≡ 0) ⊎ (status ≡ 2)) }
+// Performs the statements from the beginning of a session on.
+fn perform<F: Files, O: Sink>(
+    alloc: Global,
+    statements: Stmts,
+    files: &mut F,
+    out: &mut O,
+) -> Result<u8, End>
+    requires { AreLawful (plain_stmts statements) }
+    ensures writes { Writes (O.written out.old) (O.written out.new) (session_of statements).text result }
+    ensures status { IfOk result (λ status. status ≡ status_of (session_of statements).erred) }
+    ensures own_status { IfOk result (λ status. (status ≡ 0) ⊎ (status ≡ 1) ⊎ (status ≡ 2)) }
+    ensures asked { F.asked files.new ≡ F.asked files.old }
+    ensures reads { F.faults files.new ≡ F.faults files.old }
     ensures cause { PrintCause (O.faults out.old) (O.faults out.new) result }
 {
-    match items(alloc, statements.as_slice())? {
-        None => {
-            let line = lines::not_built(alloc, name.bytes())?;
-            write_all(out, &line)?;
-            Ok(2)
-        }
-        Some(items) => {
-            play(alloc, &items, out)?;
-            Ok(0)
-        }
+    let mut session = Session::new(alloc);
+    let mut erred = false;
+    for statement in statements.into_vec() {
+        erred |= session.statement(alloc, statement, files, out)?;
     }
+    Ok(exit_status(erred))
+}
+
+// 1 exactly where an error line was due.
+fn exit_status(erred: bool) -> u8
+    ensures is { result ≡ status_of erred }
+    ensures own { (result ≡ 0) ⊎ (result ≡ 1) ⊎ (result ≡ 2) }
+{
+    if erred { 1 } else { 0 }
 }
 
 /// A session has one outcome.
