@@ -59,7 +59,7 @@ quotient a b = if is_zero b then Err DivisionByZero else checked (int_div a b)
 abbrev pub remainder : ℤ → ℤ → Outcome ℤ
 remainder a b = if is_zero b then Err DivisionByZero else checked (int_rem a b)
 
--- an operator that looks at two single values
+-- An operator that looks at both its sides, at two single values; `values_by` asks for Or, And and Dot elsewhere.
 abbrev pub binary_value : Binary → ℤ → ℤ → Outcome ℤ
 binary_value binary.Or a b = Ok (truth (not (is_zero a && is_zero b)))
 binary_value binary.And a b = Ok (truth (not (is_zero a || is_zero b)))
@@ -113,10 +113,11 @@ input_values inputs item k = each (λ place. checked (inputs.value k item place)
 abbrev pub value_at : Values → ℕ → ℤ
 value_at vs i = slice_index_or vs (if length vs == 1 then 0 else i) (pos 0)
 
--- value by value, in order; a single value stands beside each of the other side
+-- how many values stand side by side: those of the left side, or of the right one where the left one is single
 abbrev pub places : Values → Values → ℕ
 places x y = if length x == 1 then length y else length x
 
+-- value by value, in order; a single value stands beside each of the other side
 abbrev pub side_by_side : (ℤ → ℤ → Outcome ℤ) → Values → Values → Outcome Values
 side_by_side f x y = each (λ i. f (value_at x i) (value_at y i)) (range_with_len 0 (places x y))
 

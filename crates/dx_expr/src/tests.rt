@@ -1,6 +1,6 @@
 use crate::{
     EvalFail, ExprFail, Inputs, ItemFault, Shape, is_single, parse_expr, shape_of, single_value,
-    values_of,
+    uses_input, values_of,
 };
 use std::alloc::Global;
 use std::test::Fail;
@@ -77,6 +77,56 @@ fn refuses_at_the_limits(rt: HostRuntime) -> Result<(), Fail> {
     assert_eq!(rt; refused_at(rt.alloc(), &signs), None);
     let misfits = repeated(rt.alloc(), b')', 5000, b'1')?;
     assert_eq!(rt; refused_at(rt.alloc(), &misfits), Some(0));
+    Ok(())
+}
+
+/// A vector of as many parts as the number says.
+fn vector_of(alloc: Global, count: usize) -> Result<Vec<u8>, Fail> {
+    let mut text = Vec::from_slice(alloc, b"[1")?;
+    for _ in 1..count {
+        text.extend_from_slice(b",1")?;
+    }
+    text.push(b']')?;
+    Ok(text)
+}
+
+#[test]
+fn refuses_the_257th_part_at_the_comma_before_it(rt: HostRuntime) -> Result<(), Fail> {
+    assert_eq!(rt; refused_at(rt.alloc(), &vector_of(rt.alloc(), 256)?), None);
+    assert_eq!(rt;
+        refused_at(rt.alloc(), &vector_of(rt.alloc(), 257)?),
+        Some(512)
+    );
+    Ok(())
+}
+
+/// Whether an input occurs in a text; none where it is no expression.
+fn occurs(alloc: Global, text: &[u8], k: u8) -> Option<bool> {
+    match parse_expr(alloc, text) {
+        Ok(e) => Some(uses_input(&e, k)),
+        Err(_) => None,
+    }
+}
+
+/// Texts, an input, and whether it occurs.
+const OCCURRENCES: [(&[u8], u8, bool); 10] = [
+    (b"0", 0, false),
+    (b"$0", 0, true),
+    (b"$007", 7, true),
+    (b"$1", 0, false),
+    (b"-($0 + $1)", 1, true),
+    (b"0 && $3", 3, true),
+    (b"1 ? 2 : $20", 20, true),
+    (b"$5 ? 1 : 2", 5, true),
+    (b"[1, $4].0", 4, true),
+    (b"max([1, $4], $2)", 3, false),
+];
+
+#[test]
+fn inputs_that_occur(rt: HostRuntime) -> Result<(), Fail> {
+    for (text, k, does) in &OCCURRENCES {
+        assert_eq!(rt; occurs(rt.alloc(), text, *k), Some(*does));
+    }
     Ok(())
 }
 

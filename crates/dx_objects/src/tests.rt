@@ -1,6 +1,6 @@
 use super::*;
 use dx_base::{Bytes, Items};
-use std::alloc::Global;
+use std::alloc::{AllocError, Global};
 use std::rc::Rc;
 use std::test::Fail;
 
@@ -331,11 +331,95 @@ fn a_component_of_no_field_is_refused(rt: HostRuntime) -> Result<(), Fail> {
     Ok(())
 }
 
-fn results(alloc: Global) -> Result<(usize, u64), Fail> {
+fn is_named(part: &Part, name: &[u8]) -> bool {
+    match &part.name {
+        Some(found) => found.bytes() == name,
+        None => false,
+    }
+}
+
+// Two parts with names and positions that share one object.
+fn two_parts(alloc: Global) -> Result<Parts, Fail> {
+    list(alloc, &[(b"a", 3), (b"", -4)], &text(alloc, b"word")?)
+}
+
+// How many parts there are after they went out into a vector and back, whether none is there, and whether they are the
+// same in their order.
+fn parts_there_and_back(alloc: Global) -> Result<(usize, bool, bool), Fail> {
+    let parts = Parts::from_vec(two_parts(alloc)?.into_vec());
+    let is_same = match parts.as_slice() {
+        [first, second] => {
+            is_named(first, b"a")
+                && first.position == 3
+                && second.name.is_none()
+                && second.position == -4
+        }
+        _ => false,
+    };
+    Ok((parts.len(), parts.is_empty(), is_same))
+}
+
+// How many attributes an object has that was made with two, and the size of the first.
+fn attributes_shown(alloc: Global) -> Result<(usize, u64), Fail> {
+    let attrs = list(alloc, &[(b"a", 0), (b"bc", 0)], &text(alloc, b"word")?)?;
+    let object = Object::text(Bytes::copy_of(alloc, b"")?, attrs)?;
+    let size = match object.attributes() {
+        [first, ..] => first.object.size(),
+        [] => 0,
+    };
+    Ok((object.attributes().len(), size))
+}
+
+#[test]
+fn parts_go_into_a_vector_and_back(rt: HostRuntime) -> Result<(), Fail> {
+    let alloc = rt.alloc();
+    assert!(rt; Parts::new(alloc).is_empty());
+    assert!(rt; parts_there_and_back(alloc)? == (2, false, true));
+    assert!(rt; attributes_shown(alloc)? == (2, 68));
+    Ok(())
+}
+
+fn stated_size(value: &Value) -> u64 {
+    match value {
+        Some(object) => object.size(),
+        None => 0,
+    }
+}
+
+fn two_results(alloc: Global) -> Result<Outs, Fail> {
     let mut outs = Outs::new(alloc);
     outs.push(None)?;
     outs.push(Some(number(alloc, 5)?))?;
-    let copy = outs.copy(alloc)?;
+    Ok(outs)
+}
+
+// How many results there are after they went out into a vector and back, whether none is there, and their sizes, 0 for
+// NULL.
+fn results_there_and_back(alloc: Global) -> Result<(usize, bool, [u64; 2]), Fail> {
+    let outs = Outs::from_vec(two_results(alloc)?.into_vec());
+    let sizes = if outs.len() == 2 {
+        [stated_size(outs.get(0)), stated_size(outs.get(1))]
+    } else {
+        [0, 0]
+    };
+    Ok((outs.as_slice().len(), outs.is_empty(), sizes))
+}
+
+#[test]
+fn results_go_into_a_vector_and_back(rt: HostRuntime) -> Result<(), Fail> {
+    let alloc = rt.alloc();
+    assert!(rt; Outs::new(alloc).is_empty());
+    assert!(rt; results_there_and_back(alloc)? == (2, false, [0, 68]));
+    Ok(())
+}
+
+#[test]
+fn want_of_memory_gives_nothing(rt: HostRuntime) {
+    assert!(rt; RunFail::from(AllocError) == RunFail::Memory);
+}
+
+fn results(alloc: Global) -> Result<(usize, u64), Fail> {
+    let copy = two_results(alloc)?.copy(alloc)?;
     Ok((copy.len(), copy.size()))
 }
 
