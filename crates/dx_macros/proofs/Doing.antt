@@ -9,14 +9,14 @@ use Rattle.dx_macros.specs.declared.fault.StaticFault.{StaticFault}
 use Rattle.dx_macros.specs.declared.fault.StaticFault.TheVariants as fault
 use Rattle.dx_macros.specs.Site.{Step, Nth, next_step, first_target}
 use Rattle.dx_macros.specs.Names.{count}
-use Rattle.dx_macros.specs.Dictionary.{Dictionary, TopText, param_names, Callee, Unknown, CallsMacro, CallsFunction, callee, definition}
+use Rattle.dx_macros.specs.Dictionary.{Dictionary, TopText, top_text, param_names, Callee, Unknown, CallsMacro, CallsFunction, callee, definition}
 use Rattle.dx_macros.specs.Walk.{Walk, Walked, Goes, Faulty, and_then, fault_of_call, arg_names, fault_in, walk_of, walk_begins, read_in}
 use Rattle.dx_ast.specs.declared.expressions.Arg.{Arg}
 use Rattle.dx_ast.specs.declared.expressions.Call.{Call, out-Call}
 use Rattle.dx_ast.specs.declared.statements.Assign.{Assign}
 use Rattle.dx_ast.specs.declared.statements.Stmt.{Stmt, out-Stmt, roll-Stmt, roll-out-Stmt}
 use Rattle.dx_ast.specs.declared.statements.Stmt.TheOpen.{Stmt-F, Assign as Assigns, Call as Calls, Macro as Defines, Include, SetFrame, Word, Sequence}
-use Rattle.dx_ast.specs.declared.statements.Stmt.TheVariants.{rolls-Assign, rolls-Call}
+use Rattle.dx_ast.specs.declared.statements.Stmt.TheVariants.{rolls-Assign, rolls-Call, rolls-Sequence}
 use Rattle.dx_ast.specs.declared.statements.Stmt as views
 use Rattle.dx_ast.specs.declared.statements.Stmt.TheVariants as stmt
 use denote.Hole.Carrier
@@ -24,6 +24,7 @@ use Rattle.dx_ast.specs.Plain.{plain_expr, plain_call, plain_args, plain_macro, 
 use Rattle.dx_ast.specs.declared.statements.MacroDef.{MacroDef, out-MacroDef}
 use Rattle.dx_macros.specs.declared.machine.Frame.{Frame}
 use Rattle.dx_ast.proofs.PlainLaws.{plain_call_out, stmt_layer, plain_stmt_out, plain_macro_out}
+use Rattle.dx_macros.specs.Places.{Marks, flags}
 use Rattle.dx_macros.specs.Shown.{text_of}
 use Rattle.dx_macros.specs.Machine as m
 use Rattle.dx_macros.specs.declared.machine.Job.{Job}
@@ -104,10 +105,6 @@ module _ (d : Dictionary) (old : Machine) where
       body_one results ss others s (stmt_layer (out-Stmt s)) e (plain_stmt_out s)
       ∙ other_step results (plain_stmts others) (stmt_layer (out-Stmt s)) (other_by s (out-Stmt s) (roll-out-Stmt s) no_call no_assign)
 
-  pub names_none : (ns : List Text) → length ns ≡ 0 → job_first d (m.NamesJob ns) old ≡ means d old
-  names_none [] e = refl
-  names_none (n ∷ ns) e = absurd (omega arith)
-
   pub names_first : (ns others : List Text) (n n' : Text) → ns ≡ n ∷ others → n' ≡ n → job_first d (m.NamesJob ns) old ≡ and_then (m.reads d (plain_frame old.frame) n' (walk_now old)) (m.do_job d (m.NamesJob others) (rest d old) (plain_frame old.frame))
   names_first ns others n n' e h =
       ap (λ xs. job_first d (m.NamesJob xs) old) e
@@ -164,8 +161,8 @@ module _ (d : Dictionary) (old : Machine) (name : Text) (mid : Machine) (p : IsC
   counted_rest : rest d mid ≡ rest d old
   counted_rest = ap (λ (js : Vec Job Global). m.rest_of d (map plain_job js.items)) p.jobs
 
-  counted_walk : walk_now mid ≡ record { calls = suc old.calls; read = old.read.items }
-  counted_walk = ap₂ (λ (n : ℕ) (bs : List Bool). let w : Walk = record { calls = n; read = bs } in w) p.calls (ap (λ v. v.items) p.read)
+  counted_walk : walk_now mid ≡ record { calls = suc old.calls; read = flags old.read }
+  counted_walk = ap₂ (λ (n : ℕ) (bs : List Bool). let w : Walk = record { calls = n; read = bs } in w) p.calls (ap flags p.read)
 
   pub accepted_macro : (mid1 new : Machine) (x : plain.Macro) (s : Step) (args : Args) (j i : Job) → IsPushed mid j mid1 → IsPushed mid1 i new → plain_job j ≡ m.EnterJob x s → plain_job i ≡ m.ArgsJob args → accepted d (CallsMacro x) s name args old ≡ means d new
   accepted_macro mid1 new x s args j i q r e f =
@@ -174,7 +171,7 @@ module _ (d : Dictionary) (old : Machine) (name : Text) (mid : Machine) (p : IsC
       ∙ ap₂ (λ k g. m.do_job d (m.ArgsJob args) (m.do_job d (m.EnterJob x s) k) g (walk_now mid)) counted_rest p.frame
       ∙ ap (m.do_job d (m.ArgsJob args) (m.do_job d (m.EnterJob x s) (rest d old)) (m.met (name ∷ []) (plain_frame old.frame))) counted_walk)
 
-  pub accepted_plain : (new : Machine) (args : Args) (i : Job) → IsPushed mid i new → plain_job i ≡ m.ArgsJob args → m.do_job d (m.ArgsJob args) (rest d old) (m.met (name ∷ []) (plain_frame old.frame)) (record { calls = suc old.calls; read = old.read.items }) ≡ means d new
+  pub accepted_plain : (new : Machine) (args : Args) (i : Job) → IsPushed mid i new → plain_job i ≡ m.ArgsJob args → m.do_job d (m.ArgsJob args) (rest d old) (m.met (name ∷ []) (plain_frame old.frame)) (record { calls = suc old.calls; read = flags old.read }) ≡ means d new
   accepted_plain new args i r f =
       sym (pushed d mid new i r
       ∙ ap (λ a. m.do_job d a (rest d mid) (plain_frame mid.frame) (walk_now mid)) f
@@ -185,17 +182,17 @@ pub ok_counted : {A : Type 0} (old new : Machine) (name : Text) (r : Result A St
 ok_counted {A = A} old new name r a e p = let P : Result A Stop → Type 0 = λ r. CountsCall old name r new in subst P e p
 
 -- a definition is walked in a frame of its own
-pub defined : (d : Dictionary) (i : ℕ) (old mid new : Machine) (read : Vec Bool Global) (f : Frame) (n : ℕ) (j : Job) (a : Assign) →
-    read.items ≡ slice_set old.read.items i true →
+pub defined : (d : Dictionary) (i : ℕ) (old mid new : Machine) (read : Marks) (f : Frame) (n : ℕ) (j : Job) (a : Assign) →
+    flags read ≡ slice_set (flags old.read) i true →
     IsEntered (record { jobs = old.jobs; frame = old.frame; calls = old.calls; read = read }) f mid → IsPushed mid j new →
     plain_job j ≡ m.ExprJob n (plain_expr a.value) → n ≡ length a.targets → plain_frame f ≡ m.frame_at_top (first_target a.targets) i →
     definition d.definitions i ≡ text_of a → definition_first d i old ≡ means d new
 defined d i old mid new read f n j a r p q e l g h =
     let k : m.Rest = m.do_job d (m.LeaveJob (plain_frame old.frame)) (rest d old) in
     let w : List Bool → Walk = λ bs. record { calls = old.calls; read = bs } in
-    ap (λ (x : TopText). m.do_job d (m.ExprJob (length x.targets) x.value) k (m.frame_at_top (first_target x.targets) i) (w (slice_set old.read.items i true))) h
+    ap (λ (x : TopText). m.do_job d (m.ExprJob (length x.targets) x.value) k (m.frame_at_top (first_target x.targets) i) (w (slice_set (flags old.read) i true))) h
     ∙ sym (entered d (record { jobs = old.jobs; frame = old.frame; calls = old.calls; read = read }) mid new f j p q
-    ∙ ap₂ (λ x y. m.do_job d x k y (w read.items)) e g
+    ∙ ap₂ (λ x y. m.do_job d x k y (w (flags read))) e g
     ∙ ap₂ (λ (c : ℕ) (bs : List Bool). m.do_job d (m.ExprJob c (plain_expr a.value)) k (m.frame_at_top (first_target a.targets) i) (w bs)) l r)
 
 -- a macro is walked in a frame of its own
@@ -219,23 +216,33 @@ popped d old jobs j e = ap (λ k. k (plain_frame old.frame) (walk_now old)) (res
 pub none_left : (d : Dictionary) (old : Machine) → old.jobs.items ≡ [] → means d old ≡ Goes (walk_now old)
 none_left d old e = ap (λ js. m.rest_of d (map plain_job js) (plain_frame old.frame) (walk_now old)) e
 
+-- ---- a statement that isn't executed
+
+text_by : (s : Stmt) (x : Stmt-F Stmt MacroDef) → roll-Stmt x ≡ s → ((a : Assign) → s ≡ stmt.Assign a → ⊥) → ((c : Call) → s ≡ stmt.Call c → ⊥) → ((c : Call) → s ≡ stmt.Sequence c → ⊥) → top_text (stmt_layer x) ≡ None
+text_by s (Assigns a) e no_assign no_call no_sequence = absurd (no_assign a (sym e ∙ rolls-Assign a))
+text_by s (Calls c) e no_assign no_call no_sequence = absurd (no_call c (sym e ∙ rolls-Call c))
+text_by s (Defines x) e no_assign no_call no_sequence = refl
+text_by s (Include n) e no_assign no_call no_sequence = refl
+text_by s (SetFrame v x) e no_assign no_call no_sequence = refl
+text_by s (Word x) e no_assign no_call no_sequence = refl
+text_by s (Sequence c) e no_assign no_call no_sequence = absurd (no_sequence c (sym e ∙ rolls-Sequence c))
+
+pub no_text : (s : Stmt) → ((a : Assign) → s ≡ stmt.Assign a → ⊥) → ((c : Call) → s ≡ stmt.Call c → ⊥) → ((c : Call) → s ≡ stmt.Sequence c → ⊥) → top_text (plain_stmt s) ≡ None
+no_text s no_assign no_call no_sequence = ap top_text (plain_stmt_out s) ∙ text_by s (out-Stmt s) (roll-out-Stmt s) no_assign no_call no_sequence
+
 -- the walk of one job
 pub then_goes : (a : Walked) → and_then a (λ w. Goes w) ≡ a
 then_goes (Goes w) = refl
 then_goes (Faulty site x) = refl
 
-pub finds : (r : Result (Vec Bool Global) Stop) (a b : Walked) → a ≡ b → Ends a r → Finds (fault_in b) r
+pub finds : (r : Result Marks Stop) (a b : Walked) → a ≡ b → Ends a r → Finds (fault_in b) r
 finds (Ok read) a b e h = ap fault_in (sym e ∙ h.1)
 finds (Err (stop.Fault s x)) a b e h = ap fault_in (sym e ∙ h)
 finds (Err stop.Memory) a b e h = tt
 
-pub reads : (r : Result (Vec Bool Global) Stop) (a b : Walked) → a ≡ b → Ends a r → IfOk r (λ read. read.items ≡ read_in b)
+pub reads : (r : Result Marks Stop) (a b : Walked) → a ≡ b → Ends a r → IfOk r (λ read. flags read ≡ read_in b)
 reads (Ok read) a b e h = sym h.2 ∙ ap read_in (sym h.1 ∙ e)
 reads (Err why) a b e h = tt
-
-pub with_ok : {A E : Type 0} (P Q : A → Type 0) (r : Result A E) → IfOk r P → ((a : A) → P a → Q a) → IfOk r Q
-with_ok P Q (Ok a) h go = go a h
-with_ok P Q (Err e) h go = tt
 
 -- the walk of a text of the top level, whose first job is this
 pub started : (d : Dictionary) (f : Frame) (place n : ℕ) (ts : List Text) (t : TopText) → plain_frame f ≡ m.frame_at_top (first_target ts) place → place ≡ length d.definitions → ts ≡ t.targets → n ≡ length t.targets →
@@ -247,5 +254,5 @@ stopped : (A : Type 0) (e : Stop) (a before after : Walked) → a ≡ before →
 stopped A (stop.Fault s x) a before after h c = h ∙ c
 stopped A stop.Memory a before after h c = tt
 
-pub fails : {A : Type 0} (r : Result A Stop) (r' : Result (Vec Bool Global) Stop) (e : Stop) (a before after : Walked) → a ≡ before → Continues before r after → r ≡ Err e → r' ≡ Err e → Ends a r'
+pub fails : {A : Type 0} (r : Result A Stop) (r' : Result Marks Stop) (e : Stop) (a before after : Walked) → a ≡ before → Continues before r after → r ≡ Err e → r' ≡ Err e → Ends a r'
 fails {A = A} r r' e a before after h c p q = subst (Ends a) (sym q) (stopped A e a before after h (subst (λ (x : Result A Stop). Continues before x after) p c))

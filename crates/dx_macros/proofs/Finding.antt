@@ -1,12 +1,11 @@
 -- The last definition of a name.
-use Rattle.std.proofs.Common.{◌≡◌, ℕ, zero, suc, ◌<◌, ◌≤◌, List, [], ◌∷◌, map, length, Some, Bool, true, false, refl, ap, ◌∙◌, sym, arith, get_or}
+use Rattle.std.proofs.Common.{◌≡◌, ℕ, zero, suc, ◌<◌, ◌≤◌, List, [], ◌∷◌, map, length, Bool, false, refl, ap, ◌∙◌, sym, arith, get_or}
 use Rattle.dx_macros.specs.Dictionary as plain
 use Rattle.dx_ast.specs.Classes.{Text}
 use Rattle.dx_macros.specs.Names.{has}
 use Rattle.dx_macros.specs.Dictionary.{definition, no_text}
 use Rattle.dx_ast.specs.declared.statements.Assign.{Assign}
 use Rattle.dx_macros.specs.Shown.{text_of}
-use Rattle.dx_macros.specs.Machine.{last_named}
 
 pub definition_at : (defs : List Assign) (i : ℕ) (a : Assign) → i < length defs → a ≡ get_or defs i a → definition (map text_of defs) i ≡ text_of a
 definition_at [] i a h e = absurd (omega arith)
@@ -17,12 +16,6 @@ pub definition_past : (defs : List Assign) (i : ℕ) → length defs ≤ i → d
 definition_past [] i h = refl
 definition_past (b ∷ defs) zero h = absurd (omega arith)
 definition_past (b ∷ defs) (suc i) h = definition_past defs i (omega arith)
-
-pub named_here : (defs : List plain.TopText) (i j : ℕ) (n : Text) → i ≡ suc j → has (definition defs j).targets n ≡ true → last_named defs i n ≡ Some j
-named_here defs i j n e h = rw (e, h) refl
-
-pub not_here : (defs : List plain.TopText) (i j : ℕ) (n : Text) → i ≡ suc j → has (definition defs j).targets n ≡ false → last_named defs i n ≡ last_named defs j n
-not_here defs i j n e h = rw (e, h) refl
 
 -- tests of a definition's own targets
 pub has_at : (defs : List Assign) (i : ℕ) (a : Assign) (ts : List Text) (n : Text) (b : Bool) → i < length defs → a ≡ get_or defs i a → ts ≡ a.targets → has ts n ≡ b → has (definition (map text_of defs) i).targets n ≡ b

@@ -44,16 +44,6 @@ is_at (m ∷ ns) n i e =
     let p = at_by m ns n i (bytes_eq m n) (place_of ns n) (λ j h. is_at ns n j h) e in
     record { present = p.0; rest = p.1; below = p.2 }
 
-pub map-take : {A B : Type 0} (f : A → B) (i : ℕ) (xs : List A) → map f (take i xs) ≡ take i (map f xs)
-map-take f zero xs = refl
-map-take f (suc i) [] = refl
-map-take f (suc i) (x ∷ xs) = ap (λ ys. f x ∷ ys) (map-take f i xs)
-
-pub map-drop : {A B : Type 0} (f : A → B) (i : ℕ) (xs : List A) → map f (drop i xs) ≡ drop i (map f xs)
-map-drop f zero xs = refl
-map-drop f (suc i) [] = refl
-map-drop f (suc i) (x ∷ xs) = map-drop f i xs
-
 map-remove : {A B : Type 0} (f : A → B) (i : ℕ) (xs : List A) → map f (take i xs ++ drop (suc i) xs) ≡ take i (map f xs) ++ drop (suc i) (map f xs)
 map-remove f zero [] = refl
 map-remove f zero (x ∷ xs) = refl

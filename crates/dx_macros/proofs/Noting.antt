@@ -1,109 +1,166 @@
--- The last definitions of names, as a table notes them.
-use Rattle.std.proofs.Common.{◌≡◌, ℕ, zero, suc, ◌+◌, ◌-◌, ◌<◌, ◌≤◌, List, [], ◌∷◌, ◌++◌, length, Option, Some, None, Bool, true, false, Vec, refl, sym, ap, subst, ◌∙◌, arith}
-use Rattle.std.specs.Prelude.{Result, Ok, Err, OnOk, OnErr, min, ◌||◌, if◌then◌else◌}
+-- The places of the definitions of each name.
+use Rattle.std.proofs.Common.{◌≡◌, ℕ, zero, suc, ◌-◌, ◌<◌, ◌≤◌, List, [], ◌∷◌, ◌++◌, length, drop, get_or, Option, Some, Bool, true, false, Vec, refl, sym, ap, ap₂, subst, ◌∙◌, arith}
+use Rattle.std.specs.Prelude.{Result, Ok, Err, OnErr, ◌||◌, if◌then◌else◌}
+use Rattle.std.specs.List.{Contains}
 use Rattle.std.specs.Str.{bytes_eq}
-use Rattle.std.specs.Map.{lookup}
+use Rattle.std.specs.Map.{lookup, IsKeyTest, AreApart, KeepsOthers}
 use Rattle.std.specs.declared.alloc.Global.{Global}
-use Rattle.std.specs.HashMap.{HashMap}
+use Rattle.std.specs.HashMap.{HashMap, UpdatesBy}
+use Rattle.std.proofs.lemmas.Bool.{cases_Bool, cond-true, cond-false}
+use Rattle.std.proofs.lemmas.Cmp.{nat_list_eq_equiv}
+use Rattle.std.proofs.lemmas.List.Elements.{All-append, Contains-append_left, Contains-push}
+use Rattle.std.proofs.lemmas.List.Sorted.{IsNonDecreasingBy-push}
+use Rattle.std.proofs.lemmas.Slice.Eq.{bytes_eq-Decides}
+use mathlib.Core.Logic.{◌⊎◌, inl, inr, ⊎_elim}
 use Rattle.dx_base.specs.NameTable.{under_name, changed_at}
+use Rattle.dx_base.proofs.NameTables.{same_key}
 use Rattle.dx_ast.specs.Classes.{Text}
 use Rattle.dx_macros.specs.Names.{has}
 use Rattle.dx_macros.specs.Dictionary.{TopText, definition}
-use Rattle.dx_macros.specs.Machine.{last_named}
-use Rattle.dx_macros.specs.Shown.{NoneBehind, IsLast, noted}
+use Rattle.dx_macros.specs.Shown.{Index, listed, index_of, with_place, noted, ArePlaces, Indexes}
 
--- ---- looking for the last definition
+-- ---- a list that is written in the table
 
--- nothing is missed where no definition stands between
-last_down : (defs : List TopText) (n : Text) (q k p : ℕ) → p ≡ k + q → ((j : ℕ) → q ≤ j → j < p → has (definition defs j).targets n ≡ false) → last_named defs p n ≡ last_named defs q n
-last_down defs n q zero p e h = ap (λ (x : ℕ). last_named defs x n) (omega (arith, e))
-last_down defs n q (suc k) zero e h = absurd (omega (arith, e))
-last_down defs n q (suc k) (suc i) e h =
-    let here : has (definition defs i).targets n ≡ false = h i (omega (arith, e)) (omega arith) in
-    let below = last_down defs n q k i (omega (arith, e)) (λ j le lt. h j le (omega arith)) in
-    ap (λ (b : Bool). if b then Some i else last_named defs i n) here ∙ below
+apart : (bs cs ks : Text) → bytes_eq bs cs ≡ false → bytes_eq bs ks ≡ true → bytes_eq cs ks ≡ false
+apart bs cs ks n y = nat_list_eq_equiv.symm cs ks ∙ sym (nat_list_eq_equiv.congr bs ks cs y) ∙ n
 
-pub none_before : (defs : List TopText) (n : Text) (p : ℕ) (o : Option ℕ) → NoneBehind o defs n → None ≡ o → None ≡ last_named defs p n
-none_before defs n p None h e = sym (last_down defs n 0 p p (omega arith) (λ j le lt. h j))
-none_before defs n p (Some last) h e = cc
+other_entries : {X : Type 0} (test : Vec ℕ Global → Bool) (old new : List (Vec ℕ Global × X)) → KeepsOthers same_key test old new → (other : Vec ℕ Global → Bool) → IsKeyTest same_key other → AreApart test other → lookup other new ≡ lookup other old
+unfolding KeepsOthers
+other_entries test old new h = h
 
-pub last_before : (defs : List TopText) (n : Text) (p : ℕ) (o : Option ℕ) (last : ℕ) → NoneBehind o defs n → Some last ≡ o → last_named defs (min p (last + 1)) n ≡ last_named defs p n
-last_before defs n p None last h e = cc
-last_before defs n p (Some v) last h e =
-    let same : last ≡ v = cc in
-    sym (last_down defs n (min p (last + 1)) (p - min p (last + 1)) p (omega arith) (λ j le lt. h j (omega (arith, same))))
+written_at : {X S : Type 0} (old new : HashMap (Vec ℕ Global) X S) (name : Text) (value : Option X) → UpdatesBy same_key (λ (key : Vec ℕ Global). bytes_eq name key.items) old new value
+    → (other : Text) → under_name new other ≡ changed_at (under_name old) name value other
+written_at old new name value h other =
+    ⊎_elim
+    (λ y. subst (λ l. under_name new l ≡ value) ((bytes_eq-Decides name other).0 y) h.1 ∙ sym (cond-true (bytes_eq name other) value (under_name old other) y))
+    (λ e. other_entries _ _ _ h.3 _ (λ x y. nat_list_eq_equiv.congr other x.items y.items) (λ k. apart name other k.items e) ∙ sym (cond-false (bytes_eq name other) value (under_name old other) e))
+    (cases_Bool (bytes_eq name other))
 
--- ---- noting a definition
+-- what is under each name after a value was written under one
+pub written : {X S : Type 0} (old new : HashMap (Vec ℕ Global) X S) (name : Text) (value : Option X) → UpdatesBy same_key (λ (key : Vec ℕ Global). bytes_eq name key.items) old new value
+    → under_name new ≡ changed_at (under_name old) name value
+written old new name value h =
+    let each = written_at old new name value h in
+    λ i other. each other i
 
-past : (defs : List TopText) (n : Text) (j : ℕ) → length defs ≤ j → has (definition defs j).targets n ≡ false
-past [] n j h = refl
-past (t ∷ rest) n zero h = absurd (omega arith)
-past (t ∷ rest) n (suc j) h = past rest n j (omega arith)
+-- ---- one place more
 
-keeps_by : (b : Bool) (o : Option ℕ) (defs : List TopText) (n : Text) (place : ℕ) → length defs ≤ place → NoneBehind o defs n → NoneBehind (if b then Some place else o) defs n
-keeps_by true o defs n place h all = λ j lt. past defs n j (omega arith)
-keeps_by false o defs n place h all = all
+module _ {S : Type 0} (old new : HashMap (Vec ℕ Global) (Vec ℕ Global) S) (name : Text) (list : Vec ℕ Global) where
+  pub index_grown : (place : ℕ) → under_name new ≡ changed_at (under_name old) name (Some list) → list.items ≡ index_of old name ++ place ∷ [] → index_of new ≡ with_place (index_of old) name place
+  index_grown place h e = λ i other. each other i
+    where
+      by : (other : Text) (b : Bool) → listed (if b then Some list else under_name old other) ≡ (if b then index_of old name ++ place ∷ [] else index_of old other)
+      by other true = e
+      by other false = refl
 
--- a place behind all definitions can be noted under any name
-keeps_changed : {S : Type 0} (old new : HashMap (Vec ℕ Global) ℕ S) (name : Text) (place : ℕ) → under_name new ≡ changed_at (under_name old) name (Some place) →
-    (defs : List TopText) → length defs ≤ place → IsLast old defs → IsLast new defs
-keeps_changed old new name place e defs h all n =
-    subst (λ (t : Text → Option ℕ). NoneBehind (t n) defs n) (sym e) (keeps_by (bytes_eq name n) (under_name old n) defs n place h (all n))
+      each : (other : Text) → index_of new other ≡ with_place (index_of old) name place other
+      each other = ap (λ (t : Text → Option (Vec ℕ Global)). listed (t other)) h ∙ by other (bytes_eq name other)
 
-pub under_same : {S : Type 0} (old new : HashMap (Vec ℕ Global) ℕ S) → new.entries ≡ old.entries → under_name new ≡ under_name old
-under_same old new e = λ i name. lookup (λ (key : Vec ℕ Global). bytes_eq name key.items) (e i)
+  pub index_kept : under_name new ≡ changed_at (under_name old) name (Some list) → list.items ≡ index_of old name → index_of new ≡ index_of old
+  index_kept h e = λ i other. each other i
+    where
+      by : (other : Text) (b : Bool) → bytes_eq name other ≡ b → listed (if b then Some list else under_name old other) ≡ index_of old other
+      by other true s = e ∙ ap (index_of old) ((bytes_eq-Decides name other).0 s)
+      by other false s = refl
 
-keeps_same : {S : Type 0} (old new : HashMap (Vec ℕ Global) ℕ S) → new.entries ≡ old.entries → (defs : List TopText) → IsLast old defs → IsLast new defs
-keeps_same old new e defs all n = subst (λ (t : Text → Option ℕ). NoneBehind (t n) defs n) (sym (under_same old new e)) (all n)
+      each : (other : Text) → index_of new other ≡ index_of old other
+      each other = ap (λ (t : Text → Option (Vec ℕ Global)). listed (t other)) h ∙ by other (bytes_eq name other) refl
 
-pub keeps_insert : {A E S : Type 0} (r : Result A E) (old new : HashMap (Vec ℕ Global) ℕ S) (name : Text) (place : ℕ) → OnOk r (under_name new ≡ changed_at (under_name old) name (Some place)) → OnErr r (new.entries ≡ old.entries) →
-    (defs : List TopText) → length defs ≤ place → IsLast old defs → IsLast new defs
-keeps_insert (Ok a) old new name place ok err defs h all = keeps_changed old new name place ok defs h all
-keeps_insert (Err s) old new name place ok err defs h all = keeps_same old new err defs all
+-- the place behind all definitions may stand under any name
+keeps_one : (index : Index) (defs : List TopText) (name : Text) → Indexes index defs → Indexes (with_place index name (length defs)) defs
+keeps_one index defs name all other = go (bytes_eq name other) refl
+  where
+    more : ArePlaces (index name ++ length defs ∷ []) defs name
+    more =
+        let here = all name in
+        let last : (d : ℕ) → 0 < length (index name) → get_or (index name) (length (index name) - 1) d ≤ length defs = λ d lt. here.within (length (index name) - 1) d (omega (arith, lt)) in
+        record {
+          ascending = IsNonDecreasingBy-push (λ x. x) (index name) (length defs) here.ascending last;
+          within = All-append (λ p. p ≤ length defs) (index name) (length defs ∷ []) here.within (λ k d lt. one k d lt);
+          all = λ p h. Contains-append_left (index name) (length defs ∷ []) p (here.all p h);
+        }
+      where
+        one : (k d : ℕ) → k < 1 → get_or (length defs ∷ []) k d ≤ length defs
+        one zero d lt = omega arith
+        one (suc k) d lt = absurd (omega arith)
+
+    go : (b : Bool) → bytes_eq name other ≡ b → ArePlaces (if b then index name ++ length defs ∷ [] else index other) defs other
+    go true e = subst (λ (n : Text). ArePlaces (index name ++ length defs ∷ []) defs n) ((bytes_eq-Decides name other).0 e) more
+    go false e = all other
+
+pub keeps_all : (names : List Text) (index : Index) (defs : List TopText) → Indexes index defs → Indexes (noted index names (length defs)) defs
+keeps_all [] index defs all = all
+keeps_all (n ∷ rest) index defs all = keeps_all rest (with_place index n (length defs)) defs (keeps_one index defs n all)
+
+pub keeps_note : (old new : Index) (name : Text) (place : ℕ) (defs : List TopText) → new ≡ with_place old name place → length defs ≡ place → Indexes old defs → Indexes new defs
+keeps_note old new name place defs e l all =
+    subst (λ (index : Index). Indexes index defs) (sym (e ∙ ap (λ (p : ℕ). with_place old name p) (sym l))) (keeps_one old defs name all)
+
+-- the next of some names
+pub note_next : (names : List Text) (i j : ℕ) (n m : Text) (index : Index) (place : ℕ) → i < length names → n ≡ get_or names i n → m ≡ n → j ≡ suc i →
+    noted (with_place index m place) (drop j names) place ≡ noted index (drop i names) place
+note_next [] i j n m index place h e same next = absurd (omega (arith, h))
+note_next (x ∷ rest) zero zero n m index place h e same next = absurd (omega (arith, next))
+note_next (x ∷ rest) (suc i) zero n m index place h e same next = absurd (omega (arith, next))
+note_next (x ∷ rest) zero (suc j) n m index place h e same next =
+    let start : j ≡ 0 = omega (arith, next) in
+    ap₂ (λ (y : Text) (k : ℕ). noted (with_place index y place) (drop k rest) place) (same ∙ e) start
+note_next (x ∷ rest) (suc i) (suc j) n m index place h e same next = note_next rest i j n m index place (omega arith) e same (omega (arith, next))
 
 -- ---- a definition that joins
 
--- what is under a name after it was noted, or others were
-noted_at : (names : List Text) (t : Text → Option ℕ) (place : ℕ) (n : Text) →
-    (has names n ≡ true → noted t names place n ≡ Some place) × (has names n ≡ false → noted t names place n ≡ t n) × (t n ≡ Some place → noted t names place n ≡ Some place)
-noted_at [] t place n = (λ e. cc, λ e. refl, λ e. e)
-noted_at (m ∷ rest) t place n = go (bytes_eq m n) refl (noted_at rest (changed_at t m (Some place)) place n)
+stays_one : (index : Index) (m : Text) (place : ℕ) (n : Text) (p : ℕ) → Contains (index n) p → Contains (with_place index m place n) p
+stays_one index m place n p h = go (bytes_eq m n) refl
   where
-    go : (b : Bool) → bytes_eq m n ≡ b →
-        (has rest n ≡ true → noted (changed_at t m (Some place)) rest place n ≡ Some place) × (has rest n ≡ false → noted (changed_at t m (Some place)) rest place n ≡ changed_at t m (Some place) n) × (changed_at t m (Some place) n ≡ Some place → noted (changed_at t m (Some place)) rest place n ≡ Some place) →
-        ((bytes_eq m n || has rest n) ≡ true → noted (changed_at t m (Some place)) rest place n ≡ Some place) × ((bytes_eq m n || has rest n) ≡ false → noted (changed_at t m (Some place)) rest place n ≡ t n) × (t n ≡ Some place → noted (changed_at t m (Some place)) rest place n ≡ Some place)
-    go true e h =
-        let here : changed_at t m (Some place) n ≡ Some place = ap (λ (c : Bool). if c then Some place else t n) e in
-        (λ k. h.2 here, λ k. let never : (true || has rest n) ≡ false = ap (λ (c : Bool). c || has rest n) (sym e) ∙ k in cc, λ k. h.2 here)
-    go false e h =
-        let here : changed_at t m (Some place) n ≡ t n = ap (λ (c : Bool). if c then Some place else t n) e in
-        (λ k. h.0 (ap (λ (c : Bool). c || has rest n) (sym e) ∙ k), λ k. h.1 (ap (λ (c : Bool). c || has rest n) (sym e) ∙ k) ∙ here, λ k. h.2 (here ∙ k))
+    go : (b : Bool) → bytes_eq m n ≡ b → Contains (if b then index m ++ place ∷ [] else index n) p
+    go true e = Contains-append_left (index m) (place ∷ []) p (subst (λ (x : Text). Contains (index x) p) (sym ((bytes_eq-Decides m n).0 e)) h)
+    go false e = h
 
-has_snoc : (defs : List TopText) (t : TopText) (n : Text) (j : ℕ) → has t.targets n ≡ false → has (definition defs j).targets n ≡ false → has (definition (defs ++ t ∷ []) j).targets n ≡ false
-has_snoc [] t n zero a b = a
-has_snoc [] t n (suc j) a b = refl
-has_snoc (s ∷ rest) t n zero a b = b
-has_snoc (s ∷ rest) t n (suc j) a b = has_snoc rest t n j a b
+stays : (names : List Text) (index : Index) (place : ℕ) (n : Text) (p : ℕ) → Contains (index n) p → Contains (noted index names place n) p
+stays [] index place n p h = h
+stays (m ∷ rest) index place n p h = stays rest (with_place index m place) place n p (stays_one index m place n p h)
+
+-- the place is under each of the names
+joined : (names : List Text) (index : Index) (place : ℕ) (n : Text) → has names n ≡ true → Contains (noted index names place n) place
+joined [] index place n h = cc
+joined (m ∷ rest) index place n h = go (bytes_eq m n) refl (joined rest (with_place index m place) place n) h
+  where
+    go : (b : Bool) → bytes_eq m n ≡ b → (has rest n ≡ true → Contains (noted (with_place index m place) rest place n) place) → (b || has rest n) ≡ true → Contains (noted (with_place index m place) rest place n) place
+    go true e later s =
+        let here : with_place index m place n ≡ index m ++ place ∷ [] = cond-true (bytes_eq m n) (index m ++ place ∷ []) (index n) e in
+        stays rest (with_place index m place) place n place (subst (λ (xs : List ℕ). Contains xs place) (sym here) (Contains-push (index m) place))
+    go false e later s = later s
+
+-- which definition is at a place, after one joined
+joined_at : (defs : List TopText) (t : TopText) (n : Text) (p : ℕ) → has (definition (defs ++ t ∷ []) p).targets n ≡ true →
+    (has (definition defs p).targets n ≡ true) ⊎ ((p ≡ length defs) × (has t.targets n ≡ true))
+joined_at [] t n zero h = inr (refl, h)
+joined_at [] t n (suc p) h = cc
+joined_at (s ∷ rest) t n zero h = inl h
+joined_at (s ∷ rest) t n (suc p) h = next (joined_at rest t n p h)
+  where
+    next : (has (definition rest p).targets n ≡ true) ⊎ ((p ≡ length rest) × (has t.targets n ≡ true)) → (has (definition rest p).targets n ≡ true) ⊎ ((suc p ≡ suc (length rest)) × (has t.targets n ≡ true))
+    next (inl x) = inl x
+    next (inr x) = inr (ap suc x.0, x.1)
 
 length_snoc : (defs : List TopText) (t : TopText) → length (defs ++ t ∷ []) ≡ suc (length defs)
 length_snoc [] t = refl
 length_snoc (s ∷ rest) t = ap suc (length_snoc rest t)
 
-none_by : (o : Option ℕ) (defs : List TopText) (t : TopText) (n : Text) → has t.targets n ≡ false → NoneBehind o defs n → NoneBehind o (defs ++ t ∷ []) n
-none_by None defs t n a h = λ j. has_snoc defs t n j a (h j)
-none_by (Some last) defs t n a h = λ j lt. has_snoc defs t n j a (h j lt)
+-- the index fits the definitions with the one that was noted
+pub joins : (index : Index) (defs : List TopText) (t : TopText) → Indexes index defs → Indexes (noted index t.targets (length defs)) (defs ++ t ∷ [])
+joins index defs t all n =
+    let kept = keeps_all t.targets index defs all n in
+    record {
+      ascending = kept.ascending;
+      within = λ k d lt. let at = kept.within k d lt in let l = length_snoc defs t in omega (arith, at, l);
+      all = λ p h. from p (joined_at defs t n p h);
+    }
+  where
+    from : (p : ℕ) → (has (definition defs p).targets n ≡ true) ⊎ ((p ≡ length defs) × (has t.targets n ≡ true)) → Contains (noted index t.targets (length defs) n) p
+    from p (inl h) = stays t.targets index (length defs) n p ((all n).all p h)
+    from p (inr h) = subst (λ (q : ℕ). Contains (noted index t.targets (length defs) n) q) (sym h.0) (joined t.targets index (length defs) n h.1)
 
-joined_by : (b : Bool) (old new : Option ℕ) (defs : List TopText) (t : TopText) (n : Text) → has t.targets n ≡ b → NoneBehind old defs n → (b ≡ true → new ≡ Some (length defs)) → (b ≡ false → new ≡ old) → NoneBehind new (defs ++ t ∷ []) n
-joined_by true old new defs t n e h there absent =
-    let P : Option ℕ → Type 0 = λ o. NoneBehind o (defs ++ t ∷ []) n in
-    subst P (sym (there refl)) (λ j lt. past (defs ++ t ∷ []) n j (let l = length_snoc defs t in omega (arith, l)))
-joined_by false old new defs t n e h there absent =
-    let P : Option ℕ → Type 0 = λ o. NoneBehind o (defs ++ t ∷ []) n in
-    subst P (sym (absent refl)) (none_by old defs t n e h)
-
--- the table fits the definitions with the one that was noted
-pub joins : {S : Type 0} (old new : HashMap (Vec ℕ Global) ℕ S) (defs : List TopText) (t : TopText) → IsLast old defs → under_name new ≡ noted (under_name old) t.targets (length defs) → IsLast new (defs ++ t ∷ [])
-joins old new defs t all e n =
-    let at = noted_at t.targets (under_name old) (length defs) n in
-    let here = ap (λ (table : Text → Option ℕ). table n) e in
-    joined_by (has t.targets n) (under_name old n) (under_name new n) defs t n refl (all n) (λ k. here ∙ at.0 k) (λ k. here ∙ at.1 k)
+pub on_err : {A E P : Type 0} (r : Result A E) → P → OnErr r P
+on_err (Ok a) h = tt
+on_err (Err e) h = h

@@ -5,6 +5,7 @@ use Rattle.std.proofs.lemmas.List.{map-append}
 use Rattle.dx_macros.specs.Dictionary.{Dictionary}
 use Rattle.dx_macros.specs.Walk.{Walked, Walk, and_then}
 use Rattle.dx_ast.specs.Classes.{Text}
+use Rattle.dx_macros.specs.Places.{flags}
 use Rattle.dx_macros.specs.Machine as m
 use Rattle.dx_macros.specs.declared.machine.Frame.{Frame}
 use Rattle.dx_macros.specs.declared.machine.Job.{Job}
@@ -20,7 +21,7 @@ rest_push d js more j e =
     ap (λ xs. m.rest_of d (map plain_job xs)) e ∙ ap (m.rest_of d) (map-append plain_job js (j ∷ [])) ∙ jobs_push d m.at_end (map plain_job js) (plain_job j)
 
 walk_same : (old new : Machine) → new.calls ≡ old.calls → new.read ≡ old.read → walk_now new ≡ walk_now old
-walk_same old new e f = ap₂ (λ (n : ℕ) (bs : List Bool). let w : Walk = record { calls = n; read = bs } in w) e (ap (λ v. v.items) f)
+walk_same old new e f = ap₂ (λ (n : ℕ) (bs : List Bool). let w : Walk = record { calls = n; read = bs } in w) e (ap flags f)
 
 -- what a machine leads to after a push, by its new rest
 pub rest_pushed : (d : Dictionary) (old new : Machine) (j : Job) → IsPushed old j new → rest d new ≡ m.do_job d (plain_job j) (rest d old)

@@ -198,18 +198,24 @@ recursion = refl
 
 -- ---- the order of effects: calls in arguments before the call, a body at its call, none of definitions; `k` by the text
 
--- `macro f(a) -> (r) { Echo(a); r = Echo(2); }`, `y = f(1);`, `Echo(f(5), y, f(6));`
+-- `macro f(a) -> (r) { Echo(a); r = a; Echo(2); }`, `y = f(1);`, `Echo(f(5), y, f(6));`
 abbrev f : Macro
 f = macro (codes "f") (param (codes "a") ∷ []) (codes "r" ∷ [])
-    (Calls (call (codes "Echo") (arg (Name (codes "a")) NoArg)) ∷ set (codes "r") (of_call (codes "Echo") (arg (int 2) NoArg)) ∷ [])
+    (Calls (call (codes "Echo") (arg (Name (codes "a")) NoArg)) ∷ set (codes "r") (Name (codes "a")) ∷ Calls (call (codes "Echo") (arg (int 2) NoArg)) ∷ [])
 
 abbrev with_effects : Dictionary
 with_effects = record { macros = one_macro f; definitions = top (codes "y") (of_call (codes "f") (arg (int 1) NoArg)) ∷ [] }
 
-pub effects_in_order : shown with_effects (Calls (call (codes "Echo") (arg (of_call (codes "f") (arg (int 5) NoArg)) (arg (Name (codes "y")) (arg (of_call (codes "f") (arg (int 6) NoArg)) NoArg))))) ≡
+abbrev echo_f : Stmt
+echo_f = Calls (call (codes "Echo") (arg (of_call (codes "f") (arg (int 5) NoArg)) (arg (Name (codes "y")) (arg (of_call (codes "f") (arg (int 6) NoArg)) NoArg))))
+
+pub effects_without_fault : fault_shown with_effects echo_f ≡ None
+effects_without_fault = refl
+
+pub effects_in_order : shown with_effects echo_f ≡
     (echo, (Nth (codes "f") 1 ∷ Nth (codes "Echo") 1 ∷ []), (Nth (codes "f") 1 ∷ []), ints (5 ∷ [])) ∷ (echo, (Nth (codes "f") 1 ∷ Nth (codes "Echo") 2 ∷ []), (Nth (codes "f") 1 ∷ []), ints (2 ∷ [])) ∷
     (echo, (Nth (codes "f") 2 ∷ Nth (codes "Echo") 1 ∷ []), (Nth (codes "f") 2 ∷ []), ints (6 ∷ [])) ∷ (echo, (Nth (codes "f") 2 ∷ Nth (codes "Echo") 2 ∷ []), (Nth (codes "f") 2 ∷ []), ints (2 ∷ [])) ∷
-    (echo, (Nth (codes "Echo") 1 ∷ []), [], AndTree null_tree (AndTree null_tree (AndTree null_tree NoTree))) ∷ []
+    (echo, (Nth (codes "Echo") 1 ∷ []), [], ints (5 ∷ 1 ∷ 6 ∷ [])) ∷ []
 effects_in_order = refl
 
 -- ---- a chain of definitions: `x0 = 7; x1 = x0; ..`, and `Echo(x12);`

@@ -2,17 +2,15 @@
 use Rattle.std.proofs.Common.{◌≡◌, ℕ, zero, suc, List, [], ◌∷◌, ◌++◌, length, Option, Some, None, Bool, true, false, refl, sym, ap, ◌∙◌, append-nil, append_assoc}
 use Rattle.std.specs.Prelude.{slice_index_or, slice_set, if◌then◌else◌}
 use Rattle.dx_base.specs.declared.function.Function.{Function}
-use Rattle.dx_ast.specs.declared.constants.Const.{Const}
-use Rattle.dx_ast.specs.declared.sequencing.FrameVar.{FrameVar}
 use Rattle.dx_ast.specs.Classes.{Text}
-use Rattle.dx_ast.specs.Syntax.{Expr, Constant, Name, Frame as FrameOf, CallOf, Call, MakeCall, Args, NoArg, AndArg, Assigns, Calls, Macro, MakeMacro, Stmts, NoStmt, AndStmt}
+use Rattle.dx_ast.specs.Syntax.{Expr, Call, MakeCall, Args, AndArg, Assigns, Calls, Macro, MakeMacro, Stmts, AndStmt}
 use Rattle.dx_ast.specs.declared.statements.Param.{Param}
 use Rattle.dx_macros.specs.declared.fault.StaticFault.{StaticFault}
 use Rattle.dx_macros.specs.Site.{Step, first_target, next_step}
 use Rattle.dx_macros.specs.Names.{has, calls_in, calls_in_args}
-use Rattle.dx_macros.specs.Dictionary.{Dictionary, TopText, Macros, definition, param_names, CallsMacro, CallsFunction, callee}
+use Rattle.dx_macros.specs.Dictionary.{Dictionary, TopText, Macros, definition, last_named, param_names, CallsMacro, CallsFunction, callee}
 use Rattle.dx_macros.specs.Walk.{Walk, Walked, Goes, Faulty, and_then, reader_at, walk_macro, walk_call, walk_expr, walk_args, pick, read_definition, fault_of_call, arg_names}
-use Rattle.dx_macros.specs.Machine.{Frame, Job, ExprJob, CallJob, ArgsJob, EnterJob, BodyJob, OwnJob, NamesJob, LeaveJob, top_reader, reads, under, met, Rest, do_job, jobs_above, frame_in_macro, frame_at_top, last_named}
+use Rattle.dx_macros.specs.Machine.{Frame, Job, ExprJob, CallJob, ArgsJob, EnterJob, BodyJob, OwnJob, NamesJob, LeaveJob, top_reader, reads, under, met, Rest, do_job, jobs_above, frame_in_macro, frame_at_top}
 
 pub jobs_push : (d : Dictionary) (k : Rest) (js : List Job) (j : Job) → jobs_above d k (js ++ j ∷ []) ≡ do_job d j (jobs_above d k js)
 jobs_push d k [] j = refl
@@ -33,21 +31,6 @@ pub met_twice : (f : Frame) (xs ys : List Text) → met ys (met xs f) ≡ met (x
 met_twice f xs ys = ap (λ b. record { base = f.base; left = f.left; place = f.place; own = f.own; before = b }) (append_assoc f.before xs ys)
 
 module _ (d : Dictionary) (k : Rest) (f : Frame) (w : Walk) where
-  pub constant_step : (targets : ℕ) (c : Const) → do_job d (ExprJob targets (Constant c)) k f w ≡ k f w
-  constant_step targets c = ap (λ g. k g w) (met_none f)
-
-  pub frame_step : (targets : ℕ) (v : FrameVar) → do_job d (ExprJob targets (FrameOf v)) k f w ≡ k f w
-  frame_step targets v = ap (λ g. k g w) (met_none f)
-
-  pub expr_call_step : (targets : ℕ) (c : Call) → do_job d (ExprJob targets (CallOf c)) k f w ≡ do_job d (CallJob targets c) k f w
-  expr_call_step targets c = refl
-
-  pub name_step : (targets : ℕ) (n : Text) → do_job d (ExprJob targets (Name n)) k f w ≡ and_then (reads d f n w) (k f)
-  name_step targets n = ap (λ g. and_then (reads d f n w) (k g)) (met_none f)
-
-  pub no_args_step : do_job d (ArgsJob NoArg) k f w ≡ k f w
-  no_args_step = ap (λ g. k g w) (met_none f)
-
   pub args_step : (n : Option Text) (e : Expr) (args : Args) → do_job d (ArgsJob (AndArg n e args)) k f w ≡ do_job d (ExprJob 0 e) (do_job d (ArgsJob args) k) f w
   args_step n e args =
       then_assoc (walk_expr (under d f) f.base (reads d f) f.before 0 e w) _ _
@@ -58,27 +41,14 @@ module _ (d : Dictionary) (k : Rest) (f : Frame) (w : Walk) where
       do_job d (EnterJob (MakeMacro name params results body) step) k f w ≡ do_job d (BodyJob results body) (do_job d (LeaveJob f) k) (frame_in_macro f left (param_names params) step) w
   enter_step left name params results body step e = ap (λ n. and_then (walk_macro d.macros (top_reader d f) n (MakeMacro name params results body) (f.base ++ step ∷ []) w) (k f)) e
 
-  pub no_enter_step : (m : Macro) (step : Step) → f.left ≡ 0 → do_job d (EnterJob m step) k f w ≡ k f w
-  no_enter_step m step e = ap (λ n. and_then (walk_macro d.macros (top_reader d f) n m (f.base ++ step ∷ []) w) (k f)) e
-
-  pub body_end_step : (results : List Text) → do_job d (BodyJob results NoStmt) k f w ≡ do_job d (NamesJob results) k f w
-  body_end_step results = refl
-
   pub body_call_step : (results : List Text) (c : Call) (rest : Stmts) → do_job d (BodyJob results (AndStmt (Calls c) rest)) k f w ≡ do_job d (CallJob 0 c) (do_job d (BodyJob results rest) k) f w
   body_call_step results c rest = then_assoc (walk_call (under d f) f.base (reads d f) f.before 0 c w) _ _
 
   pub body_assign_step : (results : List Text) (targets : List Text) (e : Expr) (rest : Stmts) → do_job d (BodyJob results (AndStmt (Assigns targets e) rest)) k f w ≡ do_job d (ExprJob (length targets) e) (do_job d (OwnJob targets) (do_job d (BodyJob results rest) k)) f w
   body_assign_step results targets e rest = then_assoc (walk_expr (under d f) f.base (reads d f) f.before (length targets) e w) _ _
 
-  pub names_end_step : do_job d (NamesJob []) k f w ≡ k f w
-  names_end_step = refl
-
   pub names_step : (n : Text) (ns : List Text) → do_job d (NamesJob (n ∷ ns)) k f w ≡ and_then (reads d f n w) (do_job d (NamesJob ns) k f)
   names_step n ns = then_assoc (reads d f n w) _ _
-
-  -- a call: its fault, or its arguments and then its macro
-  call_fault : (targets : ℕ) (name : Text) (cache : ℕ) (args : Args) → Option StaticFault
-  call_fault targets name cache args = fault_of_call w.calls (callee d.macros name) f.left (arg_names args) targets
 
   pub call_fault_step : (targets : ℕ) (name : Text) (cache : ℕ) (args : Args) (fault : StaticFault) →
       fault_of_call w.calls (callee d.macros name) f.left (arg_names args) targets ≡ Some fault →
@@ -129,9 +99,6 @@ module _ (macros : Macros) (definitions : List TopText) (n : Text) where
   reader_some (suc p) i e = some_by (has (definition definitions p).targets n) p i (reader_some p i) e
 
 module _ (d : Dictionary) (k : Rest) (f : Frame) (w : Walk) (n : Text) where
-  pub own_name_step : has f.own n ≡ true → and_then (reads d f n w) (k f) ≡ k f w
-  own_name_step e = rw e refl
-
   pub unbound_step : has f.own n ≡ false → last_named d.definitions f.place n ≡ None → and_then (reads d f n w) (k f) ≡ k f w
   unbound_step e h = rw (e, reader_none d.macros d.definitions n f.place h) refl
 

@@ -15,9 +15,10 @@ use Rattle.dx_ast.specs.Syntax as plain
 use Rattle.dx_macros.specs.Dictionary.{Dictionary, definition, Callee, callee, callee_by}
 use Rattle.dx_macros.specs.DictionaryView.{dictionary_of}
 use Rattle.dx_macros.specs.Shown.{text_of}
+use Rattle.dx_macros.specs.Places.{Marks, flags}
 use Rattle.dx_macros.specs.Machine as m
 use Rattle.dx_macros.specs.MachineView.{plain_job, IsPushed, PushesJob, IsEntered, IsCounted}
-use Rattle.dx_macros.specs.Weight.{expr_weight, call_weight, args_weight, macro_weight, callee_weight, job_weight, jobs_weight, unread, chances, weight, Bounds, IsFit, FallsTo, Falls, Pays}
+use Rattle.dx_macros.specs.Weight.{expr_weight, call_weight, macro_weight, callee_weight, job_weight, jobs_weight, unread, chances, weight, Bounds, IsFit, FallsTo, Falls, Pays}
 use Rattle.dx_macros.specs.Bound.{macros_weight, definitions_weight, bound_of}
 use Rattle.dx_macros.specs.declared.dictionary.Dictionary.{Dictionary as CodeDictionary}
 use Rattle.dx_macros.specs.declared.machine.Frame.{Frame}
@@ -28,21 +29,8 @@ use Rattle.dx_macros.specs.declared.machine.Stop.{Stop}
 
 -- ---- every job weighs something
 
-pub args_positive : (args : plain.Args) → 0 < args_weight args
-args_positive plain.NoArg = omega arith
-args_positive (plain.AndArg n e rest) = omega arith
-
 pub call_positive : (c : plain.Call) → 0 < call_weight c
 call_positive (plain.MakeCall name cache args) = omega arith
-
-pub expr_positive : (e : plain.Expr) → 0 < expr_weight e
-expr_positive (plain.Constant c) = omega arith
-expr_positive (plain.Name n) = omega arith
-expr_positive (plain.Frame v) = omega arith
-expr_positive (plain.CallOf c) = call_positive c
-
-pub macro_positive : (x : plain.Macro) → 0 < macro_weight x
-macro_positive (plain.MakeMacro name params results body) = omega arith
 
 -- ---- lists of jobs
 
@@ -54,11 +42,11 @@ jobs_pushed : (js more : List Job) (j : Job) → more ≡ js ++ j ∷ [] → job
 jobs_pushed js more j e =
     ap (λ (xs : List Job). jobs_weight (map plain_job xs)) e ∙ ap jobs_weight (map-append plain_job js (j ∷ [])) ∙ jobs_snoc (map plain_job js) (plain_job j)
 
-chances_same : (old new : Machine) → new.calls ≡ old.calls → new.read ≡ old.read → chances new.calls new.read.items ≡ chances old.calls old.read.items
-chances_same old new e f = ap₂ (λ (n : ℕ) (v : Vec Bool Global). chances n v.items) e f
+chances_same : (old new : Machine) → new.calls ≡ old.calls → new.read ≡ old.read → chances new.calls (flags new.read) ≡ chances old.calls (flags old.read)
+chances_same old new e f = ap₂ (λ (n : ℕ) (v : Marks). chances n (flags v)) e f
 
 fit_same : (d : Dictionary) (old new : Machine) → new.read ≡ old.read → IsFit d old → IsFit d new
-fit_same d old new e h = ap (λ (v : Vec Bool Global). length v.items) e ∙ h
+fit_same d old new e h = ap (λ (v : Marks). length (flags v)) e ∙ h
 
 -- a job more, where the same calls and readings can come
 grown : (b : ℕ) (old new : Machine) (k : ℕ) → new.calls ≡ old.calls → new.read ≡ old.read → jobs_weight (map plain_job new.jobs.items) ≡ jobs_weight (map plain_job old.jobs.items) + k → weight b new ≡ weight b old + k
@@ -118,20 +106,20 @@ length_marked (x ∷ rest) zero = refl
 length_marked (x ∷ rest) (suc i) = ap suc (length_marked rest i)
 
 -- a definition is read for the first time
-pub defines_falls : {A : Type 0} (d : Dictionary) (i : ℕ) (old mid new : Machine) (read : Vec Bool Global) (g : Frame) (j : Job) (r : Result A Stop) → i < length d.definitions →
-    read.items ≡ slice_set old.read.items i true → slice_index_or old.read.items i false ≡ false →
+pub defines_falls : {A : Type 0} (d : Dictionary) (i : ℕ) (old mid new : Machine) (read : Marks) (g : Frame) (j : Job) (r : Result A Stop) → i < length d.definitions →
+    flags read ≡ slice_set (flags old.read) i true → slice_index_or (flags old.read) i false ≡ false →
     IsEntered (record { jobs = old.jobs; frame = old.frame; calls = old.calls; read = read }) g mid → PushesJob mid j r new →
     job_weight (plain_job j) ≡ expr_weight (definition d.definitions i).value → Falls d 1 old r new
 defines_falls d i old mid new read g j (Ok a) h s e p q l = λ b bounds fit.
     let x : Machine = record { jobs = old.jobs; frame = old.frame; calls = old.calls; read = read } in
-    let here : i < length old.read.items = omega (arith, fit) in
-    let less = unread_marked old.read.items i here e in
+    let here : i < length (flags old.read) = omega (arith, fit) in
+    let less = unread_marked (flags old.read) i here e in
     let marked = ap unread s in
-    let paid = spent b (chances old.calls old.read.items) (chances x.calls x.read.items) (omega (arith, less, marked)) in
+    let paid = spent b (chances old.calls (flags old.read)) (chances x.calls (flags x.read)) (omega (arith, less, marked)) in
     let entered = grown b x mid 1 p.calls p.read (jobs_pushed x.jobs.items mid.jobs.items (job.Leave x.frame) p.jobs) in
     let pushed = weight_pushed b mid new j q in
     let small = bounds.definitions i h in
-    let kept : length read.items ≡ length old.read.items = ap length s ∙ length_marked old.read.items i in
+    let kept : length (flags read) ≡ length (flags old.read) = ap length s ∙ length_marked (flags old.read) i in
     (omega (arith, paid, entered, pushed, small, l), fit_same d mid new q.read (fit_same d x mid p.read (kept ∙ fit)))
 defines_falls d i old mid new read g j (Err stop) h s e p q l = tt
 
@@ -139,9 +127,9 @@ defines_falls d i old mid new read g j (Err stop) h s e p q l = tt
 counted_pays : (b : ℕ) (old mid : Machine) (name : Text) → old.calls < 65536 → IsCounted old name mid → weight b mid + suc b ≡ weight b old
 counted_pays b old mid name h p =
     let calls = p.calls in
-    let read : unread mid.read.items ≡ unread old.read.items = ap (λ (v : Vec Bool Global). unread v.items) p.read in
+    let read : unread (flags mid.read) ≡ unread (flags old.read) = ap (λ (v : Marks). unread (flags v)) p.read in
     let jobs : jobs_weight (map plain_job mid.jobs.items) ≡ jobs_weight (map plain_job old.jobs.items) = ap (λ (v : Vec Job Global). jobs_weight (map plain_job v.items)) p.jobs in
-    let paid = spent b (chances old.calls old.read.items) (chances mid.calls mid.read.items) (omega (arith, calls, read)) in
+    let paid = spent b (chances old.calls (flags old.read)) (chances mid.calls (flags mid.read)) (omega (arith, calls, read)) in
     omega (arith, paid, jobs)
 
 pub accepted_pays : {A : Type 0} (d : Dictionary) (old mid new : Machine) (name : Text) (j : Job) (w : ℕ) (r : Result A Stop) → old.calls < 65536 → IsCounted old name mid →

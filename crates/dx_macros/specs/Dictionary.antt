@@ -1,5 +1,5 @@
 -- The dictionary: macros by their names, and the definitions of the top level in order.
-use Rattle.std.specs.Prelude.{ℕ, zero, suc, List, [], ◌∷◌, ◌++◌, Option, Some, None, length, map}
+use Rattle.std.specs.Prelude.{ℕ, zero, suc, List, [], ◌∷◌, ◌++◌, Option, Some, None, length, map, if◌then◌else◌}
 use Rattle.dx_base.specs.declared.function.Function.{Function}
 use Rattle.dx_base.specs.NameTable.{changed_at}
 use Rattle.dx_ast.specs.declared.constants.Const.TheVariants as const
@@ -7,6 +7,7 @@ use Rattle.dx_ast.specs.declared.statements.Param.{Param}
 use Rattle.dx_ast.specs.Classes.{Text}
 use Rattle.dx_ast.specs.Values.{param_name}
 use Rattle.dx_ast.specs.Table.{function_named, row_of}
+use Rattle.dx_macros.specs.Names.{has}
 use Rattle.dx_ast.specs.Syntax.{Expr, Constant, CallOf, Call, Stmt, Assigns, Calls, Sequences, Macro, MakeMacro}
 
 -- a text at the top level: an assignment with its targets, or a call, which has none
@@ -67,6 +68,11 @@ abbrev pub definition : List TopText → ℕ → TopText
 definition [] i = no_text
 definition (t ∷ later) zero = t
 definition (t ∷ later) (suc i) = definition later i
+
+-- the last definition of a name before a place
+abbrev pub last_named : List TopText → ℕ → Text → Option ℕ
+last_named definitions zero n = None
+last_named definitions (suc i) n = if has (definition definitions i).targets n then Some i else last_named definitions i n
 
 -- ---- what the name of a call means
 

@@ -1,4 +1,5 @@
 pub mod Names
+pub mod Places
 pub mod Site
 pub mod Tree
 pub mod Dictionary

@@ -1,10 +1,10 @@
 -- What is left of a walk: a list of jobs, the next one last.
-use Rattle.std.specs.Prelude.{ℕ, zero, suc, List, [], ◌∷◌, ◌++◌, Option, Some, None, if◌then◌else◌}
+use Rattle.std.specs.Prelude.{ℕ, List, [], ◌∷◌, ◌++◌}
 use Rattle.dx_ast.specs.Classes.{Text}
 use Rattle.dx_ast.specs.Syntax.{Expr, Call, Args, Stmt, Macro, Stmts, NoStmt, AndStmt}
-use Rattle.dx_macros.specs.Names.{has, calls_in, calls_of, calls_in_args, calls_after, names_after}
+use Rattle.dx_macros.specs.Names.{calls_in, calls_of, calls_in_args, calls_after, names_after}
 use Rattle.dx_macros.specs.Site.{Step}
-use Rattle.dx_macros.specs.Dictionary.{TopText, Dictionary, definition}
+use Rattle.dx_macros.specs.Dictionary.{Dictionary}
 use Rattle.dx_macros.specs.Walk.{Walk, Walked, Goes, and_then, WalkUnder, Reader, beside, reader_at, walk_macro, walk_call, walk_expr, walk_args, walk_body, read_all}
 
 -- the text that is walked: the steps that lead to it, the macro steps left, the place of its top-level text,
@@ -82,8 +82,3 @@ frame_in_macro f left params step = record { base = f.base ++ step ∷ []; left 
 -- the frame of a text of the top level at a place
 abbrev pub frame_at_top : List Step → ℕ → Frame
 frame_at_top base place = record { base = base; left = 64; place = place; own = []; before = [] }
-
--- the last definition of a name before a place
-abbrev pub last_named : List TopText → ℕ → Text → Option ℕ
-last_named definitions zero n = None
-last_named definitions (suc i) n = if has (definition definitions i).targets n then Some i else last_named definitions i n

@@ -1,6 +1,5 @@
 -- The code's walk under way as the jobs that are left, and what each step of it does.
-use Rattle.std.specs.Prelude.{◌≡◌, ℕ, suc, length, true, slice_set, List, [], ◌∷◌, ◌++◌, map, Result, Ok, Err, Option, Some, None, Bool, Vec}
-use Rattle.std.specs.declared.alloc.Global.{Global}
+use Rattle.std.specs.Prelude.{◌≡◌, ℕ, suc, length, true, slice_set, List, [], ◌∷◌, ◌++◌, map, Result, Ok, Err, Option, Some, None}
 use Rattle.dx_ast.specs.Classes.{Text}
 use Rattle.dx_ast.specs.Plain.{plain_expr, plain_call, plain_args, plain_macro, plain_stmts}
 use Rattle.dx_ast.specs.Syntax.{Args}
@@ -8,6 +7,7 @@ use Rattle.dx_macros.specs.declared.fault.StaticFault.{StaticFault}
 use Rattle.dx_macros.specs.Site as site
 use Rattle.dx_macros.specs.Dictionary.{Dictionary, Callee, CallsMacro, definition}
 use Rattle.dx_macros.specs.Walk.{Walk, Walked, Goes, Faulty, and_then, Fault}
+use Rattle.dx_macros.specs.Places.{Marks, flags}
 use Rattle.dx_macros.specs.Machine as m
 use Rattle.dx_macros.specs.Steps.{plain_step, plain_steps}
 use Rattle.dx_macros.specs.declared.machine.Frame.{Frame}
@@ -31,7 +31,7 @@ plain_job (job.Names names) = m.NamesJob names.now
 plain_job (job.Leave f) = m.LeaveJob (plain_frame f)
 
 abbrev pub walk_now : Machine → Walk
-walk_now x = record { calls = x.calls; read = x.read.items }
+walk_now x = record { calls = x.calls; read = flags x.read }
 
 -- what the jobs of a machine lead to
 abbrev pub rest : Dictionary → Machine → m.Rest
@@ -52,8 +52,8 @@ Stops walked (stop.Fault s f) = walked ≡ Faulty (plain_steps s.items) f
 Stops walked stop.Memory = Unit {0}
 
 -- the walk ends without a fault and has read these definitions, or is stopped
-abbrev pub Ends : Walked → Result (Vec Bool Global) Stop → Type 0
-Ends walked (Ok read) = (w : Walk) × (walked ≡ Goes w) × (w.read ≡ read.items)
+abbrev pub Ends : Walked → Result Marks Stop → Type 0
+Ends walked (Ok read) = (w : Walk) × (walked ≡ Goes w) × (w.read ≡ flags read)
 Ends walked (Err why) = Stops walked why
 
 -- one more job, and nothing else is changed
@@ -81,14 +81,14 @@ abbrev pub definition_first : Dictionary → ℕ → Machine → Walked
 definition_first d i x =
     let t = definition d.definitions i in
     m.do_job d (m.ExprJob (length t.targets) t.value) (m.do_job d (m.LeaveJob (plain_frame x.frame)) (rest d x))
-    (m.frame_at_top (site.first_target t.targets) i) (record { calls = x.calls; read = slice_set x.read.items i true })
+    (m.frame_at_top (site.first_target t.targets) i) (record { calls = x.calls; read = slice_set (flags x.read) i true })
 
 -- what comes after a call that has no fault: its arguments, and then its macro
 abbrev pub accepted : Dictionary → Callee → site.Step → Text → Args → Machine → Walked
 accepted d (CallsMacro x) s name args y =
-    m.do_job d (m.ArgsJob args) (m.do_job d (m.EnterJob x s) (rest d y)) (m.met (name ∷ []) (plain_frame y.frame)) (record { calls = suc y.calls; read = y.read.items })
+    m.do_job d (m.ArgsJob args) (m.do_job d (m.EnterJob x s) (rest d y)) (m.met (name ∷ []) (plain_frame y.frame)) (record { calls = suc y.calls; read = flags y.read })
 accepted d _ s name args y =
-    m.do_job d (m.ArgsJob args) (rest d y) (m.met (name ∷ []) (plain_frame y.frame)) (record { calls = suc y.calls; read = y.read.items })
+    m.do_job d (m.ArgsJob args) (rest d y) (m.met (name ∷ []) (plain_frame y.frame)) (record { calls = suc y.calls; read = flags y.read })
 
 abbrev pub FaultIs : List site.Step → StaticFault → Stop → Type 0
 FaultIs s f (stop.Fault s' f') = (plain_steps s'.items ≡ s) × (f' ≡ f)

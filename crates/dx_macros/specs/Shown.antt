@@ -1,9 +1,12 @@
 -- What the code's lists and tables stand for.
-use Rattle.std.specs.Prelude.{◌≡◌, ◌<◌, ℕ, false, List, [], ◌∷◌, map, Option, Some, None, Vec, All}
+use Rattle.std.specs.Prelude.{◌≡◌, ◌≤◌, ℕ, true, List, [], ◌∷◌, ◌++◌, length, map, Option, Some, None, Vec, All, if◌then◌else◌}
+use Rattle.std.specs.List.{Contains}
+use Rattle.std.specs.List.Sorted.{IsNonDecreasing}
+use Rattle.std.specs.Str.{bytes_eq}
 use Rattle.std.specs.Borrow.{Bor}
 use Rattle.std.specs.declared.alloc.Global.{Global}
 use Rattle.std.specs.HashMap.{HashMap}
-use Rattle.dx_base.specs.NameTable.{under_name, changed_at}
+use Rattle.dx_base.specs.NameTable.{under_name}
 use Rattle.dx_ast.specs.declared.statements.Assign.{Assign}
 use Rattle.dx_ast.specs.declared.statements.MacroDef.{MacroDef}
 use Rattle.dx_ast.specs.Classes.{Text}
@@ -27,18 +30,34 @@ IsCounted times names = (name : Text) → or_zero (under_name times name) ≡ co
 
 -- ---- definitions and macros
 
--- no definition of the name stands behind this place, or none at all
-abbrev pub NoneBehind : Option ℕ → List TopText → Text → Type 0
-NoneBehind None defs name = (j : ℕ) → has (definition defs j).targets name ≡ false
-NoneBehind (Some last) defs name = (j : ℕ) → last < j → has (definition defs j).targets name ≡ false
+-- the places under each name
+abbrev pub Index : Type 0
+Index = Text → List ℕ
 
-abbrev pub IsLast : {S : Type 0} → HashMap (Vec ℕ Global) ℕ S → List TopText → Type 0
-IsLast last defs = (name : Text) → NoneBehind (under_name last name) defs name
+abbrev pub listed : Option (Vec ℕ Global) → List ℕ
+listed (Some places) = places.items
+listed None = []
 
--- a table after this place was put under each of the names
-abbrev pub noted : (Text → Option ℕ) → List Text → ℕ → Text → Option ℕ
-noted table [] place = table
-noted table (n ∷ rest) place = noted (changed_at table n (Some place)) rest place
+abbrev pub index_of : {S : Type 0} → HashMap (Vec ℕ Global) (Vec ℕ Global) S → Index
+index_of table name = listed (under_name table name)
+
+-- one more place under a name
+abbrev pub with_place : Index → Text → ℕ → Index
+with_place index name place other = if bytes_eq name other then index name ++ place ∷ [] else index other
+
+-- one more place under each of the names
+abbrev pub noted : Index → List Text → ℕ → Index
+noted index [] place = index
+noted index (n ∷ rest) place = noted (with_place index n place) rest place
+
+-- places in ascending order up to the end, among which are those of all definitions of the name
+pub record ArePlaces (places : List ℕ) (defs : List TopText) (name : Text) : Type 0 where
+  pub ascending : IsNonDecreasing places
+  pub within : All (λ p. p ≤ length defs) places
+  pub all : (p : ℕ) → has (definition defs p).targets name ≡ true → Contains places p
+
+abbrev pub Indexes : Index → List TopText → Type 0
+Indexes index defs = (name : Text) → ArePlaces (index name) defs name
 
 abbrev pub text_of : Assign → TopText
 text_of a = record { targets = a.targets; value = plain_expr a.value }

@@ -6,6 +6,7 @@ use Rattle.dx_ast.specs.Syntax.{Expr, Constant, Name, Frame, CallOf, Call, MakeC
 use Rattle.dx_macros.specs.Dictionary.{Dictionary, definition, Callee, Unknown, CallsMacro, CallsFunction}
 use Rattle.dx_macros.specs.Machine.{Job, ExprJob, CallJob, ArgsJob, EnterJob, BodyJob, OwnJob, NamesJob, LeaveJob}
 use Rattle.dx_macros.specs.MachineView.{plain_job}
+use Rattle.dx_macros.specs.Places.{flags}
 use Rattle.dx_macros.specs.declared.machine.Machine.{Machine}
 use Rattle.dx_macros.specs.declared.machine.Stop.{Stop}
 
@@ -70,7 +71,7 @@ chances calls read = (65536 - calls) + unread read
 
 -- each of them can bring a macro or a definition, which weighs at most so much
 abbrev pub weight : ℕ → Machine → ℕ
-weight bound m = chances m.calls m.read.items * suc bound + jobs_weight (map plain_job m.jobs.items)
+weight bound m = chances m.calls (flags m.read) * suc bound + jobs_weight (map plain_job m.jobs.items)
 
 -- no macro and no definition weighs more
 pub record Bounds (d : Dictionary) (bound : ℕ) : Type 0 where
@@ -79,7 +80,7 @@ pub record Bounds (d : Dictionary) (bound : ℕ) : Type 0 where
 
 -- there is a mark for each definition
 abbrev pub IsFit : Dictionary → Machine → Type 0
-IsFit d m = length m.read.items ≡ length d.definitions
+IsFit d m = length (flags m.read) ≡ length d.definitions
 
 -- with a job of this weight the old machine was heavier
 abbrev pub FallsTo : Dictionary → ℕ → Machine → Machine → Type 0

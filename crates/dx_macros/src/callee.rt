@@ -15,7 +15,7 @@ pub enum Callee<'a> {
     Function(Function),
 }
 
-/// A macro hides a function of its name.
+/// What the name of a call means: the macro of that name, or else the function, or else nothing.
 pub fn called<'a>(d: &'a Dictionary, name: &[u8]) -> Callee<'a>
     ensures { plain_callee result ≡ callee (dictionary_of d.now).macros name.now }
 {

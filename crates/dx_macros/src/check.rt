@@ -1,10 +1,11 @@
 ghost use Rattle.std.specs.Prelude.{◌≡◌, None, IfOk};
 ghost use Rattle.dx_ast.specs.Lawful.{IsLawful};
 ghost use Rattle.dx_ast.specs.Plain.{plain_call, plain_stmt};
-ghost use Rattle.dx_macros.specs.Dictionary.{of_call, IsExecuted};
+ghost use Rattle.dx_macros.specs.Dictionary.{of_call};
 ghost use Rattle.dx_macros.specs.DictionaryView.{dictionary_of};
 ghost use Rattle.dx_macros.specs.Machine.{do_job, at_end};
 ghost use Rattle.dx_macros.specs.MachineView.{plain_frame, plain_job, means, Ends, Finds};
+ghost use Rattle.dx_macros.specs.Places.{flags};
 ghost use Rattle.dx_macros.specs.Shown.{text_of};
 ghost use Rattle.dx_macros.specs.Walk.{walk_of, walk_begins, fault_in, first_fault, read_in, definitions_read};
 ghost use Rattle.dx_macros.specs.Weight.{IsFit};
@@ -15,11 +16,12 @@ use crate::fault::CheckFail;
 use crate::jobs::{do_job, top_frame};
 use crate::machine::{Frame, Job, Machine, Stop, put};
 use crate::site::site_text;
+use crate::sparse::Sparse;
 use dx_ast::{Assign, Call, Stmt};
 use std::alloc::{AllocError, Global};
 
 /// Does all jobs, and answers which definitions were read.
-fn run<'a>(alloc: Global, d: &'a Dictionary, m: Machine<'a>) -> Result<Vec<bool>, Stop<'a>>
+fn run<'a>(alloc: Global, d: &'a Dictionary, m: Machine<'a>) -> Result<Sparse<()>, Stop<'a>>
     requires { IsFit (dictionary_of d.now) m }
     ensures { Ends (means (dictionary_of d.now) m.entry) result }
 {
@@ -44,20 +46,19 @@ fn begin<'a>(
     ensures fit { IfOk result (λ m. IsFit (dictionary_of d.now) m) }
     ensures means { IfOk result (λ m. means (dictionary_of d.now) m ≡ do_job (dictionary_of d.now) (plain_job job.entry) at_end (plain_frame frame.entry) (walk_begins (dictionary_of d.now))) }
 {
-    let read = vec![in alloc; false; d.len()]?;
     let mut jobs = Vec::new(alloc);
     put(&mut jobs, job)?;
     Ok(Machine {
         jobs,
         frame,
         calls: 0,
-        read,
+        read: Sparse::new(alloc, d.len()),
     })
 }
 
-fn walk_call<'a>(alloc: Global, d: &'a Dictionary, c: &'a Call) -> Result<Vec<bool>, Stop<'a>>
+fn walk_call<'a>(alloc: Global, d: &'a Dictionary, c: &'a Call) -> Result<Sparse<()>, Stop<'a>>
     ensures finds { Finds (fault_in (walk_of (dictionary_of d.now) (of_call (plain_call c.now)))) result }
-    ensures reads { IfOk result (λ read. read.items ≡ read_in (walk_of (dictionary_of d.now) (of_call (plain_call c.now)))) }
+    ensures reads { IfOk result (λ read. flags read ≡ read_in (walk_of (dictionary_of d.now) (of_call (plain_call c.now)))) }
 {
     let place = d.len();
     let frame = top_frame(alloc, &[], place)?;
@@ -65,9 +66,9 @@ fn walk_call<'a>(alloc: Global, d: &'a Dictionary, c: &'a Call) -> Result<Vec<bo
     run(alloc, d, m)
 }
 
-fn walk_assign<'a>(alloc: Global, d: &'a Dictionary, a: &'a Assign) -> Result<Vec<bool>, Stop<'a>>
+fn walk_assign<'a>(alloc: Global, d: &'a Dictionary, a: &'a Assign) -> Result<Sparse<()>, Stop<'a>>
     ensures finds { Finds (fault_in (walk_of (dictionary_of d.now) (text_of a.now))) result }
-    ensures reads { IfOk result (λ read. read.items ≡ read_in (walk_of (dictionary_of d.now) (text_of a.now))) }
+    ensures reads { IfOk result (λ read. flags read ≡ read_in (walk_of (dictionary_of d.now) (text_of a.now))) }
 {
     let place = d.len();
     let frame = top_frame(alloc, a.targets.as_slice(), place)?;
@@ -75,48 +76,47 @@ fn walk_assign<'a>(alloc: Global, d: &'a Dictionary, a: &'a Assign) -> Result<Ve
     run(alloc, d, m)
 }
 
-fn walk<'a>(alloc: Global, d: &'a Dictionary, s: &'a Stmt) -> Result<Vec<bool>, Stop<'a>>
-    requires { IsExecuted (plain_stmt s.now) }
+// A statement that isn't executed has no calls, and reads nothing.
+fn walk<'a>(alloc: Global, d: &'a Dictionary, s: &'a Stmt) -> Result<Sparse<()>, Stop<'a>>
     ensures finds { Finds (first_fault (dictionary_of d.now) (plain_stmt s.now)) result }
-    ensures reads { IfOk result (λ read. read.items ≡ definitions_read (dictionary_of d.now) (plain_stmt s.now)) }
+    ensures reads { IfOk result (λ read. flags read ≡ definitions_read (dictionary_of d.now) (plain_stmt s.now)) }
 {
     match s {
         Stmt::Call(c) => walk_call(alloc, d, c),
         Stmt::Sequence(c) => walk_call(alloc, d, c),
         Stmt::Assign(a) => walk_assign(alloc, d, a),
-        _ => unreachable!(),
+        _ => Ok(Sparse::new(alloc, d.len())),
     }
 }
 
 impl Dictionary {
-    /// The first static fault of a statement that is to be executed, and the text of the site of the call that has it:
-    /// an Ok where there is none.
+    /// The first static fault of a statement, and the text of the site of the call that has it: an Ok where there is
+    /// none. A statement that isn't executed has none.
     pub fn check(&self, alloc: Global, s: &Stmt) -> Result<(), CheckFail>
         requires lawful { IsLawful (plain_stmt s.now) }
-        requires executed { IsExecuted (plain_stmt s.now) }
         ensures { Checks (first_fault (dictionary_of self.now) (plain_stmt s.now)) result }
     {
         match walk(alloc, self, s) {
             Ok(_) => Ok(()),
             Err(Stop::Memory) => Err(CheckFail::Memory),
-            Err(Stop::Fault(site, fault)) => match site_text(alloc, site.as_slice()) {
-                Ok(text) => Err(CheckFail::Fault(text, fault)),
-                Err(_) => Err(CheckFail::Memory),
-            },
+            Err(Stop::Fault(site, fault)) => {
+                let text = site_text(alloc, site.as_slice())?;
+                Err(CheckFail::Fault(text, fault))
+            }
         }
     }
 
-    /// Which definitions the walk of a statement reads that has no static fault: a flag for each place, in the order in
-    /// which the definitions joined.
-    pub fn reads(&self, alloc: Global, s: &Stmt) -> Result<Vec<bool>, AllocError>
+    /// Which definitions the walk of a statement reads that has no static fault: those at the marked places, in the order
+    /// in which the definitions joined.
+    pub fn reads(&self, alloc: Global, s: &Stmt) -> Result<Sparse<()>, AllocError>
         requires lawful { IsLawful (plain_stmt s.now) }
-        requires executed { IsExecuted (plain_stmt s.now) }
         requires no_fault { first_fault (dictionary_of self.now) (plain_stmt s.now) ≡ None }
-        ensures { IfOk result (λ read. read.items ≡ definitions_read (dictionary_of self.now) (plain_stmt s.now)) }
+        ensures { IfOk result (λ read. flags read ≡ definitions_read (dictionary_of self.now) (plain_stmt s.now)) }
     {
         match walk(alloc, self, s) {
             Ok(read) => Ok(read),
-            Err(_) => Err(AllocError),
+            Err(Stop::Memory) => Err(AllocError),
+            Err(Stop::Fault(_, _)) => unreachable!(),
         }
     }
 }

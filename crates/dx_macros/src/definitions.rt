@@ -1,9 +1,8 @@
-ghost use Rattle.std.specs.Prelude.{◌≡◌, ◌<◌, ◌≤◌, ◌+◌, ◌∷◌, ◌++◌, [], List, Some, map, min, length, OnOk, OnErr, IfSome};
-ghost use Rattle.dx_base.specs.NameTable.{under_name, changed_at};
+ghost use Rattle.std.specs.Prelude.{◌≡◌, ◌<◌, ◌≤◌, ◌∷◌, ◌++◌, [], List, map, length, nat_lt, true, false, OnOk, OnErr, IfSome};
+ghost use Rattle.std.specs.List.Sorted.{IsNonDecreasing, IsPartitionPoint};
 ghost use Rattle.dx_macros.specs.Names.{has};
-ghost use Rattle.dx_macros.specs.Machine.{last_named};
-ghost use Rattle.dx_macros.specs.Dictionary.{TopText};
-ghost use Rattle.dx_macros.specs.Shown.{text_of, noted, IsLast};
+ghost use Rattle.dx_macros.specs.Dictionary.{TopText, last_named};
+ghost use Rattle.dx_macros.specs.Shown.{text_of, index_of, with_place, noted, ArePlaces, Indexes};
 
 use dx_ast::Assign;
 use dx_base::Bytes;
@@ -15,8 +14,8 @@ use std::marker::Model;
 #[derive(Drop)]
 pub struct Definitions {
     list: Vec<Assign>,
-    /// No definition of a name stands behind the place that is under it, and none of a name that is missing.
-    last: IndexMap<Vec<u8>, usize>,
+    /// Under each name the places of its definitions, in ascending order.
+    places: IndexMap<Vec<u8>, Vec<usize>>,
 }
 
 impl Model for Definitions {
@@ -30,11 +29,11 @@ impl Model for Definitions {
     ghost coded = { coded_list assign.the_row.coded };
 
     ghost use Rattle.std.specs.Prelude.{map};
-    ghost use Rattle.dx_macros.specs.Shown.{text_of, IsLast};
+    ghost use Rattle.dx_macros.specs.Shown.{text_of, index_of, Indexes};
 
     ghost view = { λ d. d.list.items };
 
-    ghost invariant = { λ d. IsLast d.last (map text_of d.list.items) };
+    ghost invariant = { λ d. Indexes (index_of d.places) (map text_of d.list.items) };
 }
 
 fn has_text(names: &[Bytes], name: &[u8]) -> bool
@@ -48,14 +47,30 @@ fn has_text(names: &[Bytes], name: &[u8]) -> bool
     false
 }
 
-/// The last of the definitions before a place that has this target.
-fn last_named(definitions: &[Assign], place: usize, name: &[u8]) -> Option<usize>
+/// How many of some ascending places are before a place.
+fn count_before(places: &[usize], place: usize) -> usize
+    requires { IsNonDecreasing places.now }
+    ensures bound { result ≤ length places.now }
+    ensures parts { IsPartitionPoint (λ p. nat_lt p place ≡ true) (λ p. nat_lt p place ≡ false) places.now result }
+{
+    places.partition_point(
+        |p: &usize| -> bool
+            ensures { result ≡ nat_lt p.now place }
+        { *p < place },
+    )
+}
+
+/// The last of the definitions before a place that has this target. All of those are among the places, which ascend; but
+/// where memory ran out once, a place can be that of another definition.
+fn last_named(definitions: &[Assign], places: &[usize], place: usize, name: &[u8]) -> Option<usize>
+    requires { ArePlaces places.now (map text_of definitions.now) name.now }
     ensures last { result ≡ last_named (map text_of definitions.now) place name.now }
     ensures below { IfSome result (λ i. i < length definitions.now) }
 {
-    let mut i = place;
-    while i > 0 {
-        i -= 1;
+    let mut left = count_before(places, place);
+    while left > 0 {
+        left -= 1;
+        let i = places[left];
         if let Some(a) = definitions.get(i) {
             if has_text(a.targets.as_slice(), name) {
                 return Some(i);
@@ -65,39 +80,53 @@ fn last_named(definitions: &[Assign], place: usize, name: &[u8]) -> Option<usize
     None
 }
 
-/// Where a search down from a place begins, if no definition stands behind the last one.
-fn begin_of_search(place: usize, last: usize) -> usize
-    ensures { result ≡ min place (last + 1) }
-{
-    if last < place { last + 1 } else { place }
-}
-
 /// A name is defined at a place behind all definitions.
 fn note(
     alloc: Global,
-    last: &mut IndexMap<Vec<u8>, usize>,
+    places: &mut IndexMap<Vec<u8>, Vec<usize>>,
     name: &[u8],
     place: usize,
 ) -> Result<(), AllocError>
-    ensures ok { OnOk result (under_name last.new ≡ changed_at (under_name last.old) name.now (Some place)) }
-    ensures keeps { (defs : List TopText) → length defs ≤ place → IsLast last.old defs → IsLast last.new defs }
+    ensures ok { OnOk result (index_of places.new ≡ with_place (index_of places.old) name.now place) }
+    ensures err { OnErr result (index_of places.new ≡ index_of places.old) }
+{
+    match places.get_mut(name) {
+        Some(list) => {
+            list.push(place)?;
+            Ok(())
+        }
+        None => note_first(alloc, places, name, place),
+    }
+}
+
+fn note_first(
+    alloc: Global,
+    places: &mut IndexMap<Vec<u8>, Vec<usize>>,
+    name: &[u8],
+    place: usize,
+) -> Result<(), AllocError>
+    requires { index_of places.old name.now ≡ [] }
+    ensures ok { OnOk result (index_of places.new ≡ with_place (index_of places.old) name.now place) }
+    ensures err { OnErr result (index_of places.new ≡ index_of places.old) }
 {
     let key = Vec::from_slice(alloc, name)?;
-    last.insert(key, place)?;
+    let mut list = Vec::new(alloc);
+    list.push(place)?;
+    places.insert(key, list)?;
     Ok(())
 }
 
 fn note_all(
     alloc: Global,
-    last: &mut IndexMap<Vec<u8>, usize>,
+    places: &mut IndexMap<Vec<u8>, Vec<usize>>,
     names: &[Bytes],
     place: usize,
 ) -> Result<(), AllocError>
-    ensures ok { OnOk result (under_name last.new ≡ noted (under_name last.old) names.now place) }
-    ensures keeps { (defs : List TopText) → length defs ≤ place → IsLast last.old defs → IsLast last.new defs }
+    ensures ok { OnOk result (index_of places.new ≡ noted (index_of places.old) names.now place) }
+    ensures keeps { (defs : List TopText) → length defs ≡ place → Indexes (index_of places.old) defs → Indexes (index_of places.new) defs }
 {
     for n in names {
-        note(alloc, last, n.bytes(), place)?;
+        note(alloc, places, n.bytes(), place)?;
     }
     Ok(())
 }
@@ -109,7 +138,7 @@ impl Definitions {
     {
         Definitions {
             list: Vec::new(alloc),
-            last: IndexMap::new(alloc),
+            places: IndexMap::new(alloc),
         }
     }
 
@@ -124,20 +153,24 @@ impl Definitions {
         ensures ok { OnOk result (self.new ≡ self.old ++ a ∷ []) }
         ensures err { OnErr result (self.new ≡ self.old) }
     {
-        note_all(alloc, &mut self.last, a.targets.as_slice(), self.list.len())?;
+        note_all(
+            alloc,
+            &mut self.places,
+            a.targets.as_slice(),
+            self.list.len(),
+        )?;
         self.list.push(a)?;
         Ok(())
     }
 
-    /// The place of the last definition of a name before a place. Where that is the name's last definition, or the name
-    /// has none, it is found without a search.
+    /// The place of the last definition of a name before a place.
     pub fn last_before(&self, place: usize, name: &[u8]) -> Option<usize>
         ensures last { result ≡ last_named (map text_of self.now) place name.now }
         ensures below { IfSome result (λ i. i < length self.now) }
     {
-        match self.last.get(name) {
+        match self.places.get(name) {
             None => None,
-            Some(last) => last_named(&self.list, begin_of_search(place, *last), name),
+            Some(places) => last_named(&self.list, places, place, name),
         }
     }
 }

@@ -1,8 +1,7 @@
 ghost use Rattle.std.specs.Prelude.{◌≡◌, ◌<◌, length, OnOk, OnErr, option_map, IfSome};
 ghost use Rattle.dx_ast.specs.Lawful.{IsLawfulMacro, IsLawfulAssign};
 ghost use Rattle.dx_ast.specs.Plain.{plain_macro, plain_expr};
-ghost use Rattle.dx_macros.specs.Dictionary.{empty, defining, with_definition, definition};
-ghost use Rattle.dx_macros.specs.Machine.{last_named};
+ghost use Rattle.dx_macros.specs.Dictionary.{empty, defining, with_definition, definition, last_named};
 ghost use Rattle.dx_macros.specs.Shown.{text_of, AreLawfulMacros, AreLawfulDefinitions};
 
 use crate::definitions::Definitions;

@@ -8,7 +8,7 @@ use thiserror::Error;
 pub enum StaticFault {
     /// The name is neither that of a macro nor that of a function.
     UnknownFunction,
-    /// There are more arguments than parameters.
+    /// There are more arguments than named parameters and further arguments.
     TooManyArguments,
     /// A named argument names no parameter, or one that was given already.
     NoSuchParameter,

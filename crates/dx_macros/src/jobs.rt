@@ -9,6 +9,7 @@ ghost use Rattle.dx_macros.specs.CalleeView.{plain_callee};
 ghost use Rattle.dx_macros.specs.Steps.{plain_step, plain_steps};
 ghost use Rattle.dx_macros.specs.Machine.{frame_at_top, frame_in_macro, ExprJob, CallJob, ArgsJob, EnterJob, BodyJob, OwnJob, NamesJob};
 ghost use Rattle.dx_macros.specs.MachineView.{plain_frame, plain_job, means, Continues, job_first, name_first, definition_first, accepted, FaultIs};
+ghost use Rattle.dx_macros.specs.Places.{flags};
 ghost use Rattle.dx_macros.specs.Weight.{expr_weight, call_weight, args_weight, body_weight, macro_weight, callee_weight, job_weight, Falls, Pays};
 
 use crate::callee::{Callee, called};
@@ -60,11 +61,11 @@ fn do_body<'a>(
     }
 }
 
-fn put_names<'a>(alloc: Global, list: &mut Names<'a>, names: &'a [Bytes]) -> Result<(), AllocError>
+fn put_names<'a>(list: &mut Names<'a>, names: &'a [Bytes]) -> Result<(), AllocError>
     ensures { OnOk result (list.new ≡ list.old ++ names.now) }
 {
     for n in names {
-        list.push(alloc, n.bytes())?;
+        list.push(n.bytes())?;
     }
     Ok(())
 }
@@ -74,23 +75,21 @@ fn put_params<'a>(alloc: Global, params: &'a [Param]) -> Result<Names<'a>, Alloc
 {
     let mut names = Names::new(alloc);
     for p in params {
-        names.push(alloc, p.name.bytes())?;
+        names.push(p.name.bytes())?;
     }
     Ok(names)
 }
 
-fn do_own<'a>(
-    alloc: Global,
-    d: &'a Dictionary,
-    m: &mut Machine<'a>,
-    names: &'a [Bytes],
-) -> Result<(), Stop<'a>>
+fn do_own<'a>(d: &'a Dictionary, m: &mut Machine<'a>, names: &'a [Bytes]) -> Result<(), Stop<'a>>
     ensures continues { Continues (job_first (dictionary_of d.now) (OwnJob names.now) m.old) result (means (dictionary_of d.now) m.new) }
     ensures falls { Falls (dictionary_of d.now) (1) m.old result m.new }
 {
-    put_names(alloc, &mut m.frame.own, names)?;
+    put_names(&mut m.frame.own, names)?;
     Ok(())
 }
+
+/// The most macro steps of a site.
+pub const MAX_STEPS: u8 = 64;
 
 /// The frame of a text of the top level at a place.
 pub fn top_frame<'a>(
@@ -106,7 +105,7 @@ pub fn top_frame<'a>(
     }
     Ok(Frame {
         base,
-        left: 64,
+        left: MAX_STEPS,
         place,
         own: Names::new(alloc),
         before: Names::new(alloc),
@@ -144,11 +143,11 @@ fn define<'a>(
 ) -> Result<(), Stop<'a>>
     requires { i < length (dictionary_of d.now).definitions }
     ensures continues { Continues (definition_first (dictionary_of d.now) i m.old) result (means (dictionary_of d.now) m.new) }
-    ensures falls { slice_index_or m.old.read.items i false ≡ false → Falls (dictionary_of d.now) 1 m.old result m.new }
+    ensures falls { slice_index_or (flags m.old.read) i false ≡ false → Falls (dictionary_of d.now) 1 m.old result m.new }
 {
     let a = d.definition(i);
     let frame = top_frame(alloc, a.targets.as_slice(), i)?;
-    mark(&mut m.read, i);
+    mark(&mut m.read, i)?;
     enter(m, frame)?;
     push(m, Job::Expr(a.targets.len(), &a.value))
 }
@@ -168,7 +167,7 @@ fn read_name<'a>(
     match d.last_before(m.frame.place, name) {
         None => Ok(()),
         Some(i) => {
-            if is_read(m.read.as_slice(), i) {
+            if is_read(&m.read, i) {
                 Ok(())
             } else {
                 define(alloc, d, m, i)
@@ -215,7 +214,6 @@ fn do_enter<'a>(
 
 /// The call's arguments and its macro's body are to come.
 fn accept<'a>(
-    alloc: Global,
     d: &'a Dictionary,
     m: &mut Machine<'a>,
     callee: Callee<'a>,
@@ -226,7 +224,7 @@ fn accept<'a>(
     ensures continues { Continues (accepted (dictionary_of d.now) (plain_callee callee.entry) (plain_step step.entry) (out-Call c.now).name (plain_args (out-Call c.now).args) m.old) result (means (dictionary_of d.now) m.new) }
     ensures pays { Pays (dictionary_of d.now) (args_weight (plain_args (out-Call c.now).args) + callee_weight (plain_callee callee.entry)) m.old result m.new }
 {
-    counted(alloc, m, c.name.bytes())?;
+    counted(m, c.name.bytes())?;
     match callee {
         Callee::Macro(x) => {
             push(m, Job::Enter(x, step))?;
@@ -270,7 +268,7 @@ fn do_call<'a>(
     let step = Step::Nth(name, k);
     match fault_of_call(alloc, m.calls, callee, m.frame.left, args, targets)? {
         Some(fault) => Err(faulty(alloc, m.frame.base.as_slice(), step, fault)),
-        None => accept(alloc, d, m, callee, step, c),
+        None => accept(d, m, callee, step, c),
     }
 }
 
@@ -308,7 +306,7 @@ pub fn do_job<'a>(
         Job::Args(args) => do_args(d, m, args),
         Job::Enter(x, step) => do_enter(alloc, d, m, x, step),
         Job::Body(results, stmts) => do_body(d, m, results, stmts),
-        Job::Own(names) => do_own(alloc, d, m, names),
+        Job::Own(names) => do_own(d, m, names),
         Job::Names(names) => do_names(alloc, d, m, names),
         Job::Leave(frame) => {
             m.frame = frame;

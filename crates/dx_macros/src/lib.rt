@@ -12,10 +12,15 @@ mod machine;
 mod names;
 mod signature;
 mod site;
+mod sparse;
+#[cfg(test)]
+mod sparse_tests;
 
 pub use budget::no_budget_runs_out;
 pub use callee::{Callee, called};
 pub use dictionary::Dictionary;
 pub use fault::{CheckFail, StaticFault};
+pub use jobs::MAX_STEPS;
 pub use names::Names;
 pub use site::{Step, site_text};
+pub use sparse::Sparse;

@@ -1,12 +1,14 @@
 ghost use Rattle.std.specs.Prelude.{◌≡◌, ◌<◌, ◌∷◌, ◌++◌, [], OnOk, slice_set, slice_index_or, true, false};
 ghost use Rattle.dx_macros.specs.MachineView.{PushesJob, EntersFrame, CountsCall};
+ghost use Rattle.dx_macros.specs.Places.{flags};
 
 use crate::fault::StaticFault;
 use crate::names::Names;
 use crate::site::Step;
+use crate::sparse::Sparse;
 use dx_ast::{Arg, Call, Expr, MacroDef, Stmt};
 use dx_base::Bytes;
-use std::alloc::{AllocError, Global};
+use std::alloc::AllocError;
 use std::mem;
 
 /// The text that is walked: a macro's body, or a text of the top level.
@@ -52,7 +54,7 @@ pub struct Machine<'a> {
     /// How many calls were counted.
     pub calls: u32,
     /// Which definitions were read.
-    pub read: Vec<bool>,
+    pub read: Sparse<()>,
 }
 
 /// Why a walk stops.
@@ -102,31 +104,26 @@ pub fn enter<'a>(m: &mut Machine<'a>, frame: Frame<'a>) -> Result<(), Stop<'a>>
 }
 
 /// A call is counted, and its name stands before what follows.
-pub fn counted<'a>(alloc: Global, m: &mut Machine<'a>, name: &'a [u8]) -> Result<(), Stop<'a>>
+pub fn counted<'a>(m: &mut Machine<'a>, name: &'a [u8]) -> Result<(), Stop<'a>>
     requires { m.old.calls < 65536 }
     ensures { CountsCall m.old name.now result m.new }
 {
     m.calls += 1;
-    match m.frame.before.push(alloc, name) {
+    match m.frame.before.push(name) {
         Ok(()) => Ok(()),
         Err(_) => Err(Stop::Memory),
     }
 }
 
 /// A definition is read.
-pub fn mark(read: &mut Vec<bool>, i: usize)
-    ensures { read.new.items ≡ slice_set read.old.items i true }
+pub fn mark(read: &mut Sparse<()>, i: usize) -> Result<(), AllocError>
+    ensures { OnOk result (flags read.new ≡ slice_set (flags read.old) i true) }
 {
-    if i < read.len() {
-        read[i] = true;
-    }
+    read.set(i, ())
 }
 
-pub fn is_read(read: &[bool], i: usize) -> bool
-    ensures { result ≡ slice_index_or read.now i false }
+pub fn is_read(read: &Sparse<()>, i: usize) -> bool
+    ensures { result ≡ slice_index_or (flags read.now) i false }
 {
-    match read.get(i) {
-        Some(b) => *b,
-        None => false,
-    }
+    read.get(i).is_some()
 }

@@ -1,4 +1,4 @@
-ghost use Rattle.std.specs.Prelude.{◌≡◌, ◌≤◌, ◌<◌, ◌∷◌, ◌++◌, [], length, OnOk};
+ghost use Rattle.std.specs.Prelude.{◌≡◌, ◌≤◌, ◌<◌, ◌∷◌, ◌++◌, [], length, OnOk, OnErr};
 ghost use Rattle.dx_macros.specs.Names.{has, count};
 
 use indexmap::IndexMap;
@@ -9,6 +9,7 @@ use std::marker::Model;
 /// over the list.
 #[derive(Drop)]
 pub struct Names<'a> {
+    alloc: Global,
     all: Vec<&'a [u8]>,
     times: IndexMap<Vec<u8>, usize>,
 }
@@ -31,6 +32,7 @@ impl<'a> Names<'a> {
         ensures { result ≡ [] }
     {
         Names {
+            alloc,
             all: Vec::new(alloc),
             times: IndexMap::new(alloc),
         }
@@ -56,12 +58,13 @@ impl<'a> Names<'a> {
         self.count(name) > 0
     }
 
-    /// One more name at the end.
-    pub fn push(&mut self, alloc: Global, name: &'a [u8]) -> Result<(), AllocError>
-        ensures { OnOk result (self.new ≡ self.old ++ name.now ∷ []) }
+    /// One more name at the end. Where memory runs out the list stays as it was.
+    pub fn push(&mut self, name: &'a [u8]) -> Result<(), AllocError>
+        ensures ok { OnOk result (self.new ≡ self.old ++ name.now ∷ []) }
+        ensures err { OnErr result (self.new ≡ self.old) }
     {
         let times = self.count(name);
-        let key = Vec::from_slice(alloc, name)?;
+        let key = Vec::from_slice(self.alloc, name)?;
         self.all.push(name)?;
         match self.times.insert(key, times + 1) {
             Ok(_) => Ok(()),

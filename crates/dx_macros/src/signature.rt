@@ -117,6 +117,9 @@ fn fault_of_macro<'a>(
     }
 }
 
+/// The most calls of a walk.
+const MAX_CALLS: u32 = 65_536;
+
 /// The first fault of a call behind so many calls, where this many macro steps are left.
 pub fn fault_of_call<'a>(
     alloc: Global,
@@ -129,7 +132,7 @@ pub fn fault_of_call<'a>(
     ensures counted { IfOk result (λ f. f ≡ None → calls < 65536) }
     ensures fault { IfOk result (λ f. f ≡ fault_of_call calls (plain_callee callee.entry) left (arg_names (plain_args args.now)) targets) }
 {
-    if calls >= 65536 {
+    if calls >= MAX_CALLS {
         return Ok(Some(StaticFault::Calls));
     }
     match callee {

@@ -6,8 +6,8 @@ use dx_base::Bytes;
 use itoa::Buffer;
 use std::alloc::{AllocError, Global};
 
-/// A step that leads to a call: the k-th call of a name in its text, or the first target of an assignment at the top
-/// level.
+/// A step that leads to a call: the k-th call of a name in its text, counted from 1, or the first target of an assignment
+/// at the top level.
 #[derive(Clone, Copy)]
 pub enum Step<'a> {
     Nth(&'a [u8], usize),

@@ -1,11 +1,10 @@
-use Rattle.std.proofs.Common.{◌≡◌, ◌≤◌, List, length, drop}
-use Rattle.dx_base.specs.NameTable.{under_name}
+use Rattle.std.proofs.Common.{◌≡◌, List, length, drop}
 use Rattle.dx_macros.specs.Dictionary.{TopText}
-use Rattle.dx_macros.specs.Shown.{noted, IsLast}
+use Rattle.dx_macros.specs.Shown.{index_of, noted, Indexes}
 use Rattle.dx_macros.proofs.definitions.note_all.Given as goal
 
 abbrev pub invariant-loop-n : goal.invariant-loop-n
 invariant-loop-n l = record {
-  ok : noted (under_name l.last) (drop l.n-index l.names) l.place ≡ noted (under_name l.initial.last) l.names l.place;
-  keeps : (defs : List TopText) → length defs ≤ l.place → IsLast l.initial.last defs → IsLast l.last defs;
+  ok : noted (index_of l.places) (drop l.n-index l.names) l.place ≡ noted (index_of l.initial.places) l.names l.place;
+  keeps : (defs : List TopText) → length defs ≡ l.place → Indexes (index_of l.initial.places) defs → Indexes (index_of l.places) defs;
 }

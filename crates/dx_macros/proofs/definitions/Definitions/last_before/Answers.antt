@@ -1,21 +1,20 @@
-use Rattle.std.proofs.Common.{◌∙◌, ℕ, List, map, ap, ap₂}
-use Rattle.dx_base.specs.NameTable.{under_name}
+use Rattle.std.proofs.Common.{◌∙◌, ℕ, List, map, ap, sym, subst}
 use Rattle.dx_ast.specs.declared.statements.Assign.{Assign}
-use Rattle.dx_macros.specs.Machine.{last_named}
-use Rattle.dx_macros.specs.Shown.{text_of}
-use Rattle.dx_macros.proofs.Noting.{none_before, last_before}
+use Rattle.dx_macros.specs.Dictionary.{last_named}
+use Rattle.dx_macros.specs.Shown.{text_of, listed, ArePlaces}
+use Rattle.dx_macros.proofs.Looking.{none_before}
 use Rattle.dx_macros.proofs.definitions.Definitions.last_before.Goals as goal
+
+pub last_named-requires : goal.last_named-requires
+last_named-requires c =
+    let name = c.args.name.now in
+    let defs = c.self.inside.list.items in
+    let same = c.deref-in-Some.ensures.value ∙ ap listed c.in-Some.ensures.value in
+    subst (λ (xs : List Assign). ArePlaces c.deref-in-Some.result.now (map text_of xs) name) (sym c.deref.ensures.value)
+    (subst (λ (ps : List ℕ). ArePlaces ps (map text_of defs) name) (sym same) (c.self.invariant name))
 
 pub returns-in-None-clause-last : goal.returns-in-None-clause-last
 returns-in-None-clause-last c =
     let name = c.args.name.now in
-    none_before (map text_of c.self.inside.list.items) name c.args.place (under_name c.self.inside.last name) (c.self.invariant name) c.in-None.ensures.value
-    ∙ ap (λ (xs : List Assign). last_named (map text_of xs) c.args.place name) c.self.view_is
-
-pub returns-in-Some-clause-last : goal.returns-in-Some-clause-last
-returns-in-Some-clause-last c =
-    let name = c.args.name.now in
-    c.last_named.ensures.last
-    ∙ ap₂ (λ (xs : List Assign) (p : ℕ). last_named (map text_of xs) p name) c.deref.ensures.value c.begin_of_search.ensures
-    ∙ last_before (map text_of c.self.inside.list.items) name c.args.place (under_name c.self.inside.last name) c.in-Some.last.now (c.self.invariant name) c.in-Some.ensures.value
+    none_before (map text_of c.self.inside.list.items) c.args.place name (subst (λ (ps : List ℕ). ArePlaces ps (map text_of c.self.inside.list.items) name) (sym (ap listed c.in-None.ensures.value)) (c.self.invariant name))
     ∙ ap (λ (xs : List Assign). last_named (map text_of xs) c.args.place name) c.self.view_is
