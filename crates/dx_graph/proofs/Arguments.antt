@@ -1,13 +1,10 @@
 -- Arguments that are given, one at a time.
-use Rattle.std.proofs.Common.{◌≡◌, ℕ, zero, suc, ◌<◌, ◌≤◌, List, [], ◌∷◌, map, length, get_or, Option, Some, None, option_map, true, false, refl, sym, ap, subst, ◌∙◌, arith, All}
+use Rattle.std.proofs.Common.{◌≡◌, ℕ, zero, suc, ◌<◌, ◌≤◌, List, [], ◌∷◌, map, length, get_or, None, refl, sym, ap, subst, arith, All}
 use Rattle.dx_ast.specs.declared.expressions.Arg.{out-Arg}
-use Rattle.dx_ast.specs.Classes.{Text}
 use Rattle.dx_macros.specs.Expansion as plain
-use Rattle.dx_macros.specs.Tree.{Tree}
 use Rattle.dx_graph.specs.Graph.{Node}
 use Rattle.dx_graph.specs.Operands.{operand_tree, given_of}
 use Rattle.dx_graph.specs.declared.given.Given.{Given}
-use Rattle.dx_graph.specs.declared.operand.Operand.{Operand}
 
 pub by_place_some : (nodes : List Node) (gs : List Given) (i : ℕ) (g : Given) → i < length gs → g ≡ get_or gs i g →
     plain.given_by_place (map (given_of nodes) gs) i ≡ plain.unnamed (out-Arg g.arg.now).name (operand_tree nodes g.operand)
@@ -22,17 +19,3 @@ by_place_none nodes (x ∷ gs) (suc i) h = by_place_none nodes gs i (omega arith
 
 pub all_at : {X : Type 0} (P : X → Type 0) (xs : List X) (i : ℕ) (x : X) → i < length xs → x ≡ get_or xs i x → All P xs → P x
 all_at P xs i x h e all = subst P (sym e) (all i x h)
-
--- the tree of an option, where both are known
-pub some_tree : (nodes : List Node) (o : Operand) (r : Option Operand) (t : Option Tree) → r ≡ Some o → option_map (operand_tree nodes) r ≡ t → t ≡ Some (operand_tree nodes o)
-some_tree nodes o r t e h = sym h ∙ ap (option_map (operand_tree nodes)) e
-
-pub none_tree : (nodes : List Node) (r : Option Operand) (t : Option Tree) → r ≡ None → option_map (operand_tree nodes) r ≡ t → t ≡ None
-none_tree nodes r t e h = sym h ∙ ap (option_map (operand_tree nodes)) e
-
--- what names a parameter, step by step
-pub named_here : (gs : List plain.Given) (g : plain.Given) (n : Text) → plain.is_named g.name n ≡ true → plain.given_by_name (g ∷ gs) n ≡ Some g.tree
-named_here gs g n e = rw e refl
-
-pub not_named_here : (gs : List plain.Given) (g : plain.Given) (n : Text) → plain.is_named g.name n ≡ false → plain.given_by_name (g ∷ gs) n ≡ plain.given_by_name gs n
-not_named_here gs g n e = rw e refl

@@ -94,24 +94,32 @@ found_by memo i j r x h e (inr other) = inr (sym (get_or-set_other memo i j (Som
 found : (memo : Memo) (i j : ℕ) (r x : Results) → i < length memo → slice_index_or (slice_set memo i (Some r)) j None ≡ Some x → ((j ≡ i) × (x ≡ r)) ⊎ (slice_index_or memo j None ≡ Some x)
 found memo i j r x h e = found_by memo i j r x h e (cases_eq j i)
 
-remembered_by : (w : World) (nodes : List Node) (i j : ℕ) (r x : Results) → Remembers nodes w → Gives nodes r (top_results w i) → ((j ≡ i) × (x ≡ r)) ⊎ (slice_index_or w.memo.items j None ≡ Some x) →
+remembered_by : (w : World) (nodes : List Node) (i j : ℕ) (r x : Results) → Remembers nodes w → Gives nodes r (top_results w i) → ((j ≡ i) × (x ≡ r)) ⊎ (slice_index_or w.memo j None ≡ Some x) →
     Gives nodes x (top_results w j)
 remembered_by w nodes i j r x all h (inl same) = subst (λ (y : Results). Gives nodes y (top_results w j)) (sym same.1) (subst (λ (k : ℕ). Gives nodes r (top_results w k)) (sym same.0) h)
 remembered_by w nodes i j r x all h (inr e) = all j x e
 
-pub remembers_set : (w v : World) (nodes : List Node) (i : ℕ) (r : Results) → SameWorld w v → i < length w.memo.items → v.memo.items ≡ slice_set w.memo.items i (Some r) →
+pub remembers_set : (w v : World) (nodes : List Node) (i : ℕ) (r : Results) → SameWorld w v → i < length w.memo → v.memo ≡ slice_set w.memo i (Some r) →
     Remembers nodes w → Gives nodes r (top_results w i) → Remembers nodes v
 remembers_set w v nodes i r same below set all h j x e =
     subst (λ (f : ℕ → Tree). Gives nodes x f) (sym (results_same w v same j))
-    (remembered_by w nodes i j r x all h (found w.memo.items i j r x below (ap (λ (memo : Memo). slice_index_or memo j None) (sym set) ∙ e)))
+    (remembered_by w nodes i j r x all h (found w.memo i j r x below (ap (λ (memo : Memo). slice_index_or memo j None) (sym set) ∙ e)))
 
 -- after a definition got its results
-pub rests_learned : (w v : World) (old mid new : Graph) (i : ℕ) (r : Results) → SameWorld w v → i < length w.memo.items → v.memo.items ≡ slice_set w.memo.items i (Some r) → Rests w old →
+pub rests_learned : (w v : World) (old mid new : Graph) (i : ℕ) (r : Results) → SameWorld w v → i < length w.memo → v.memo ≡ slice_set w.memo i (Some r) → Rests w old →
     Starts (graph_of old).nodes (graph_of mid).nodes → Gives (graph_of mid).nodes r (top_results w i) → graph_of new ≡ plain.with_effects (take 0 (graph_of mid).effects) (graph_of mid) → Rests v new
 rests_learned w v old mid new i r same below set rests grows gives cleared = record {
   memo = subst (λ (ns : List Node). Remembers ns v) (sym (ap (λ (g : plain.Graph). g.nodes) cleared))
       (remembers_set w v (graph_of mid).nodes i r same below set (remembers_later w (graph_of old).nodes (graph_of mid).nodes grows rests.memo) gives);
   places = same.places ∙ rests.places ∙ sym (ap (λ (d : Dictionary). length (dictionary_of d).definitions) same.dictionary);
+  effects = ap (λ (g : plain.Graph). g.effects) cleared;
+}
+
+-- after a definition whose results couldn't be kept: its nodes stay
+pub rests_grown : (w : World) (old mid new : Graph) → Rests w old → Starts (graph_of old).nodes (graph_of mid).nodes → graph_of new ≡ plain.with_effects (take 0 (graph_of mid).effects) (graph_of mid) → Rests w new
+rests_grown w old mid new rests grows cleared = record {
+  memo = subst (λ (ns : List Node). Remembers ns w) (sym (ap (λ (g : plain.Graph). g.nodes) cleared)) (remembers_later w (graph_of old).nodes (graph_of mid).nodes grows rests.memo);
+  places = rests.places;
   effects = ap (λ (g : plain.Graph). g.effects) cleared;
 }
 
@@ -204,12 +212,6 @@ less_left old new places other place next e same h =
     let before : old * (places + 1) ≡ new * (places + 1) + (places + 1) = ap (λ (k : ℕ). k * (places + 1)) (sym e) ∙ more_by new (places + 1) in
     let after : new * (other + 1) ≡ new * (places + 1) = ap (λ (k : ℕ). new * (k + 1)) same in
     omega (arith, before, after, h)
-
--- the same places, and an earlier one
-pub less_same : (old new places other place next : ℕ) → new ≡ old → other ≡ places → place < next → new * (other + 1) + place < old * (places + 1) + next
-less_same old new places other place next e same h =
-    let after : new * (other + 1) ≡ old * (places + 1) = ap₂ (λ (m k : ℕ). m * (k + 1)) e same in
-    omega (arith, after, h)
 
 pub same_on : (u v w : World) → SameWorld u v → SameWorld v w → SameWorld u w
 same_on u v w a b = record {

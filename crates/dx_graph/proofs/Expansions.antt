@@ -49,14 +49,6 @@ pub record ArgsSoFar (s : Setting) (before : List Name) (args : List Arg) (old n
   pub effects : unfolded (graph_of now) ++ (args_in s before_now (plain_args rest)).effects ≡ unfolded (graph_of old) ++ (args_in s before (plain_args args)).effects
   pub calls : before_now ++ calls_in_args (plain_args rest) ≡ before ++ calls_in_args (plain_args args)
 
-pub args_begin : (s : Setting) (before : List Name) (args : List Arg) (old : Graph) (gs : List Given) → gs ≡ [] → ArgsSoFar s before args old old before gs (drop 0 args)
-args_begin s before args old gs e = record {
-  fits = subst (λ (xs : List Given). All (GivenFits (graph_of old).nodes) xs) (sym e) (λ k d lt. absurd (omega arith));
-  given = ap (λ (xs : List Given). map (given_of (graph_of old).nodes) xs ++ (args_in s before (plain_args args)).given) e;
-  effects = refl;
-  calls = refl;
-}
-
 append_three : {A : Type 0} (xs ys : List A) (x : A) → (xs ++ x ∷ []) ++ ys ≡ xs ++ x ∷ ys
 append_three xs ys x = append_assoc xs (x ∷ []) ys
 
@@ -110,10 +102,6 @@ args_all s before args old now before_now gs rest e so_far =
       sym (append-nil before_now) ∙ ended.calls,
     )
 
-pub args_end : (s : Setting) (before : List Name) (args : List Arg) (i : ℕ) (old now : Graph) (before_now : List Name) (gs : List Given) → length args ≤ i → ArgsSoFar s before args old now before_now gs (drop i args) →
-    ExpandsArgs (args_in s before (plain_args args)) old now gs × (before_now ≡ before ++ calls_in_args (plain_args args))
-args_end s before args i old now before_now gs h so_far = args_all s before args old now before_now gs (drop i args) (drop_all i args h) so_far
-
 -- ---- calls
 
 call_effects : (u : plain.Under) (spot : Spot) (step : Step) (cache : ℕ) (c : Callee) (args : ArgsExpanded) → (plain.call_expanded u spot step cache c args).effects ≡ args.effects ++ (plain.call_expanded u spot step cache c (record { given = args.given; effects = [] })).effects
@@ -159,12 +147,6 @@ call_made s now_s before before_mid c name args k old mid now gs r n a l b same 
 pub record BodySoFar (w : World) (s : Setting) (body : List Stmt) (old now : Graph) (t : Text) (before_now : List Name) (rest : List Stmt) : Type 0 where
   pub result : (results : List Name) → (body_in (setting w t now) results before_now (plain_stmts rest)).result ≡ (body_in s results [] (plain_stmts body)).result
   pub effects : (results : List Name) → unfolded (graph_of now) ++ (body_in (setting w t now) results before_now (plain_stmts rest)).effects ≡ unfolded (graph_of old) ++ (body_in s results [] (plain_stmts body)).effects
-
-pub body_begin : (w : World) (body : List Stmt) (old : Graph) (t : Text) (before : List Name) → before ≡ [] → BodySoFar w (setting w t old) body old old t before (drop 0 body)
-body_begin w body old t before e = record {
-  result = λ results. ap (λ (xs : List Name). (body_in (setting w t old) results xs (plain_stmts body)).result) e;
-  effects = λ results. ap (λ (xs : List Name). unfolded (graph_of old) ++ (body_in (setting w t old) results xs (plain_stmts body)).effects) e;
-}
 
 body_one : (w : World) (s after : Setting) (body : List Stmt) (old mid now : Graph) (t u : Text) (before_mid before_now : List Name) (x : Stmt) (rest : List Stmt) →
     ExpandsStatement (setting w t mid) before_mid (plain_stmt x) mid now (scope_of w u (graph_of now).nodes) → before_now ≡ calls_after before_mid (plain_stmt x) →
@@ -222,14 +204,6 @@ pub applied_function : (s : Setting) (name : Name) (cache k : ℕ) (gs : List pl
 applied_function s name cache k gs f e =
     ap (λ (n : Name). called_function s n cache k gs f) (name_called s.under.macros f name e)
     ∙ sym (ap (λ (c : Callee). plain.call_expanded s.under s.spot (Nth name k) cache c (record { given = gs; effects = [] })) e)
-
-pub applied_macro : (s : Setting) (name : Name) (cache k : ℕ) (gs : List plain.Given) (m : syntax.Macro) → callee s.under.macros name ≡ CallsMacro m →
-    s.under.enter m gs (plain.spot_of_call s.spot (Nth name k)) ≡ applied s name cache k gs
-applied_macro s name cache k gs m e = sym (ap (λ (c : Callee). plain.call_expanded s.under s.spot (Nth name k) cache c (record { given = gs; effects = [] })) e)
-
-pub expands_as : {E : Type 0} (old new : Graph) (a b : Expanded) (r : Result Results E) → a ≡ b → IfOk r (λ x. Expands a old new x) → IfOk r (λ x. Expands b old new x)
-expands_as old new a b (Ok x) e h = subst (λ (y : Expanded). Expands y old new x) e h
-expands_as old new a b (Err x) e h = h
 
 pub call_is_made : {E : Type 0} (s now_s : Setting) (before before_mid : List Name) (c : Call) (name : Name) (args : List Arg) (k : ℕ) (old mid now : Graph) (gs : List Given) (r : Result Results E) →
     name ≡ (out-Call c).name → args ≡ (out-Call c).args → k ≡ suc (count name before) → before_mid ≡ before ++ name ∷ [] → now_s ≡ s →

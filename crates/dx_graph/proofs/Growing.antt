@@ -1,7 +1,7 @@
 -- A graph stays lawful while it grows.
 use Rattle.std.proofs.Common.{◌≡◌, ◌⊎◌, inl, inr, ℕ, suc, ◌+◌, ◌<◌, ◌≤◌, List, [], ◌∷◌, ◌++◌, length, get_or, take, map, min, Bool, true, false, refl, sym, ap, subst, ◌∙◌, arith, length-append}
 use Rattle.std.specs.Prelude.{Result, Ok, Err, IfOk, OnOk, OnErr, if◌then◌else◌}
-use Rattle.std.proofs.lemmas.List.{get_or_push, get_or-map, get_or-take, length-map, length-take, take-map}
+use Rattle.std.proofs.lemmas.List.{get_or_push, get_or-take, length-take, take-map}
 use Rattle.std.proofs.lemmas.List.Elements.{All-push, All-take}
 use Rattle.std.proofs.Math.Logic.{∥∥₁_map}
 use Rattle.std.proofs.Math.Nat.{eq-or-lt_of_le}
@@ -145,8 +145,3 @@ pub count_spots : (ts : List Trail) → length (spots_of ts) ≡ length ts
 count_spots ts = same_length spot_of ts
 
 -- ---- a node that is read
-
-pub node_read : (ts : List Trail) (ps : List Placed) (es : List ℕ) (n : ℕ) (p : Placed) → n < length (graph_with ts ps es).nodes → p ≡ get_or ps n p → node_at (graph_with ts ps es).nodes n ≡ plain_node (spots_of ts) p
-node_read ts ps es n p h read =
-    get_or-map (plain_node (spots_of ts)) ps n p no_node (omega (arith, h, length-map ps (plain_node (spots_of ts))))
-    ∙ ap (plain_node (spots_of ts)) (sym read)

@@ -17,7 +17,6 @@ use Rattle.dx_ast.specs.Plain.{plain_expr, plain_call, plain_args, plain_macro, 
 use Rattle.dx_ast.specs.Lawful.{IsLawfulExpr, IsLawfulCall, AreLawfulArgs, IsLawfulParam, IsLawfulInBody, IsLawfulBody, IsLawfulMacro}
 use Rattle.dx_ast.proofs.PlainLaws.{plain_call_out, plain_macro_out}
 use Rattle.dx_macros.specs.Dictionary.{CallsMacro, callee, callee_by}
-use Rattle.dx_macros.specs.Shown.{IsLawfulDefinition}
 use Rattle.dx_macros.specs.declared.dictionary.Dictionary.{Dictionary}
 use Rattle.dx_macros.specs.DictionaryView.{dictionary_of}
 use Rattle.dx_macros.proofs.Doing.{stmt_assign}
@@ -82,6 +81,3 @@ pub known_lawful : (d : Dictionary) (name : Text) (m : plain.Macro) → (diction
 known_lawful d name m e = ∥∥₁_map d.lawful_macros (λ all. lawful_by (under_name d.macros name) m e (λ x h. all name x h))
 
 -- ---- definitions
-
-pub definition_lawful : (d : Dictionary) (i : ℕ) (a : Assign) → i < length d.definitions → a ≡ get_or d.definitions i a → ∥ IsLawfulExpr (plain_expr a.value) ∥₁
-definition_lawful d i a h e = ∥∥₁_map d.lawful_definitions (λ all. (subst IsLawfulDefinition (sym e) (all i a h)).value)

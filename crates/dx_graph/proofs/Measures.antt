@@ -15,7 +15,7 @@ use Rattle.dx_ast.specs.Syntax as plain
 use Rattle.dx_ast.proofs.PlainLaws.{plain_expr_out, plain_call_out, plain_macro_out}
 use Rattle.dx_macros.specs.Bound.{bound_of}
 use Rattle.dx_macros.specs.Weight.{expr_weight, call_weight, args_weight, statement_weight, body_weight, macro_weight}
-use Rattle.dx_macros.proofs.Doing.{stmt_call, stmt_assign}
+use Rattle.dx_macros.proofs.Doing.{stmt_assign}
 use Rattle.dx_macros.proofs.Weights.{bounded}
 use Rattle.dx_graph.specs.Expanding.{dictionary_in}
 use Rattle.dx_graph.specs.declared.text.World.{World}
@@ -35,9 +35,6 @@ pub expr_name : (n : Name) → plain_expr (expr.Name n) ≡ plain.Name n
 unfolding views.out-Expr denote.Hole.Carrier.out
 expr_name n = plain_expr_out (expr.Name n)
 
-pub in_expr : (e : Expr) (c : Call) → e ≡ expr.Call c → call_weight (plain_call c) ≡ expr_weight (plain_expr e)
-in_expr e c is = sym (ap (λ (x : Expr). expr_weight (plain_expr x)) is ∙ ap expr_weight (expr_call c))
-
 pub in_call : (c : Call) (args : List Arg) → args ≡ (out-Call c).args → args_weight (plain_args args) < call_weight (plain_call c)
 in_call c args e =
     let same = ap call_weight (plain_call_out c) in
@@ -56,9 +53,6 @@ pub in_body : (body : List Stmt) (i : ℕ) (s : Stmt) → i < length body → s 
 in_body [] i s h e = absurd (omega arith)
 in_body (x ∷ body) zero s h e = let same = ap (λ (y : Stmt). statement_weight (plain_stmt y)) e in omega (arith, same)
 in_body (x ∷ body) (suc i) s h e = let less = in_body body i s (omega (arith, h)) e in omega (arith, less)
-
-pub in_call_statement : (s : Stmt) (c : Call) → s ≡ stmt.Call c → call_weight (plain_call c) ≡ statement_weight (plain_stmt s)
-in_call_statement s c is = sym (ap (λ (x : Stmt). statement_weight (plain_stmt x)) is ∙ ap statement_weight (stmt_call c))
 
 pub in_assignment : (s : Stmt) (a : Assign) → s ≡ stmt.Assign a → suc (expr_weight (plain_expr a.value)) ≡ statement_weight (plain_stmt s)
 in_assignment s a is = sym (ap (λ (x : Stmt). statement_weight (plain_stmt x)) is ∙ ap statement_weight (stmt_assign a))

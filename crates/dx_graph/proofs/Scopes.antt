@@ -1,6 +1,6 @@
 -- Names that get a meaning.
 use Rattle.std.proofs.Common.{◌≡◌, ℕ, suc, ◌+◌, ◌<◌, List, [], ◌∷◌, length, drop, get_or, Option, Some, None, Bool, true, false, refl, sym, ap, subst, ◌∙◌, arith}
-use Rattle.std.specs.Prelude.{if◌then◌else◌, ◌||◌, Result, Ok, Err, IfOk}
+use Rattle.std.specs.Prelude.{if◌then◌else◌, ◌||◌}
 use Rattle.std.specs.Str.{bytes_eq}
 use Rattle.dx_base.specs.NameTable.{changed_at}
 use Rattle.std.proofs.lemmas.List.{drop_more}
@@ -98,7 +98,3 @@ own_means nodes own top n o e all = record {
 
 pub top_means : (nodes : List Node) (own : Own) (top : plain.Scope) (n : Text) (o : Operand) → own n ≡ None → Means nodes o (top n) → Means nodes o (scope_with nodes own top n)
 top_means nodes own top n o e h = record { fits = h.fits; tree = h.tree ∙ sym (ap (λ (r : Option Operand). meaning nodes r (top n)) e) }
-
-pub if_means : (nodes : List Node) (own : Own) (top : plain.Scope) (n : Text) {E : Type 0} (r : Result Operand E) → own n ≡ None → IfOk r (λ o. Means nodes o (top n)) → IfOk r (λ o. Means nodes o (scope_with nodes own top n))
-if_means nodes own top n (Ok o) e h = top_means nodes own top n o e h
-if_means nodes own top n (Err x) e h = h

@@ -131,6 +131,3 @@ grows_on a b c g h = record {
   nodes = starts_on (graph_of a).nodes (graph_of b).nodes (graph_of c).nodes g.nodes h.nodes;
   spots = starts_on (spots_in a) (spots_in b) (spots_in c) g.spots h.spots;
 }
-
-pub grows_self : (g : Graph) → Grows g g
-grows_self g = record { nodes = starts_self (graph_of g).nodes; spots = starts_self (spots_in g) }

@@ -49,9 +49,6 @@ no_further : (gs : List plain.Given) → plain.further 0 gs ≡ NoTree
 no_further [] = refl
 no_further (g ∷ gs) = refl
 
-pub further_full : (nodes : List Node) (is : List Input) (left : ℕ) (gs : List plain.Given) → left ≡ 0 → before_trees nodes is (plain.further left gs) ≡ before_trees nodes is NoTree
-further_full nodes is left gs e = ap (before_trees nodes is) (ap (λ (k : ℕ). plain.further k gs) e ∙ no_further gs)
-
 map_dropped : (nodes : List Node) (n : ℕ) (gs : List Given) → map (given_of nodes) (drop n gs) ≡ drop n (map (given_of nodes) gs)
 map_dropped nodes zero gs = refl
 map_dropped nodes (suc n) [] = refl

@@ -5,7 +5,7 @@ use Rattle.dx_ast.specs.declared.sequencing.Frames.{Frames}
 use Rattle.dx_ast.specs.Classes.{Text}
 use Rattle.dx_macros.specs.Names.{has}
 use Rattle.dx_macros.specs.Dictionary.{TopText, Macros, definition}
-use Rattle.dx_macros.specs.Machine.{last_named}
+use Rattle.dx_macros.specs.Dictionary.{last_named}
 use Rattle.dx_macros.specs.Expansion.{Scope, null_tree, scope_within, expand_within}
 use Rattle.dx_graph.specs.Expanding.{dictionary_in, top_scope, top_results, last_target}
 use Rattle.dx_graph.specs.declared.text.World.{World}

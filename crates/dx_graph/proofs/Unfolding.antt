@@ -1,16 +1,16 @@
 -- Graphs that grow: what a node or an input stands for stays.
-use Rattle.std.proofs.Common.{◌≡◌, ℕ, suc, ◌<◌, ◌≤◌, List, [], ◌∷◌, ◌++◌, length, get_or, take, drop, map, subst, Option, Some, None, refl, sym, ap, ap₂, ◌∙◌, arith}
+use Rattle.std.proofs.Common.{◌≡◌, ℕ, suc, ◌<◌, ◌≤◌, List, [], ◌∷◌, ◌++◌, length, map, subst, Option, Some, None, refl, sym, ap, ap₂, arith}
 use Rattle.std.specs.Prelude.{All}
-use Rattle.std.proofs.lemmas.List.{get_or_append_left, take-append-drop, length-take-le}
+use Rattle.std.proofs.lemmas.List.{get_or_append_left}
 use Rattle.dx_macros.specs.Site.{Spot}
-use Rattle.dx_macros.specs.Tree.{ResultTree, TreeCall, AndTree}
+use Rattle.dx_macros.specs.Tree.{ResultTree, AndTree}
 use Rattle.dx_ast.specs.Table.{row_of}
 use Rattle.dx_graph.specs.Trails.{spot_under, no_steps, IsTrail}
-use Rattle.dx_graph.specs.Graph.{Node, no_node, node_at, MayTake, AreNodes}
+use Rattle.dx_graph.specs.Graph.{Node, no_node, node_at, MayTake}
 use Rattle.dx_graph.specs.Unfolding.{no_call, call_at, tree_of, trees_of, call_of, calls_of, IsBelow}
 use Rattle.dx_graph.specs.declared.node.Input.{Input}
 use Rattle.dx_graph.specs.declared.node.Input.TheVariants as input
-use Rattle.dx_graph.proofs.Earlier.{kept_at, added_at, at}
+use Rattle.dx_graph.proofs.Earlier.{kept_at, added_at}
 
 -- ---- trails
 
@@ -40,9 +40,6 @@ pub trees_stay : (ns more : List Node) (is : List Input) → All (IsBelow (lengt
 trees_stay ns more [] h = refl
 trees_stay ns more (i ∷ rest) h = ap₂ AndTree (tree_stays ns more i (h 0 i (omega arith))) (trees_stay ns more rest (λ k d lt. h (suc k) d (omega (arith, lt))))
 
-pub tree_added : (ns : List Node) (n : Node) (result : ℕ) → tree_of (calls_of (ns ++ n ∷ [])) (input.Result (length ns) result) ≡ ResultTree result (call_of (calls_of ns) n)
-tree_added ns n result = ap (ResultTree result) (call_added ns n)
-
 pub node_stays : (ns more : List Node) (n : ℕ) → n < length ns → node_at (ns ++ more) n ≡ node_at ns n
 node_stays ns more n h = get_or_append_left ns more no_node n h
 
@@ -56,16 +53,6 @@ may_take_later ns more m n (input.Constant c) le lt h = h
 may_take_later ns more m n (input.Result k result) le lt h =
     let before : k < length ns = omega (arith, le, h.0) in
     (omega (arith, lt, h.0), subst (λ (node : Node). result < (row_of node.what).results) (sym (node_stays ns more k before)) h.1)
-
--- the call of a node, by those of its inputs
-pub call_is : (ns : List Node) (n : ℕ) → AreNodes ns → n < length ns → call_at (calls_of ns) n ≡ call_of (calls_of ns) (node_at ns n)
-call_is ns n all h =
-    let node = node_at ns n in
-    let before = take n ns in
-    let here : length before ≡ n = length-take-le n ns (omega (arith, h)) in
-    let inputs : All (IsBelow (length before)) node.inputs = λ k d lt. subst (λ m. IsBelow m (get_or node.inputs k d)) (sym here) (below ns n (get_or node.inputs k d) ((all n h).inputs k d lt)) in
-    at call_of ns n no_node no_call h
-    ∙ ap (TreeCall node.what node.place) (sym (trees_stay before (drop n ns) node.inputs inputs) ∙ ap (λ ms. trees_of (calls_of ms) node.inputs) (take-append-drop n ns))
 
 -- ---- effects
 

@@ -43,12 +43,12 @@ pub record IsMissing (memo : Memo) (i : ℕ) : Type 0 where
 pub record SameWorld (old new : World) : Type 0 where
   pub dictionary : new.dictionary.now ≡ old.dictionary.now
   pub frames : new.frames ≡ old.frames
-  pub places : length new.memo.items ≡ length old.memo.items
+  pub places : length new.memo ≡ length old.memo
 
 -- between two texts: the results that are remembered are those of the graph, which has no effects
 pub record Rests (w : World) (g : Graph) : Type 0 where
   pub memo : Remembers (graph_of g).nodes w
-  pub places : length w.memo.items ≡ length (dictionary_in w).definitions
+  pub places : length w.memo ≡ length (dictionary_in w).definitions
   pub effects : (graph_of g).effects ≡ []
 
 -- the definition at a place got its results

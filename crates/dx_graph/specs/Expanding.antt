@@ -41,7 +41,7 @@ top_results w i = (expand_within 64 (dictionary_in w).macros w.frames (top_scope
 
 -- each definition that was expanded has its results
 abbrev pub Remembers : List Node → World → Type 0
-Remembers nodes w = (i : ℕ) (r : Results) → slice_index_or w.memo.items i None ≡ Some r → Gives nodes r (top_results w i)
+Remembers nodes w = (i : ℕ) (r : Results) → slice_index_or w.memo i None ≡ Some r → Gives nodes r (top_results w i)
 
 -- the place of the last target with a name, counted from i; else the one that was found
 abbrev pub last_target : List Name → ℕ → ℕ → Name → ℕ
@@ -127,7 +127,7 @@ pub record SameText (old new : Text) : Type 0 where
 -- where it stops at a definition that wasn't expanded, that stands before the text's place
 abbrev pub Needs : {A : Type 0} → World → ℕ → Result A Stop → Type 0
 Needs w place (Ok a) = Unit {0}
-Needs w place (Err (stop.Need i)) = (i < place) × (slice_index_or w.memo.items i None ≡ None)
+Needs w place (Err (stop.Need i)) = (i < place) × (slice_index_or w.memo i None ≡ None)
 Needs w place (Err stop.Memory) = Unit {0}
 
 -- ---- what an expansion adds

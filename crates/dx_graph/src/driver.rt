@@ -1,7 +1,7 @@
-ghost use Rattle.std.specs.Prelude.{◌≡◌, ◌<◌, ◌++◌, ℕ, length, None, IfOk, OnOk, OnErr, slice_index_or};
+ghost use Rattle.std.specs.Prelude.{◌≡◌, ◌<◌, ◌++◌, length, None, IfOk, OnOk, OnErr, replicate};
 ghost use Rattle.dx_ast.specs.Lawful.{IsLawful, IsLawfulExpr, IsLawfulCall};
 ghost use Rattle.dx_ast.specs.Plain.{plain_expr, plain_call, plain_stmt};
-ghost use Rattle.dx_macros.specs.Dictionary.{IsExecuted, top_text, of_call};
+ghost use Rattle.dx_macros.specs.Dictionary.{top_text, of_call};
 ghost use Rattle.dx_macros.specs.DictionaryView.{dictionary_of};
 ghost use Rattle.dx_macros.specs.Expansion.{top_spot, effects};
 ghost use Rattle.dx_macros.specs.Shown.{text_of};
@@ -17,10 +17,10 @@ ghost use Rattle.dx_graph.specs.declared.graph.Graph.{Graph};
 use crate::expansion::{expand_call, expand_expr};
 use crate::graph::Graph;
 use crate::operand::Results;
-use crate::text::{Stop, Text, World, remembered};
+use crate::text::{Stop, Text, World};
 use dx_ast::{Assign, Call, Frames, Stmt};
 use dx_base::Bytes;
-use dx_macros::{Dictionary, Names};
+use dx_macros::{Dictionary, MAX_STEPS, Names, Sparse};
 use indexmap::IndexMap;
 use std::alloc::{AllocError, Global};
 
@@ -49,7 +49,7 @@ fn text_at_top<'a>(w: &World<'a>, trail: Option<u32>, place: usize) -> Text<'a>
 {
     Text {
         trail,
-        left: 64,
+        left: MAX_STEPS,
         place,
         own: IndexMap::new(w.alloc),
     }
@@ -94,7 +94,7 @@ fn expand_top_call<'a>(
 
 fn expand_definition<'a>(w: &World<'a>, graph: &mut Graph, i: usize) -> Result<Results<'a>, Stop>
     requires rests { Rests w.now graph.old }
-    requires missing { IsMissing w.now.memo.items i }
+    requires missing { IsMissing w.now.memo i }
     ensures grows { Grows graph.old graph.new }
     ensures gives { IfOk result (λ r. Gives (graph_of graph.new).nodes r (top_results w.now i)) }
     ensures needs { Needs w.now i result }
@@ -106,18 +106,18 @@ fn expand_definition<'a>(w: &World<'a>, graph: &mut Graph, i: usize) -> Result<R
 /// The definition at a place is expanded and remembered. Its effects are no effects of the graph.
 fn define<'a>(w: &mut World<'a>, graph: &mut Graph, i: usize) -> Result<(), Stop>
     requires rests { Rests w.old graph.old }
-    requires missing { IsMissing w.old.memo.items i }
+    requires missing { IsMissing w.old.memo i }
     ensures rests { Rests w.new graph.new }
     ensures same { SameWorld w.old w.new }
-    ensures ok { OnOk result (Learned i w.old.memo.items w.new.memo.items) }
-    ensures err { OnErr result (w.new.memo.items ≡ w.old.memo.items) }
+    ensures ok { OnOk result (Learned i w.old.memo w.new.memo) }
+    ensures err { OnErr result (w.new.memo ≡ w.old.memo) }
     ensures needs { Needs w.old i result }
 {
     let count = graph.len() as usize;
     match expand_definition(w, graph, i) {
         Ok(results) => {
             graph.forget_effects(0);
-            w.memo[i] = Some(results);
+            w.memo.set(i, results)?;
             Ok(())
         }
         Err(stop) => {
@@ -130,10 +130,10 @@ fn define<'a>(w: &mut World<'a>, graph: &mut Graph, i: usize) -> Result<(), Stop
 /// The definition at a place is expanded, and before it the definitions that it needs.
 fn define_all<'a>(w: &mut World<'a>, graph: &mut Graph, i: usize) -> Result<(), AllocError>
     requires rests { Rests w.old graph.old }
-    requires missing { IsMissing w.old.memo.items i }
+    requires missing { IsMissing w.old.memo i }
     ensures rests { Rests w.new graph.new }
     ensures same { SameWorld w.old w.new }
-    ensures fewer { OnOk result (missing w.new.memo.items < missing w.old.memo.items) }
+    ensures fewer { OnOk result (missing w.new.memo < missing w.old.memo) }
 {
     let mut pending = Vec::new(w.alloc);
     let mut last = i;
@@ -158,7 +158,7 @@ fn define_once<'a>(w: &mut World<'a>, graph: &mut Graph, i: usize) -> Result<(),
     ensures rests { Rests w.new graph.new }
     ensures same { SameWorld w.old w.new }
 {
-    if i < w.memo.len() && remembered(w.memo.as_slice(), i).is_none() {
+    if w.memo.is_empty_at(i) {
         define_all(w, graph, i)?;
     }
     Ok(())
@@ -167,17 +167,14 @@ fn define_once<'a>(w: &mut World<'a>, graph: &mut Graph, i: usize) -> Result<(),
 /// The definitions that a statement reads are expanded in the order of their places, so that no text has to be begun anew.
 fn define_read<'a>(w: &mut World<'a>, graph: &mut Graph, s: &Stmt) -> Result<(), AllocError>
     requires lawful { IsLawful (plain_stmt s.now) }
-    requires executed { IsExecuted (plain_stmt s.now) }
     requires no_fault { first_fault (dictionary_of w.old.dictionary.now) (plain_stmt s.now) ≡ None }
     requires rests { Rests w.old graph.old }
     ensures rests { Rests w.new graph.new }
     ensures same { SameWorld w.old w.new }
 {
     let read = w.dictionary.reads(w.alloc, s)?;
-    for (i, is_read) in read.iter().enumerate() {
-        if *is_read {
-            define_once(w, graph, i)?;
-        }
+    for place in read.places() {
+        define_once(w, graph, *place)?;
     }
     Ok(())
 }
@@ -186,7 +183,6 @@ fn define_read<'a>(w: &mut World<'a>, graph: &mut Graph, s: &Stmt) -> Result<(),
 fn expand_last<'a>(w: &World<'a>, graph: &mut Graph, s: &'a Stmt, place: usize) -> Result<(), Stop>
     requires memo { Remembers (graph_of graph.old).nodes w.now }
     requires lawful { IsLawful (plain_stmt s.now) }
-    requires executed { IsExecuted (plain_stmt s.now) }
     ensures grows { Grows graph.old graph.new }
     ensures expands { OnOk result (unfolded (graph_of graph.new) ≡ unfolded (graph_of graph.old) ++ effects_in (top_text (plain_stmt s.now)) w.now place) }
     ensures needs { Needs w.now place result }
@@ -204,7 +200,7 @@ fn expand_last<'a>(w: &World<'a>, graph: &mut Graph, s: &'a Stmt, place: usize) 
             expand_assign(w, graph, a, place)?;
             Ok(())
         }
-        _ => unreachable!(),
+        _ => Ok(()),
     }
 }
 
@@ -212,7 +208,6 @@ fn expand_last<'a>(w: &World<'a>, graph: &mut Graph, s: &'a Stmt, place: usize) 
 fn expand_all<'a>(w: &mut World<'a>, graph: &mut Graph, s: &'a Stmt) -> Result<(), AllocError>
     requires rests { Rests w.old graph.old }
     requires lawful { IsLawful (plain_stmt s.now) }
-    requires executed { IsExecuted (plain_stmt s.now) }
     ensures { OnOk result (unfolded (graph_of graph.new) ≡ effects (dictionary_of w.old.dictionary.now) w.old.frames (plain_stmt s.now)) }
 {
     let place = w.dictionary.len();
@@ -230,33 +225,28 @@ fn expand_all<'a>(w: &mut World<'a>, graph: &mut Graph, s: &'a Stmt) -> Result<(
 }
 
 /// A world that remembers nothing yet.
-fn new_world<'a>(alloc: Global, d: &'a Dictionary, f: &Frames) -> Result<World<'a>, AllocError>
-    ensures dictionary { IfOk result (λ w. w.dictionary.now ≡ d.now) }
-    ensures frames { IfOk result (λ w. w.frames ≡ f.now) }
-    ensures memo { IfOk result (λ w. (i : ℕ) → slice_index_or w.memo.items i None ≡ None) }
-    ensures places { IfOk result (λ w. length w.memo.items ≡ length (dictionary_of d.now).definitions) }
+fn new_world<'a>(alloc: Global, d: &'a Dictionary, f: &Frames) -> World<'a>
+    ensures dictionary { result.dictionary.now ≡ d.now }
+    ensures frames { result.frames ≡ f.now }
+    ensures memo { result.memo ≡ replicate (length (dictionary_of d.now).definitions) None }
 {
-    let mut memo = Vec::new(alloc);
-    for _ in 0..d.len() {
-        memo.push(None)?;
-    }
-    Ok(World {
+    World {
         alloc,
         dictionary: d,
         frames: *f,
-        memo,
-    })
+        memo: Sparse::new(alloc, d.len()),
+    }
 }
 
-/// The expansion of a statement that is to be executed: the graph whose effects are those of the statement, in order. What
-/// a definition comes to stands in it once, however often it is read. A definition that is read has no effects.
+/// The expansion of a statement: the graph whose effects are those of the statement, in order, which is empty where the
+/// statement isn't executed. What a definition comes to stands in it once, however often it is read. A definition that is
+/// read has no effects.
 pub fn expand(alloc: Global, d: &Dictionary, s: &Stmt, f: &Frames) -> Result<Graph, AllocError>
     requires lawful { IsLawful (plain_stmt s.now) }
-    requires executed { IsExecuted (plain_stmt s.now) }
     requires no_fault { first_fault (dictionary_of d.now) (plain_stmt s.now) ≡ None }
     ensures means { IfOk result (λ g. unfolded (graph_of g) ≡ effects (dictionary_of d.now) f.now (plain_stmt s.now)) }
 {
-    let mut w = new_world(alloc, d, f)?;
+    let mut w = new_world(alloc, d, f);
     let mut graph = Graph::new(alloc);
     define_read(&mut w, &mut graph, s)?;
     expand_all(&mut w, &mut graph, s)?;

@@ -125,7 +125,7 @@ pub fn expand_call<'a>(
 {
     let name = c.name.bytes();
     let k = before.count(name) + 1;
-    before.push(w.alloc, name)?;
+    before.push(name)?;
     let given = expand_args(w, t, graph, before, c.args.as_slice())?;
     apply(w, t, graph, c, k, given.as_slice())
 }

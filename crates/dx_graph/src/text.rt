@@ -1,4 +1,4 @@
-ghost use Rattle.std.specs.Prelude.{◌≡◌, List, None, IfOk, option_map, slice_index_or};
+ghost use Rattle.std.specs.Prelude.{◌≡◌, List, IfOk};
 ghost use Rattle.dx_base.specs.NameTable.{under_name};
 ghost use Rattle.dx_graph.specs.Graph.{Node};
 ghost use Rattle.dx_graph.specs.Operands.{Means, OwnFits};
@@ -8,7 +8,7 @@ use crate::operand::{Operand, Results};
 use crate::own::Own;
 use dx_ast::Frames;
 use dx_base::Bytes;
-use dx_macros::Dictionary;
+use dx_macros::{Dictionary, Sparse};
 use std::alloc::{AllocError, Global};
 
 /// What an expansion stands on, and what it came to so far.
@@ -18,7 +18,7 @@ pub struct World<'a> {
     pub dictionary: &'a Dictionary,
     pub frames: Frames,
     /// The results of each definition that was expanded, by its place.
-    pub memo: Vec<Option<Results<'a>>>,
+    pub memo: Sparse<Results<'a>>,
 }
 
 /// A text that is expanded: a macro's body, or a text of the top level.
@@ -66,16 +66,6 @@ fn last_target(targets: &[Bytes], name: &[u8]) -> usize
     found
 }
 
-/// The results of the definition at a place, if it was expanded.
-pub fn remembered<'w, 'a>(memo: &'w [Option<Results<'a>>], i: usize) -> Option<&'w Results<'a>>
-    ensures { option_map (λ r. r.now) result ≡ slice_index_or memo.now i None }
-{
-    match memo.get(i) {
-        Some(Some(r)) => Some(r),
-        _ => None,
-    }
-}
-
 /// What a name means at a place of the top level.
 fn top_meaning<'a>(w: &World<'a>, place: usize, name: &[u8]) -> Result<Operand<'a>, Stop>
     ensures means { (nodes : List Node) → Remembers nodes w.now → IfOk result (λ o. Means nodes o (top_scope w.now place name.now)) }
@@ -83,7 +73,7 @@ fn top_meaning<'a>(w: &World<'a>, place: usize, name: &[u8]) -> Result<Operand<'
 {
     match w.dictionary.last_before(place, name) {
         None => Ok(Operand::Null),
-        Some(i) => match remembered(w.memo.as_slice(), i) {
+        Some(i) => match w.memo.get(i) {
             None => Err(Stop::Need(i)),
             Some(r) => {
                 let targets = w.dictionary.definition(i).targets.as_slice();

@@ -7,9 +7,9 @@ abbrev pub invariant-loop-pending : goal.invariant-loop-pending
 invariant-loop-pending l = record {
   rests : Rests l.w l.graph;
   same : SameWorld l.initial.w l.w;
-  waiting : IsWaiting l.w.memo.items l.pending.items l.last;
-  fewer : missing l.w.memo.items ≤ missing l.initial.w.memo.items;
+  waiting : IsWaiting l.w.memo l.pending.items l.last;
+  fewer : missing l.w.memo ≤ missing l.initial.w.memo;
 }
 
 abbrev pub decreases-loop-pending : goal.decreases-loop-pending
-decreases-loop-pending l = missing l.w.memo.items * (length l.w.memo.items + 1) + l.last
+decreases-loop-pending l = missing l.w.memo * (length l.w.memo + 1) + l.last

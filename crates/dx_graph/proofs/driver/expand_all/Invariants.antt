@@ -8,4 +8,4 @@ invariant-loop-i l = record {
 }
 
 abbrev pub decreases-loop-i : goal.decreases-loop-i
-decreases-loop-i l = missing l.w.memo.items
+decreases-loop-i l = missing l.w.memo

@@ -134,7 +134,7 @@ expand_call-apply-requires t c =
 pub expand_call-returns-clause-before : goal.expand_call-returns-clause-before
 expand_call-returns-clause-before t c =
     expansions.always c.apply.result (expansions.calls_after_call c.args.before.now c.push.new.self c.expand_args.new.before c.args.c.now c.bytes-name.result.now c.as_slice.result.now
-    c.bytes-name.ensures c.as_slice.ensures c.in_ok-push.ensures c.in_ok-given.ensures.before)
+    c.bytes-name.ensures c.as_slice.ensures c.in_ok-push.ensures.ok c.in_ok-given.ensures.before)
 
 pub expand_call-returns-clause-expands : goal.expand_call-returns-clause-expands
 expand_call-returns-clause-expands t c =
@@ -146,7 +146,7 @@ expand_call-returns-clause-expands t c =
     let gs = c.as_slice-2.result.now in
     let given = subst (λ (xs : List Given). ExpandsArgs (args_in s c.push.new.self (plain_args c.as_slice.result.now)) old mid xs) (sym c.as_slice-2.ensures.value) c.in_ok-given.ensures.expands in
     expansions.call_is_made s (setting w text mid) c.args.before.now c.push.new.self c.args.c.now c.bytes-name.result.now c.as_slice.result.now (c.count-k.result + 1) old mid c.apply.new.graph gs c.apply.result
-    c.bytes-name.ensures c.as_slice.ensures (omega (arith, c.count-k.ensures.times)) c.in_ok-push.ensures (setting_later w text old mid c.expand_args.ensures.grows c.requires.ready) given c.apply.ensures.expands
+    c.bytes-name.ensures c.as_slice.ensures (omega (arith, c.count-k.ensures.times)) c.in_ok-push.ensures.ok (setting_later w text old mid c.expand_args.ensures.grows c.requires.ready) given c.apply.ensures.expands
 
 pub expand_expr-returns-in_ok-meaning-in-Name-clause-expands : goal.expand_expr-returns-in_ok-meaning-in-Name-clause-expands
 expand_expr-returns-in_ok-meaning-in-Name-clause-expands t c =

@@ -1,24 +1,22 @@
-use Rattle.std.proofs.Common.{◌∙◌, sym, ap, ℕ, List, Option, None}
-use Rattle.std.specs.Prelude.{slice_index_or}
+use Rattle.std.proofs.Common.{◌∙◌, sym, ap, ℕ, List}
 use Rattle.dx_ast.specs.Classes.{Text}
 use Rattle.dx_macros.specs.Dictionary.{TopText}
 use Rattle.dx_graph.specs.Expanding.{dictionary_in, top_results, last_target}
 use Rattle.dx_graph.specs.Operands.{Gives}
-use Rattle.dx_graph.specs.declared.operand.Results.{Results}
 use Rattle.dx_graph.proofs.TopLevel.{unbound, bound_at, named_below}
 use Rattle.dx_graph.proofs.text.top_meaning.Goals as goal
 
 pub returns-in-None-clause-means : goal.returns-in-None-clause-means
 returns-in-None-clause-means c = λ nodes memo. record { fits = tt; tree = sym (unbound c.args.w.now c.args.place c.args.name.now (sym c.last_before.ensures.last ∙ c.in-None.is)) }
 
-pub returns-in-Some-remembered-clause-means : goal.returns-in-Some-remembered-clause-means
-returns-in-Some-remembered-clause-means c = λ nodes memo.
+pub returns-in-Some-get-clause-means : goal.returns-in-Some-get-clause-means
+returns-in-Some-get-clause-means c = λ nodes memo.
     let w = c.args.w.now in
     let i = c.in-Some.i in
     let name = c.args.name.now in
     let here = bound_at w c.args.place i name (sym c.last_before.ensures.last ∙ c.in-Some.is) in
     let targets = c.as_slice-targets.ensures ∙ ap (λ (t : TopText). t.targets) c.definition.ensures in
-    let gives : Gives nodes c.in-Some-remembered.r.now (top_results w i) = memo i c.in-Some-remembered.r.now (sym (c.in-Some-remembered.ensures ∙ ap (λ (xs : List (Option Results)). slice_index_or xs i None) c.as_slice.ensures.value)) in
+    let gives : Gives nodes c.in-Some-get.r.now (top_results w i) = memo i c.in-Some-get.r.now (sym c.in-Some-get.ensures) in
     record {
       fits = c.at.ensures.fits nodes gives.fits;
       tree = c.at.ensures.tree nodes
@@ -27,9 +25,9 @@ returns-in-Some-remembered-clause-means c = λ nodes memo.
           ∙ sym here;
     }
 
-pub returns-in-None-remembered-clause-needs : goal.returns-in-None-remembered-clause-needs
-returns-in-None-remembered-clause-needs c =
+pub returns-in-None-get-clause-needs : goal.returns-in-None-get-clause-needs
+returns-in-None-get-clause-needs c =
     let i = c.in-Some.i in (
       named_below c.args.place i (dictionary_in c.args.w.now).definitions c.args.name.now (sym c.last_before.ensures.last ∙ c.in-Some.is),
-      sym (c.in-None-remembered.ensures ∙ ap (λ (xs : List (Option Results)). slice_index_or xs i None) c.as_slice.ensures.value),
+      sym c.in-None-get.ensures,
     )
