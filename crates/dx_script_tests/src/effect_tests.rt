@@ -169,6 +169,25 @@ fn a_chain_of_20000_definitions(rt: HostRuntime) -> Result<(), Fail> {
 }
 
 #[test]
+fn a_name_that_is_defined_again_4000_times(rt: HostRuntime) -> Result<(), Fail> {
+    let alloc = rt.alloc();
+    let mut text = String::from_str(alloc, "macro m(a) -> (r) { r = a; } first = 1; x = 5; ")?;
+    for _ in 0..4000 {
+        text.push_str("x = m(x); ")?;
+    }
+    text.push_str("y = x; x = 6; first = x;")?;
+    let mut d = Dictionary::new(alloc);
+    take(alloc, &mut d, text.as_bytes())?;
+    let mut out = Vec::new(alloc);
+    read(alloc, &mut d, b"Echo(x, y, first);", &mut out)?;
+    assert_eq!(rt;
+        String::from_utf8(out)?.as_str(),
+        "Echo:1 in  cache 1: 6 5 6\n"
+    );
+    Ok(())
+}
+
+#[test]
 fn a_text_that_reads_4000_definitions(rt: HostRuntime) -> Result<(), Fail> {
     let alloc = rt.alloc();
     let mut text = String::from_str(alloc, "macro one() -> (r) { r = 1; } ")?;
