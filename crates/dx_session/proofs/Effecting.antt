@@ -163,10 +163,6 @@ is_done whole rest told now is so_far =
 
 -- ---- whole executions
 
--- no fault was found
-pub faultless : (first : Option Fault) (x : Execution) (told now : Told) (r : Result Ended End) → first ≡ None → Executes x None told now r → Executes (unless_faulty first x) first told now r
-faultless first x told now r none h = subst (λ (f : Option Fault). Executes (unless_faulty f x) f told now r) (sym none) h
-
 by_result : (f : Fault) (told now : Told) (r : Result Ended End) → Writes told now (error_line f.site (Faulty f.fault)) r → IfOk r (λ e. e ≡ ended.Faulty) → Executes (fails f.site (Faulty f.fault)) (Some f) told now r
 by_result f told now (Ok e) writes is = (ap is_error is, ap is_faulty is, writes)
 by_result f told now (Err end) writes is = writes

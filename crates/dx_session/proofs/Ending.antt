@@ -10,7 +10,6 @@ use Rattle.dx_include.specs.declared.loaded.Loaded.{Loaded}
 use Rattle.dx_include.specs.Loading.{Loading}
 use Rattle.dx_include.specs.Answers.{Refuses}
 use Rattle.dx_session.specs.declared.end.End.{End}
-use Rattle.dx_session.specs.declared.end.End.TheVariants as end
 use Rattle.dx_session.specs.Ends.{end_of}
 use Rattle.dx_session.specs.Lines.{refusal_line}
 use Rattle.dx_session.specs.Outcome.{Ends}
@@ -45,23 +44,6 @@ front_asked l (fail.Missing n) e old new is r = absurd cc
 front_asked l (fail.Nested n) e old new is r = absurd cc
 front_asked l (fail.TooLong n) e old new is r = absurd cc
 front_asked l (fail.Syntax n f) e old new is r = absurd cc
-
--- a fault of the files cut it short
-pub read_failed : (why : LoadFail) → end_of why ≡ Some end.ReadFault → why ≡ fail.ReadFault
-read_failed fail.ReadFault is = refl
-read_failed fail.Memory is = absurd cc
-read_failed (fail.Missing n) is = absurd cc
-read_failed (fail.Nested n) is = absurd cc
-read_failed (fail.TooLong n) is = absurd cc
-read_failed (fail.Syntax n f) is = absurd cc
-
-pub no_write_fault : (why : LoadFail) → end_of why ≡ Some end.WriteFault → ⊥
-no_write_fault fail.ReadFault is = cc
-no_write_fault fail.Memory is = cc
-no_write_fault (fail.Missing n) is = cc
-no_write_fault (fail.Nested n) is = cc
-no_write_fault (fail.TooLong n) is = cc
-no_write_fault (fail.Syntax n f) is = cc
 
 whole_into : (old new : Option (List (List ℕ))) (reads : List (List ℕ)) → Grows old new reads → GrowsInto old new reads
 whole_into old new reads all = (reads, [], sym (append-nil reads), all)

@@ -29,7 +29,7 @@ pub record Execution : Type 0 where
 
 -- ---- one effect
 
--- what an argument stands for; an effect's results, which nothing has yet, are NULL
+-- what an argument stands for; no function that is built has results, so a result is NULL
 abbrev pub argument : Tree → Option object.Tree
 argument (ConstantTree c) = value_of c
 argument (ResultTree result call) = None

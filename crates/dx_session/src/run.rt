@@ -38,6 +38,9 @@ pub fn run_dxi<F: Files, O: Sink>(
     ensures usage { result ≡ 3 → line (texts words.now.items) ≡ None }
     ensures no_line { line (texts words.now.items) ≡ None → IsTrue (is_cut result) ⊎ (result ≡ 3) }
 
+    // No file changes.
+    ensures same { F.content files.new ≡ F.content files.old }
+
     // A fault is answered only where the device's count has risen.
     ensures read_fault { result ≡ 4 → Rose (F.faults files.old) (F.faults files.new) }
     ensures write_fault { result ≡ 5 → Rose (O.faults out.old) (O.faults out.new) }
@@ -57,6 +60,7 @@ fn status_of<F: Files, O: Sink>(
     ensures statuses { IsTrue (is_cut result) ⊎ IsWhole result }
     ensures usage { result ≡ 3 → line (texts words.now.items) ≡ None }
     ensures no_line { line (texts words.now.items) ≡ None → IsTrue (is_cut result) ⊎ (result ≡ 3) }
+    ensures same { F.content files.new ≡ F.content files.old }
     ensures read_fault { result ≡ 4 → Rose (F.faults files.old) (F.faults files.new) }
     ensures write_fault { result ≡ 5 → Rose (O.faults out.old) (O.faults out.new) }
 {
@@ -93,6 +97,7 @@ fn session<F: Files, O: Sink>(
     ensures own_status { IfOk result IsWhole }
     ensures usage { IfOk result (λ status. status ≡ 3 → line (texts words.now.items) ≡ None) }
     ensures no_line { line (texts words.now.items) ≡ None → IfOk result (λ status. status ≡ 3) }
+    ensures same { F.content files.new ≡ F.content files.old }
     ensures read_fault { IsErrOf result End.ReadFault → Rose (F.faults files.old) (F.faults files.new) }
     ensures write_fault { IsErrOf result End.WriteFault → Rose (O.faults out.old) (O.faults out.new) }
 {
@@ -116,6 +121,7 @@ fn load_and_perform<F: Files, O: Sink>(
         Ends result (of_loading (loading_of map name.now))
         (O.written out.old) (O.written out.new) (F.asked files.old) (F.asked files.new) }
     ensures own_status { IfOk result (λ status. (status ≡ 0) ⊎ (status ≡ 1) ⊎ (status ≡ 2)) }
+    ensures same { F.content files.new ≡ F.content files.old }
     ensures read_fault { IsErrOf result End.ReadFault → Rose (F.faults files.old) (F.faults files.new) }
     ensures write_fault { IsErrOf result End.WriteFault → Rose (O.faults out.old) (O.faults out.new) }
 {
@@ -145,6 +151,7 @@ fn load_session<F: Files>(alloc: Global, files: &mut F, name: &Bytes) -> Result<
     ensures loading { (map : FileMap) → F.content files.old ≡ Some map →
         Loads (loading_of map name.now) result (F.asked files.old) (F.asked files.new) }
     ensures lawful { IfOk result (λ statements. AreLawful (plain_stmts statements)) }
+    ensures same { F.content files.new ≡ F.content files.old }
     ensures cause { LoadCause (F.faults files.old) (F.faults files.new) result }
 {
     load(alloc, files, name)
@@ -173,6 +180,7 @@ fn perform<F: Files, O: Sink>(
     ensures status { IfOk result (λ status. status ≡ status_of (session_of statements).erred) }
     ensures own_status { IfOk result (λ status. (status ≡ 0) ⊎ (status ≡ 1) ⊎ (status ≡ 2)) }
     ensures asked { F.asked files.new ≡ F.asked files.old }
+    ensures same { F.content files.new ≡ F.content files.old }
     ensures reads { F.faults files.new ≡ F.faults files.old }
     ensures cause { PrintCause (O.faults out.old) (O.faults out.new) result }
 {

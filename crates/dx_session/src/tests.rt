@@ -131,6 +131,23 @@ fn macros_and_definitions(rt: HostRuntime) -> Result<(), Fail> {
             0,
         ),
         ("z = @frame; @frame = 8; Echo(z);", "8\n", 0),
+        // A definition that got a fault behind its joining.
+        (
+            "macro f() -> (r) { r = 1; } x = f(); macro f() -> (r) { r = Foo(); } macro m(a) { Echo(\"in\"); } m(x);",
+            "error x/f:1/Foo:1: UnknownFunction\n",
+            1,
+        ),
+        (
+            "macro m() -> (r) { } x = m(); macro m() { } Print(x);",
+            "error x/m:1: TooManyResults\n",
+            1,
+        ),
+        // A NULL that is given isn't left out, and effects are in the order of the text.
+        (
+            "macro m(a, b = 2) { Echo(a, b); } macro e(a) -> (r) { Echo(a); r = a; } m(1, NULL); m(b = e(3), a = e(1));",
+            "1 NULL\n3\n1\n1 3\n",
+            0,
+        ),
         // What a call comes to, or that it comes to nothing.
         ("Foo();", "error Foo:1: UnknownFunction\n", 1),
         ("a, b = c();", "error a/c:1: UnknownFunction\n", 1),
@@ -166,6 +183,11 @@ fn frames_and_plays(rt: HostRuntime) -> Result<(), Fail> {
             "@startframe = 1; @endframe = 7; @deltaframe = 3; @nextframe = @startframe; macro main() { Echo(@frame); } sequence main(); play; loop on; palindrome on; step; step; step;",
             "1\n4\n7\n4\n1\n4\n",
             0,
+        ),
+        (
+            "@startframe = 1; @endframe = 7; @deltaframe = 3; @nextframe = @startframe; macro main() { Echo(@frame); } sequence main(); play; loop on; palindrome on; step; step; step; @deltaframe = 0;",
+            "1\n4\n7\n4\n1\n4\nerror @deltaframe: FrameRange\n",
+            1,
         ),
         (
             "@deltaframe = 0; Echo(@deltaframe);",
@@ -303,6 +325,16 @@ fn includes_are_loaded_before_anything_is_performed(rt: HostRuntime) -> Result<(
         assert_eq!(rt; bytes.as_slice(), printed.as_bytes(), "at {included}");
         assert_eq!(rt; asked, reads, "at {included}");
     }
+    Ok(())
+}
+
+#[test]
+fn a_session_whose_include_is_missing(rt: HostRuntime) -> Result<(), Fail> {
+    let text = [("s.net", "include \"none.net\"")];
+    let (got, bytes, asked) = outcome(rt.alloc(), &["s.net"], &text, 0, 0)?;
+    assert_eq!(rt; got, 2);
+    assert_eq!(rt; bytes.as_slice(), b"error none.net: Missing\n".as_slice());
+    assert_eq!(rt; asked, 2);
     Ok(())
 }
 

@@ -1,4 +1,4 @@
-use Rattle.std.proofs.Common.{◌≡◌, ◌∷◌, length, sym, ap, ◌∙◌, arith}
+use Rattle.std.proofs.Common.{rules, refl, ◌≡◌, ◌∷◌, length, sym, ap, ◌∙◌, arith}
 use Rattle.std.proofs.lemmas.Result.{err_from_is_err_and}
 use Rattle.std.specs.Vec.Iter.{into_iter_items}
 use Rattle.dx_ast.specs.Plain.{plain_stmt, plain_stmts}
@@ -7,6 +7,19 @@ use Rattle.dx_session.specs.Session.{State, statement, statements}
 use Rattle.dx_session.specs.SessionView.{state_of}
 use Rattle.dx_session.proofs.Folding.{goes_on, is_cut, is_done, lawful_tail, next_statement, no_statement, nothing_left}
 use Rattle.dx_session.proofs.run.perform.Goals as goal
+
+pub loop-statement-init : goal.loop-statement-init
+loop-statement-init g c = record {
+  can = tt;
+  finite = tt;
+  len = search rules;
+  lawful = search rules;
+  asked = refl;
+  same = refl;
+  reads = refl;
+  later = omega arith;
+  so_far = search rules;
+}
 
 pub loop-statement-preserved : goal.loop-statement-preserved
 loop-statement-preserved g c =
@@ -20,6 +33,7 @@ loop-statement-preserved g c =
       len = (let was = at.invariant.len in let gone = c.in-Some.ensures.steps.1 in let short = ap length steps in omega arith);
       lawful = lawful_tail (into_iter_items at.statement-iterator) c.in-Some.statement rest steps at.invariant.lawful;
       asked = done.asked ∙ at.invariant.asked;
+      same = done.content ∙ at.invariant.same;
       reads = done.reads ∙ at.invariant.reads;
       later = omega (arith, at.invariant.later, done.cause.later);
       so_far = goes_on (session c.args.statements) (statements (state_of at.session) (plain_stmts (into_iter_items at.statement-iterator))) (statement (state_of at.session) (plain_stmt c.in-Some.statement)) (λ (next : State). statements next (plain_stmts rest)) at.erred c.in_ok-erred.field-0 (state_of c.statement.new.self)

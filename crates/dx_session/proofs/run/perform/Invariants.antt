@@ -15,6 +15,7 @@ invariant-loop-statement g l = record {
   len : into_iter_len l.statement-iterator ≡ length (into_iter_items l.statement-iterator);
   lawful : AreLawful (plain_stmts (into_iter_items l.statement-iterator));
   asked : g.F.Files.asked l.files ≡ g.F.Files.asked l.initial.files;
+  same : g.F.Files.content l.files ≡ g.F.Files.content l.initial.files;
   reads : g.F.Files.faults l.files ≡ g.F.Files.faults l.initial.files;
   later : g.O.Sink.faults l.initial.out ≤ g.O.Sink.faults l.out;
   so_far : SoFar (session l.fn.statements) (statements (state_of l.session) (plain_stmts (into_iter_items l.statement-iterator))) l.erred (g.O.Sink.written l.initial.out) (g.O.Sink.written l.out);
