@@ -1,5 +1,5 @@
 /// The modules of the executive that compute: each gives results and has no effect.
-#[derive(Clone, Copy, Debug, PartialEq, Eq)]
+#[derive(Clone, Copy, Debug, PartialEq, Eq, Hash)]
 pub enum Module {
     Import,
     Select,
@@ -18,7 +18,7 @@ pub enum Module {
 }
 
 /// The functions that have an effect.
-#[derive(Clone, Copy, Debug, PartialEq, Eq)]
+#[derive(Clone, Copy, Debug, PartialEq, Eq, Hash)]
 pub enum Effect {
     Print,
     Echo,
@@ -28,7 +28,7 @@ pub enum Effect {
 }
 
 /// What a call in a script may name, macros aside.
-#[derive(Clone, Copy, Debug, PartialEq, Eq)]
+#[derive(Clone, Copy, Debug, PartialEq, Eq, Hash)]
 pub enum Function {
     Module(Module),
     Effect(Effect),

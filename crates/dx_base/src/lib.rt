@@ -8,6 +8,7 @@ mod elem;
 mod function;
 mod items;
 mod number;
+mod shared;
 mod token;
 
 pub use bytes::Bytes;
@@ -16,4 +17,5 @@ pub use elem::{ElemType, in_range};
 pub use function::{Effect, Function, Module};
 pub use items::Items;
 pub use number::read_int;
+pub use shared::Shared;
 pub use token::{LexKind, Lexeme, Place, SyntaxError, SyntaxKind};
