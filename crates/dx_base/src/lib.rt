@@ -9,6 +9,7 @@ mod function;
 mod items;
 mod number;
 mod shared;
+mod sign;
 mod token;
 
 pub use bytes::Bytes;
@@ -18,4 +19,5 @@ pub use function::{Effect, Function, Module};
 pub use items::Items;
 pub use number::read_int;
 pub use shared::Shared;
+pub use sign::Sign;
 pub use token::{LexKind, Lexeme, Place, SyntaxError, SyntaxKind};

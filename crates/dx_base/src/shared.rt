@@ -87,12 +87,11 @@ impl<T: Eq> Eq for Shared<T> {
 
 impl<T: Hash> Hash for Shared<T> {
     ghost use Rattle.std.specs.Hash as fed;
-    ghost use Rattle.std.specs.Cmp.Rules.{comparing, hashing};
-    ghost use Rattle.std.proofs.Common.{rules};
+    ghost use Rattle.std.specs.Hash.{items_Alike};
 
     ghost hash_input = { fed.slice T.hash_input };
 
-    ghost respects_eq = { Prim.search (hashing, rules) };
+    ghost respects_eq = { (items_Alike (record { fed = T.respects_eq })).fed };
 
     fn hash<H: Hasher>(&self, state: &mut H) {
         self.as_slice().hash(state);
