@@ -20,7 +20,7 @@ pub use elem::{ElemType, in_range};
 pub use function::{Effect, Function, Module};
 pub use items::Items;
 pub use names::Names;
-pub use number::read_int;
+pub use number::{read_int, read_number};
 pub use shared::Shared;
 pub use sparse::Sparse;
 pub use token::{LexKind, Lexeme, Place, SyntaxError, SyntaxKind};
