@@ -5,6 +5,7 @@
 mod bytes;
 mod code;
 mod elem;
+mod fail;
 mod function;
 mod items;
 mod names;
@@ -17,6 +18,7 @@ mod words;
 pub use bytes::Bytes;
 pub use code::{Code, NativeKind};
 pub use elem::{ElemType, in_range};
+pub use fail::Fail;
 pub use function::{Effect, Function, Module};
 pub use items::Items;
 pub use names::Names;
