@@ -11,6 +11,7 @@ mod number;
 mod shared;
 mod sign;
 mod token;
+mod words;
 
 pub use bytes::Bytes;
 pub use code::{Code, NativeKind};
@@ -21,3 +22,6 @@ pub use number::read_int;
 pub use shared::Shared;
 pub use sign::Sign;
 pub use token::{LexKind, Lexeme, Place, SyntaxError, SyntaxKind};
+pub use words::{
+    push_count, push_counts_behind, push_number, push_numbers, push_numbers_behind, push_quoted,
+};
