@@ -6,8 +6,6 @@ mod fail;
 mod gap;
 mod number;
 mod quoted;
-#[cfg(test)]
-mod tests;
 mod token;
 mod word;
 
