@@ -31,7 +31,7 @@ fn put_constant(alloc: Global, out: &mut Vec<u8>, c: &Const) -> Result<(), Alloc
         Const::Int(n) => put_number(alloc, out, i64::from(*n)),
         Const::Text(text) => {
             put(out, "'")?;
-            put_bytes(out, text)?;
+            out.extend_from_slice(text.as_slice())?;
             put(out, "'")
         }
         Const::Vector(numbers) => {
