@@ -1,6 +1,6 @@
 use Rattle.std.proofs.Common.{arith}
 use Rattle.dx_base.proofs.Tokens.Reached.{reached_placed}
-use Rattle.dx_lexer.proofs.token.read.Goals as goal
+use Rattle.dx_lexer.proofs.token.token_at.Goals as goal
 
 pub split_at-requires : goal.split_at-requires
 split_at-requires c = (reached_placed c.args.text.now c.args.at c.requires).offset
