@@ -1,5 +1,7 @@
-use super::*;
+//! Loading over files in memory: statements, refusals with their files, and how often files are asked for.
+
 use dx_base::{Bytes, SyntaxKind};
+use dx_include::{LoadFail, load};
 use dx_io::{CallNumbers, MemFiles, NamedBytes};
 use std::alloc::Global;
 use std::test::Fail;
@@ -63,8 +65,8 @@ fn includes_are_replaced_in_order(rt: HostRuntime) -> Result<(), Fail> {
             ],
         )?;
         let got = loaded(alloc, &mut files)?;
-        assert_eq!(rt; got.as_str(), want, "at {session}");
-        assert_eq!(rt; files.asked().len(), reads, "at {session}");
+        assert!(rt; got.as_str() == want, "at {session}");
+        assert!(rt; files.asked().len() == reads, "at {session}");
     }
     Ok(())
 }
@@ -92,8 +94,8 @@ fn sixteen_levels_are_loaded_and_no_more(rt: HostRuntime) -> Result<(), Fail> {
         let fail = CallNumbers::from_vec(Vec::new(alloc));
         let mut files = MemFiles::new(alloc, NamedBytes::from_vec(pairs), fail);
         let got = loaded(alloc, &mut files)?;
-        assert_eq!(rt; got.as_str(), want);
-        assert_eq!(rt; files.asked().len(), 16);
+        assert!(rt; got.as_str() == want);
+        assert!(rt; files.asked().len() == 16);
     }
     Ok(())
 }
@@ -111,7 +113,7 @@ fn all_files_together_have_a_limit(rt: HostRuntime) -> Result<(), Fail> {
         let fail = CallNumbers::from_vec(Vec::new(alloc));
         let mut files = MemFiles::new(alloc, NamedBytes::from_vec(pairs), fail);
         let got = loaded(alloc, &mut files)?;
-        assert_eq!(rt; got.as_str(), want, "at {len}");
+        assert!(rt; got.as_str() == want, "at {len}");
     }
     Ok(())
 }
@@ -122,7 +124,7 @@ fn kinds_of_errors_are_handed_on(rt: HostRuntime) -> Result<(), Fail> {
     let mut files = files(alloc, &[("s", "x = {1 \"a\"};")])?;
     let session = Bytes::copy_of(alloc, b"s")?;
     match load(alloc, &mut files, &session) {
-        Err(LoadFail::Syntax(_, e)) => assert_eq!(rt; e.kind, SyntaxKind::MixedList),
+        Err(LoadFail::Syntax(_, e)) => assert!(rt; e.kind == SyntaxKind::MixedList),
         _ => assert!(rt; false, "an error was due"),
     }
     Ok(())
