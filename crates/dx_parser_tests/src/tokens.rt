@@ -18,7 +18,7 @@ fn put_kind(alloc: Global, out: &mut Vec<u8>, kind: &LexKind) -> Result<(), Allo
         LexKind::Name(name) => put_word(out, "name ", name),
         LexKind::Int(value) => {
             put(out, "int ")?;
-            put_number(alloc, out, i64::from(*value))
+            put_number(alloc, out, *value)
         }
         LexKind::Text(inside) => put_word(out, "text ", inside),
         LexKind::Frame(word) => put_word(out, "frame ", word),

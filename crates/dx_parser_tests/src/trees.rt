@@ -1,6 +1,6 @@
 //! The statements of a text, as text.
 
-use crate::writing::{put, put_bytes, put_error, put_number};
+use crate::writing::{put, put_bytes, put_count, put_error, put_number};
 use dx_ast::{Arg, Assign, Call, Const, Expr, FrameVar, MacroDef, Stmt, Word};
 use dx_base::Bytes;
 use dx_parser::{ParseFail, parse};
@@ -19,7 +19,7 @@ fn put_numbers(alloc: Global, out: &mut Vec<u8>, numbers: &[i32]) -> Result<(), 
     let mut before = "[";
     for n in numbers {
         put(out, before)?;
-        put_number(alloc, out, i64::from(*n))?;
+        put_number(alloc, out, *n)?;
         before = ", ";
     }
     put(out, if numbers.is_empty() { "[]" } else { "]" })
@@ -28,7 +28,7 @@ fn put_numbers(alloc: Global, out: &mut Vec<u8>, numbers: &[i32]) -> Result<(), 
 fn put_constant(alloc: Global, out: &mut Vec<u8>, c: &Const) -> Result<(), AllocError> {
     match c {
         Const::Null => put(out, "NULL"),
-        Const::Int(n) => put_number(alloc, out, i64::from(*n)),
+        Const::Int(n) => put_number(alloc, out, *n),
         Const::Text(text) => {
             put(out, "'")?;
             out.extend_from_slice(text.as_slice())?;
@@ -41,7 +41,7 @@ fn put_constant(alloc: Global, out: &mut Vec<u8>, c: &Const) -> Result<(), Alloc
         Const::Ints(numbers) => put_numbers(alloc, out, numbers.as_slice()),
         Const::Vectors(width, numbers) => {
             put(out, "by ")?;
-            put_number(alloc, out, i64::from(*width))?;
+            put_count(alloc, out, u64::from(*width))?;
             put(out, " ")?;
             put_numbers(alloc, out, numbers.as_slice())
         }
@@ -67,7 +67,7 @@ fn put_frame(out: &mut Vec<u8>, frame: FrameVar) -> Result<(), AllocError> {
 
 fn put_cache(alloc: Global, out: &mut Vec<u8>, call: &Call) -> Result<(), AllocError> {
     put(out, "[")?;
-    put_number(alloc, out, i64::from(call.cache))?;
+    put_count(alloc, out, u64::from(call.cache))?;
     put(out, "]")
 }
 
@@ -80,7 +80,7 @@ fn put_expression(alloc: Global, out: &mut Vec<u8>, e: &Expr) -> Result<(), Allo
         Expr::Call(call) => {
             put_bytes(out, &call.name)?;
             put(out, "(")?;
-            put_number(alloc, out, call.args.len() as i64)?;
+            put_count(alloc, out, call.args.len() as u64)?;
             put(out, ")")?;
             put_cache(alloc, out, call)
         }
@@ -116,10 +116,10 @@ fn put_macro(alloc: Global, out: &mut Vec<u8>, m: &MacroDef) -> Result<(), Alloc
     put(out, "macro ")?;
     put_bytes(out, &m.name)?;
     put(out, " ")?;
-    put_number(alloc, out, m.params.len() as i64)?;
+    put_count(alloc, out, m.params.len() as u64)?;
     put(out, " -> ")?;
     put_texts(out, m.results.as_slice())?;
-    put_number(alloc, out, m.body.len() as i64)
+    put_count(alloc, out, m.body.len() as u64)
 }
 
 fn put_sequencer_word(out: &mut Vec<u8>, word: Word) -> Result<(), AllocError> {

@@ -11,8 +11,13 @@ pub fn put_bytes(out: &mut Vec<u8>, bytes: &Bytes) -> Result<(), AllocError> {
     out.extend_from_slice(bytes.bytes())
 }
 
-pub fn put_number(alloc: Global, out: &mut Vec<u8>, number: i64) -> Result<(), AllocError> {
+pub fn put_number(alloc: Global, out: &mut Vec<u8>, number: i32) -> Result<(), AllocError> {
     let digits = format!(in alloc; "{number}")?;
+    put(out, digits.as_str())
+}
+
+pub fn put_count(alloc: Global, out: &mut Vec<u8>, count: u64) -> Result<(), AllocError> {
+    let digits = format!(in alloc; "{count}")?;
     put(out, digits.as_str())
 }
 
@@ -23,9 +28,9 @@ pub fn put_place(
     line: u64,
     column: u64,
 ) -> Result<(), AllocError> {
-    put_number(alloc, out, line as i64)?;
+    put_count(alloc, out, line)?;
     put(out, ":")?;
-    put_number(alloc, out, column as i64)
+    put_count(alloc, out, column)
 }
 
 fn word_of(kind: SyntaxKind) -> &'static str {
