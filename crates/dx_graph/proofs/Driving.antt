@@ -21,7 +21,7 @@ use Rattle.dx_macros.specs.DictionaryView.{dictionary_of}
 use Rattle.dx_macros.specs.Shown.{text_of, AreLawfulDefinitions}
 use Rattle.dx_ast.specs.declared.sequencing.Frames.{Frames}
 use Rattle.dx_macros.specs.Tree.{Tree, CallTree}
-use Rattle.dx_macros.specs.Expansion.{Scope, Expanded, top_spot, scope_within, expand_within, effects_of}
+use Rattle.dx_macros.specs.Expansion.{Scope, Expanded, top_spot, scope_within, expand_within, kept_of, effects_among}
 use Rattle.dx_macros.specs.declared.dictionary.Dictionary.{Dictionary}
 use Rattle.dx_graph.specs.Graph as plain
 use Rattle.dx_graph.specs.Graph.{Node}
@@ -53,7 +53,7 @@ at_top w place t s spot before old mid new r none is here same h =
     let e : expr_in s before t.value ≡ top_expanded w place t = ap₂ (λ (x : Setting) (names : List Name). expr_in x names t.value) (is ∙ ap (top_setting w place) here) none in
     record {
       gives = subst (λ (x : Expanded). Gives (graph_of new).nodes r x.result) e h.gives;
-      effects = h.effects ∙ ap₂ (λ (g : plain.Graph) (x : Expanded). unfolded g ++ x.effects) same e;
+      effects = h.effects ∙ ap₂ (λ (g : plain.Graph) (x : Expanded). unfolded g ++ effects_among x.kept) same e;
     }
 
 -- ---- definitions
@@ -226,18 +226,18 @@ abbrev effects_at : Option TopText → Dictionary → Frames → ℕ → List Ca
 effects_at None d f place = []
 effects_at (Some t) d f place =
     let plain = dictionary_of d in
-    (expand_within 64 plain.macros f (scope_within 64 plain.macros f plain.definitions place) t).effects
+    effects_among (expand_within 64 plain.macros f (scope_within 64 plain.macros f plain.definitions place) t).kept
 
 shown_at : (t : Option TopText) (w : World) (place : ℕ) → effects_in t w place ≡ effects_at t w.dictionary.now w.frames place
 unfolding top_scope
 shown_at None w place = refl
 shown_at (Some t) w place = refl
 
-plain_at : (t : Option TopText) (d : Dictionary) (f : Frames) → effects_at t d f (length (dictionary_of d).definitions) ≡ effects_of 64 (dictionary_of d) f t
+plain_at : (t : Option TopText) (d : Dictionary) (f : Frames) → effects_at t d f (length (dictionary_of d).definitions) ≡ effects_among (kept_of 64 (dictionary_of d) f t)
 plain_at None d f = refl
 plain_at (Some t) d f = refl
 
-pub last_effects : (w v : World) (place : ℕ) (t : Option TopText) → SameWorld w v → place ≡ length (dictionary_in w).definitions → effects_in t v place ≡ effects_of 64 (dictionary_in w) w.frames t
+pub last_effects : (w v : World) (place : ℕ) (t : Option TopText) → SameWorld w v → place ≡ length (dictionary_in w).definitions → effects_in t v place ≡ effects_among (kept_of 64 (dictionary_in w) w.frames t)
 last_effects w v place t same here =
     shown_at t v place
     ∙ ap₂ (λ (d : Dictionary) (f : Frames). effects_at t d f place) same.dictionary same.frames

@@ -2,7 +2,9 @@
 use Rattle.std.proofs.Common.{◌≡◌, ℕ, suc, ◌+◌, ◌<◌, ◌≤◌, List, [], ◌∷◌, ◌++◌, length, get_or, drop, map, refl, sym, ap, ap₂, subst, ◌∙◌, arith, append_assoc, append-nil, All}
 use Rattle.std.specs.Prelude.{Result, Ok, Err, IfOk, OnOk}
 use Rattle.std.proofs.lemmas.List.{map-append, drop_more, drop_all}
+use Rattle.std.proofs.lemmas.List.Elements.{filter-append}
 use Rattle.dx_base.specs.declared.function.Function.{Function}
+use Rattle.dx_base.specs.declared.function.Function.TheVariants as function
 use Rattle.dx_ast.specs.declared.expressions.Arg.{Arg, out-Arg}
 use Rattle.dx_ast.specs.declared.expressions.Call.{Call, out-Call}
 use Rattle.dx_ast.specs.declared.statements.Stmt.{Stmt}
@@ -13,19 +15,19 @@ use Rattle.dx_ast.specs.Plain.{plain_expr, plain_call, plain_args, plain_macro, 
 use Rattle.dx_ast.proofs.PlainLaws.{plain_call_out, plain_macro_out}
 use Rattle.dx_macros.specs.Dictionary.{Callee, Unknown, CallsMacro, CallsFunction, callee}
 use Rattle.dx_macros.specs.Expansion as plain
-use Rattle.dx_macros.specs.Expansion.{Expanded, ArgsExpanded, Scope}
+use Rattle.dx_macros.specs.Expansion.{Expanded, ArgsExpanded, Scope, effects_among}
 use Rattle.dx_macros.specs.Names.{calls_in, calls_of, calls_in_args, calls_after, count}
 use Rattle.dx_macros.specs.Site.{Spot, Step, Nth, next_step}
 use Rattle.dx_ast.specs.Table.{row_of}
 use Rattle.dx_base.specs.NameTable.{under_name}
-use Rattle.dx_macros.specs.Tree.{Tree, CallTree, TreeCall}
+use Rattle.dx_macros.specs.Tree.{Place, Tree, CallTree, TreeCall, Trees}
 use Rattle.dx_graph.specs.GraphView.{graph_of, spots_in}
 use Rattle.dx_graph.specs.Operands.{operand_tree, OperandFits, results_trees, Means, Gives, given_of, GivenFits, Own, OwnFits, scope_with}
 use Rattle.dx_graph.specs.Trails.{spot_under}
 use Rattle.dx_graph.specs.Unfolding.{unfolded}
 use Rattle.dx_graph.specs.declared.text.Stop.{Stop}
 use Rattle.dx_graph.specs.declared.text.Stop.TheVariants as stop
-use Rattle.dx_graph.specs.Expanding.{Setting, Needs, Starts, Grows, Expands, ExpandsArgs, ExpandsStatement, ExpandsBody, SameText, setting, scope_of, under_of, expr_in, call_in, args_in, statement_in, body_in, applied, function_call, function_expanded, inner_setting, dictionary_in, top_scope}
+use Rattle.dx_graph.specs.Expanding.{Setting, Needs, Starts, Grows, Expands, ExpandsArgs, ExpandsStatement, ExpandsBody, SameText, setting, scope_of, under_of, expr_in, call_in, args_in, statement_in, body_in, applied, function_call, function_expanded, own_effect, inner_setting, dictionary_in, top_scope}
 use Rattle.dx_graph.specs.declared.graph.Graph.{Graph}
 use Rattle.dx_graph.specs.declared.given.Given.{Given}
 use Rattle.dx_graph.specs.declared.operand.Operand.{Operand}
@@ -40,13 +42,30 @@ use Rattle.dx_graph.proofs.Taking.{all_push}
 abbrev calls_made : Graph → List CallTree
 calls_made g = unfolded (graph_of g)
 
+-- the effects among calls, and then those among others
+among_append : (xs ys : List CallTree) → effects_among (xs ++ ys) ≡ effects_among xs ++ effects_among ys
+among_append xs ys = filter-append (λ c. plain.is_effect (plain.function_of c)) xs ys
+
+-- behind what was made, the effects among calls and then those among others
+made_append : (made xs ys : List CallTree) → (made ++ effects_among xs) ++ effects_among ys ≡ made ++ effects_among (xs ++ ys)
+made_append made xs ys = append_assoc made (effects_among xs) (effects_among ys) ∙ ap (λ (zs : List CallTree). made ++ zs) (sym (among_append xs ys))
+
+-- a call is among its own effects where its function has one
+own_among : (f : Function) (p : Place) (ts : Trees) → own_effect f (TreeCall f p ts) ≡ effects_among (plain.own_kept f (TreeCall f p ts))
+own_among (function.Module m) p ts = refl
+own_among (function.Effect e) p ts = refl
+own_among function.Switch p ts = refl
+own_among function.Route p ts = refl
+own_among function.GetLocal p ts = refl
+own_among function.GetGlobal p ts = refl
+
 -- ---- arguments
 
 -- what was expanded of the arguments, and what the rest comes to, is the whole
 pub record ArgsSoFar (s : Setting) (before : List Name) (args : List Arg) (old now : Graph) (before_now : List Name) (gs : List Given) (rest : List Arg) : Type 0 where
   pub fits : All (GivenFits (graph_of now).nodes) gs
   pub given : map (given_of (graph_of now).nodes) gs ++ (args_in s before_now (plain_args rest)).given ≡ (args_in s before (plain_args args)).given
-  pub effects : unfolded (graph_of now) ++ (args_in s before_now (plain_args rest)).effects ≡ unfolded (graph_of old) ++ (args_in s before (plain_args args)).effects
+  pub effects : unfolded (graph_of now) ++ effects_among (args_in s before_now (plain_args rest)).kept ≡ unfolded (graph_of old) ++ effects_among (args_in s before (plain_args args)).kept
   pub calls : before_now ++ calls_in_args (plain_args rest) ≡ before ++ calls_in_args (plain_args args)
 
 append_three : {A : Type 0} (xs ys : List A) (x : A) → (xs ++ x ∷ []) ++ ys ≡ xs ++ x ∷ ys
@@ -72,8 +91,8 @@ args_one s before args old mid now before_mid before_now gs new a rest o r grows
           ∙ ap₂ (λ (ts : List plain.Given) (t : plain.Given). (ts ++ t ∷ []) ++ others.given) (given_later (graph_of mid).nodes ns gs grows so_far.fits) shown
           ∙ append_three (map (given_of (graph_of mid).nodes) gs) others.given (record { name = (out-Arg a).name; tree = first.result 0 })
           ∙ so_far.given;
-      effects = ap₂ (λ (xs : List CallTree) (x : ArgsExpanded). xs ++ x.effects) e.effects here
-          ∙ append_assoc (calls_made mid) first.effects others.effects
+      effects = ap₂ (λ (xs : List CallTree) (x : ArgsExpanded). xs ++ effects_among x.kept) e.effects here
+          ∙ made_append (calls_made mid) first.kept others.kept
           ∙ so_far.effects;
       calls = ap (λ (xs : List Name). xs ++ calls_in_args (plain_args rest)) b
           ∙ append_assoc before_mid (calls_in value) (calls_in_args (plain_args rest))
@@ -104,12 +123,12 @@ args_all s before args old now before_now gs rest e so_far =
 
 -- ---- calls
 
-call_effects : (u : plain.Under) (spot : Spot) (step : Step) (cache : ℕ) (c : Callee) (args : ArgsExpanded) → (plain.call_expanded u spot step cache c args).effects ≡ args.effects ++ (plain.call_expanded u spot step cache c (record { given = args.given; effects = [] })).effects
-call_effects u spot step cache Unknown args = sym (append-nil args.effects)
-call_effects u spot step cache (CallsMacro m) args = refl
-call_effects u spot step cache (CallsFunction h) args = refl
+call_kept : (u : plain.Under) (spot : Spot) (step : Step) (cache : ℕ) (c : Callee) (args : ArgsExpanded) → (plain.call_expanded u spot step cache c args).kept ≡ args.kept ++ (plain.call_expanded u spot step cache c (record { given = args.given; kept = [] })).kept
+call_kept u spot step cache Unknown args = sym (append-nil args.kept)
+call_kept u spot step cache (CallsMacro m) args = refl
+call_kept u spot step cache (CallsFunction h) args = refl
 
-call_result : (u : plain.Under) (spot : Spot) (step : Step) (cache : ℕ) (c : Callee) (args : ArgsExpanded) → (plain.call_expanded u spot step cache c args).result ≡ (plain.call_expanded u spot step cache c (record { given = args.given; effects = [] })).result
+call_result : (u : plain.Under) (spot : Spot) (step : Step) (cache : ℕ) (c : Callee) (args : ArgsExpanded) → (plain.call_expanded u spot step cache c args).result ≡ (plain.call_expanded u spot step cache c (record { given = args.given; kept = [] })).result
 call_result u spot step cache Unknown args = refl
 call_result u spot step cache (CallsMacro m) args = refl
 call_result u spot step cache (CallsFunction h) args = refl
@@ -129,7 +148,7 @@ call_made s now_s before before_mid c name args k old mid now gs r n a l b same 
     let is : call_in s before (plain_call c) ≡ whole = ap (λ (x : syntax.Call). call_in s before x) (plain_call_out c) in
     let given_args : args_in s before_mid (plain_args args) ≡ all = ap₂ (λ (xs : List Name) (ys : List Arg). args_in s xs (plain_args ys)) (b ∙ ap (λ (x : Name). before ++ x ∷ []) n) a in
     let args_e : ExpandsArgs all old mid gs = subst (λ (x : ArgsExpanded). ExpandsArgs x old mid gs) given_args e in
-    let own : Expanded = plain.call_expanded s.under s.spot (next_step cn before) cache what (record { given = all.given; effects = [] }) in
+    let own : Expanded = plain.call_expanded s.under s.spot (next_step cn before) cache what (record { given = all.given; kept = [] }) in
     let counted : k ≡ suc (count cn before) = l ∙ ap (λ (x : Name). suc (count x before)) n in
     let own_is : applied now_s cn cache k (map (given_of (graph_of mid).nodes) gs) ≡ own =
     ap (λ (x : Setting). applied x cn cache k (map (given_of (graph_of mid).nodes) gs)) same
@@ -137,8 +156,8 @@ call_made s now_s before before_mid c name args k old mid now gs r n a l b same 
     let own_e : Expands own mid now r = subst (λ (x : Expanded). Expands x mid now r) own_is h in
     subst (λ (x : Expanded). Expands x old now r) (sym is) (record {
       gives = record { fits = own_e.gives.fits; trees = own_e.gives.trees ∙ sym (call_result s.under s.spot (next_step cn before) cache what all) };
-      effects = own_e.effects ∙ ap (λ (xs : List CallTree). xs ++ own.effects) args_e.effects ∙ append_assoc (calls_made old) all.effects own.effects
-          ∙ sym (ap (λ (xs : List CallTree). calls_made old ++ xs) (call_effects s.under s.spot (next_step cn before) cache what all));
+      effects = own_e.effects ∙ ap (λ (xs : List CallTree). xs ++ effects_among own.kept) args_e.effects ∙ made_append (calls_made old) all.kept own.kept
+          ∙ sym (ap (λ (xs : List CallTree). calls_made old ++ effects_among xs) (call_kept s.under s.spot (next_step cn before) cache what all));
     })
 
 -- ---- bodies
@@ -146,7 +165,7 @@ call_made s now_s before before_mid c name args k old mid now gs r n a l b same 
 -- what was expanded of a body, and what the rest comes to, is the whole
 pub record BodySoFar (w : World) (s : Setting) (body : List Stmt) (old now : Graph) (t : Text) (before_now : List Name) (rest : List Stmt) : Type 0 where
   pub result : (results : List Name) → (body_in (setting w t now) results before_now (plain_stmts rest)).result ≡ (body_in s results [] (plain_stmts body)).result
-  pub effects : (results : List Name) → unfolded (graph_of now) ++ (body_in (setting w t now) results before_now (plain_stmts rest)).effects ≡ unfolded (graph_of old) ++ (body_in s results [] (plain_stmts body)).effects
+  pub effects : (results : List Name) → unfolded (graph_of now) ++ effects_among (body_in (setting w t now) results before_now (plain_stmts rest)).kept ≡ unfolded (graph_of old) ++ effects_among (body_in s results [] (plain_stmts body)).kept
 
 body_one : (w : World) (s after : Setting) (body : List Stmt) (old mid now : Graph) (t u : Text) (before_mid before_now : List Name) (x : Stmt) (rest : List Stmt) →
     ExpandsStatement (setting w t mid) before_mid (plain_stmt x) mid now (scope_of w u (graph_of now).nodes) → before_now ≡ calls_after before_mid (plain_stmt x) →
@@ -161,8 +180,8 @@ body_one w s after body old mid now t u before_mid before_now x rest e b same so
     λ results. ap₂ (λ (y : Setting) (xs : List Name). body_in y results xs (plain_stmts rest)) setting_is b in
     record {
       result = λ results. ap (λ (y : Expanded). y.result) (others_is results) ∙ so_far.result results;
-      effects = λ results. ap₂ (λ (xs : List CallTree) (y : Expanded). xs ++ y.effects) e.effects (others_is results)
-          ∙ append_assoc (calls_made mid) here.effects (others results).effects
+      effects = λ results. ap₂ (λ (xs : List CallTree) (y : Expanded). xs ++ effects_among y.kept) e.effects (others_is results)
+          ∙ made_append (calls_made mid) here.kept (others results).kept
           ∙ so_far.effects results;
     }
 
@@ -203,7 +222,7 @@ pub applied_function : (s : Setting) (name : Name) (cache k : ℕ) (gs : List pl
     function_expanded f (function_call s.spot f cache k gs) ≡ applied s name cache k gs
 applied_function s name cache k gs f e =
     ap (λ (n : Name). called_function s n cache k gs f) (name_called s.under.macros f name e)
-    ∙ sym (ap (λ (c : Callee). plain.call_expanded s.under s.spot (Nth name k) cache c (record { given = gs; effects = [] })) e)
+    ∙ sym (ap (λ (c : Callee). plain.call_expanded s.under s.spot (Nth name k) cache c (record { given = gs; kept = [] })) e)
 
 pub call_is_made : {E : Type 0} (s now_s : Setting) (before before_mid : List Name) (c : Call) (name : Name) (args : List Arg) (k : ℕ) (old mid now : Graph) (gs : List Given) (r : Result Results E) →
     name ≡ (out-Call c).name → args ≡ (out-Call c).args → k ≡ suc (count name before) → before_mid ≡ before ++ name ∷ [] → now_s ≡ s →
@@ -246,7 +265,7 @@ macro_made w t inner after old mid now m body results step gs (Ok x) l g same b 
     let e = expands results in
     subst (λ (y : Expanded). Expands y old now x) (sym here) (record {
       gives = record { fits = gives.fits; trees = gives.trees ∙ e.results };
-      effects = e.effects ∙ ap (λ (xs : List CallTree). xs ++ (body_in (setting w inner mid) results [] (plain_stmts body)).effects) (ap unfolded g);
+      effects = e.effects ∙ ap (λ (xs : List CallTree). xs ++ effects_among (body_in (setting w inner mid) results [] (plain_stmts body)).kept) (ap unfolded g);
     })
 macro_made w t inner after old mid now m body results step gs (Err x) l g same b p expands gives = gives
 

@@ -36,7 +36,7 @@ if_ok (Err e) go h = h
 same_nodes : (ts more : List Trail) (ps : List Placed) → ArePlaced (length ts) ps → map (plain_node (spots_of (ts ++ more))) ps ≡ map (plain_node (spots_of ts)) ps
 same_nodes ts more [] h = refl
 same_nodes ts more (p ∷ rest) h = λ i.
-    node_of (under_more ts more p.trail (h 0 p (omega arith)) i) p.node.what p.node.inputs p.node.cache p.k
+    node_of (under_more ts more p.trail (h 0 p (omega arith)) i) p.called p.node.what p.node.inputs p.node.cache p.k
     ∷ same_nodes ts more rest (λ k d lt. h (suc k) d (omega (arith, lt))) i
 
 -- more trails change no node

@@ -1,16 +1,16 @@
 -- Graphs that grow: what a node or an input stands for stays.
-use Rattle.std.proofs.Common.{◌≡◌, ℕ, suc, ◌<◌, ◌≤◌, List, [], ◌∷◌, ◌++◌, length, map, subst, Option, Some, None, refl, sym, ap, ap₂, arith}
+use Rattle.std.proofs.Common.{◌≡◌, ℕ, suc, ◌<◌, ◌≤◌, List, [], ◌∷◌, ◌++◌, length, take, drop, map, subst, Option, Some, None, refl, sym, ap, ap₂, ◌∙◌, arith}
 use Rattle.std.specs.Prelude.{All}
-use Rattle.std.proofs.lemmas.List.{get_or_append_left}
+use Rattle.std.proofs.lemmas.List.{get_or_append_left, take-append-drop, length-take-le}
 use Rattle.dx_macros.specs.Site.{Spot}
-use Rattle.dx_macros.specs.Tree.{ResultTree, AndTree}
+use Rattle.dx_macros.specs.Tree.{ResultTree, TreeCall, AndTree}
 use Rattle.dx_ast.specs.Table.{row_of}
 use Rattle.dx_graph.specs.Trails.{spot_under, no_steps, IsTrail}
-use Rattle.dx_graph.specs.Graph.{Node, no_node, node_at, MayTake}
-use Rattle.dx_graph.specs.Unfolding.{no_call, call_at, tree_of, trees_of, call_of, calls_of, IsBelow}
+use Rattle.dx_graph.specs.Graph.{Node, no_node, node_at, MayTake, AreNodes}
+use Rattle.dx_graph.specs.Unfolding.{no_call, call_at, tree_of, trees_of, call_of, calls_of, UnfoldByInputs, IsBelow}
 use Rattle.dx_graph.specs.declared.node.Input.{Input}
 use Rattle.dx_graph.specs.declared.node.Input.TheVariants as input
-use Rattle.dx_graph.proofs.Earlier.{kept_at, added_at}
+use Rattle.dx_graph.proofs.Earlier.{at, kept_at, added_at}
 
 -- ---- trails
 
@@ -46,6 +46,17 @@ node_stays ns more n h = get_or_append_left ns more no_node n h
 pub below : (ns : List Node) (n : ℕ) (i : Input) → MayTake ns n i → IsBelow n i
 below ns n (input.Constant c) h = tt
 below ns n (input.Result m result) h = h.0
+
+-- each node stands for the call that its inputs make it
+pub unfold_by_inputs : (nodes : List Node) → AreNodes nodes → UnfoldByInputs nodes
+unfold_by_inputs nodes all n h =
+    let node = node_at nodes n in
+    let before = take n nodes in
+    let count : length before ≡ n = length-take-le n nodes (omega (arith, h)) in
+    let whole : before ++ drop n nodes ≡ nodes = take-append-drop n nodes in
+    let under : All (IsBelow (length before)) node.inputs = subst (λ k. All (IsBelow k) node.inputs) (sym count) (λ k d lt. below nodes n _ ((all n h).inputs k d lt)) in
+    at call_of nodes n no_node no_call h
+    ∙ ap (TreeCall node.what node.place) (sym (trees_stay before (drop n nodes) node.inputs under) ∙ ap (λ ns. trees_of (calls_of ns) node.inputs) whole)
 
 -- what a node may take, a later one may take in the graph with more nodes
 pub may_take_later : (ns more : List Node) (m n : ℕ) (i : Input) → m ≤ length ns → m ≤ n → MayTake ns m i → MayTake (ns ++ more) n i

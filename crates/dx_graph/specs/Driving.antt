@@ -3,7 +3,7 @@ use Rattle.std.specs.Prelude.{◌≡◌, ℕ, suc, ◌<◌, List, [], ◌∷◌,
 use Rattle.dx_macros.specs.Site.{Spot}
 use Rattle.dx_macros.specs.Tree.{CallTree}
 use Rattle.dx_macros.specs.Dictionary.{TopText}
-use Rattle.dx_macros.specs.Expansion.{Expanded, under_top, expand_within}
+use Rattle.dx_macros.specs.Expansion.{Expanded, under_top, expand_within, effects_among}
 use Rattle.dx_graph.specs.GraphView.{graph_of}
 use Rattle.dx_graph.specs.Expanding.{Setting, Remembers, dictionary_in, top_scope}
 use Rattle.dx_graph.specs.declared.graph.Graph.{Graph}
@@ -21,7 +21,7 @@ top_expanded w place t = expand_within 64 (dictionary_in w).macros w.frames (top
 
 abbrev pub effects_in : Option TopText → World → ℕ → List CallTree
 effects_in None w place = []
-effects_in (Some t) w place = (top_expanded w place t).effects
+effects_in (Some t) w place = effects_among (top_expanded w place t).kept
 
 -- ---- what is remembered
 

@@ -5,6 +5,7 @@ use Rattle.dx_base.specs.NameTable.{under_name}
 use Rattle.dx_ast.specs.Classes.{Text as Name}
 use Rattle.dx_ast.specs.Syntax.{Expr, Call, Args, Stmt, Stmts}
 use Rattle.dx_base.specs.declared.function.Function.{Function}
+use Rattle.dx_base.specs.declared.function.Function.TheVariants as function
 use Rattle.dx_ast.specs.declared.statements.Param.{Param}
 use Rattle.dx_ast.specs.Table.{row_of}
 use Rattle.dx_macros.specs.Site.{Spot, Step, Nth}
@@ -98,12 +99,17 @@ function_call spot f cache k gs =
     TreeCall f (record { site = spot.base ++ Nth (row_of f).name k ∷ []; path = spot.path; cache = cache }) (plain.inputs (row_of f).params (row_of f).more 0 gs)
 
 abbrev pub function_expanded : Function → CallTree → Expanded
-function_expanded f c = record { result = plain.function_result (row_of f).results c; effects = plain.own_effect f c }
+function_expanded f c = record { result = plain.function_result (row_of f).results c; kept = plain.own_kept f c }
 
--- what the k-th call of a name comes to, the effects of its arguments left out
+-- the call where its function has an effect
+abbrev pub own_effect : Function → CallTree → List CallTree
+own_effect (function.Effect e) c = c ∷ []
+own_effect other c = []
+
+-- what the k-th call of a name comes to, what its arguments keep left out
 abbrev pub applied : Setting → Name → (cache : ℕ) → (k : ℕ) → List plain.Given → Expanded
 applied s name cache k gs =
-    plain.call_expanded s.under s.spot (Nth name k) cache (callee s.under.macros name) (record { given = gs; effects = [] })
+    plain.call_expanded s.under s.spot (Nth name k) cache (callee s.under.macros name) (record { given = gs; kept = [] })
 
 -- the setting of a macro's body at a call with this step
 abbrev pub inner_setting : Setting → Scope → ℕ → List Param → Step → List plain.Given → Setting
@@ -143,20 +149,20 @@ pub record Grows (old new : Graph) : Type 0 where
 -- the effects joined, and the results are these
 pub record Expands (e : Expanded) (old new : Graph) (r : Results) : Type 0 where
   pub gives : Gives (graph_of new).nodes r e.result
-  pub effects : unfolded (graph_of new) ≡ unfolded (graph_of old) ++ e.effects
+  pub effects : unfolded (graph_of new) ≡ unfolded (graph_of old) ++ plain.effects_among e.kept
 
 -- the same of arguments
 pub record ExpandsArgs (e : ArgsExpanded) (old new : Graph) (gs : List Given) : Type 0 where
   pub fits : All (GivenFits (graph_of new).nodes) gs
   pub given : map (given_of (graph_of new).nodes) gs ≡ e.given
-  pub effects : unfolded (graph_of new) ≡ unfolded (graph_of old) ++ e.effects
+  pub effects : unfolded (graph_of new) ≡ unfolded (graph_of old) ++ plain.effects_among e.kept
 
 -- the effects of a statement joined, and its targets have their meanings
 pub record ExpandsStatement (s : Setting) (before : List Name) (x : Stmt) (old new : Graph) (scope : Scope) : Type 0 where
   pub scope_after : scope ≡ plain.scope_after s.scope x (statement_in s before x).result
-  pub effects : unfolded (graph_of new) ≡ unfolded (graph_of old) ++ (statement_in s before x).effects
+  pub effects : unfolded (graph_of new) ≡ unfolded (graph_of old) ++ plain.effects_among (statement_in s before x).kept
 
 -- the effects of a body joined, and these are its results
 pub record ExpandsBody (e : Expanded) (old new : Graph) (result : ℕ → Tree) : Type 0 where
   pub results : result ≡ e.result
-  pub effects : unfolded (graph_of new) ≡ unfolded (graph_of old) ++ e.effects
+  pub effects : unfolded (graph_of new) ≡ unfolded (graph_of old) ++ plain.effects_among e.kept

@@ -24,16 +24,16 @@ pub record Graph : Type 0 where
 abbrev pub no_nodes : Graph
 no_nodes = record { nodes = []; effects = [] }
 
--- the k-th call of a function in a text
-abbrev pub node_of : Spot → Function → List Input → (cache : ℕ) → (k : ℕ) → Node
-node_of spot what inputs cache k = record {
+-- the k-th call of a function in a text, and what is called there; the two are the same in what a statement comes to
+abbrev pub node_of : Spot → (called : Function) → (what : Function) → List Input → (cache : ℕ) → (k : ℕ) → Node
+node_of spot called what inputs cache k = record {
   what = what;
-  place = record { site = spot.base ++ Nth (row_of what).name k ∷ []; path = spot.path; cache = cache };
+  place = record { site = spot.base ++ Nth (row_of called).name k ∷ []; path = spot.path; cache = cache };
   inputs = inputs;
 }
 
 abbrev pub no_node : Node
-no_node = node_of no_steps function.Switch [] 0 0
+no_node = node_of no_steps function.Switch function.Switch [] 0 0
 
 abbrev pub node_at : List Node → ℕ → Node
 node_at nodes n = slice_index_or nodes n no_node

@@ -8,7 +8,7 @@ use Rattle.dx_graph.specs.declared.node.Placed.{Placed}
 use Rattle.dx_graph.specs.declared.trail.Trail.{Trail}
 
 abbrev pub plain_node : List Spot → Placed → plain.Node
-plain_node spots p = plain.node_of (spot_under spots p.trail) p.node.what p.node.inputs p.node.cache p.k
+plain_node spots p = plain.node_of (spot_under spots p.trail) p.called p.node.what p.node.inputs p.node.cache p.k
 
 abbrev pub graph_with : List Trail → List Placed → List ℕ → plain.Graph
 graph_with trails nodes effects = record { nodes = map (plain_node (spots_of trails)) nodes; effects = effects }

@@ -1,8 +1,8 @@
 -- What the nodes of a graph stand for: trees of calls, in which nothing is shared.
-use Rattle.std.specs.Prelude.{ℕ, ◌<◌, List, [], ◌∷◌, map, slice_index_or}
+use Rattle.std.specs.Prelude.{◌≡◌, ℕ, ◌<◌, List, [], ◌∷◌, length, map, slice_index_or}
 use Rattle.dx_macros.specs.Tree.{Tree, ConstantTree, ResultTree, CallTree, TreeCall, Trees, NoTree, AndTree}
 use Rattle.dx_graph.specs.Earlier.{by_earlier}
-use Rattle.dx_graph.specs.Graph.{Node, Graph, no_node}
+use Rattle.dx_graph.specs.Graph.{Node, Graph, no_node, node_at}
 use Rattle.dx_graph.specs.declared.node.Input.{Input}
 use Rattle.dx_graph.specs.declared.node.Input.TheVariants as input
 
@@ -30,6 +30,10 @@ calls_of nodes = by_earlier call_of [] nodes
 -- the calls that the effects of a graph stand for, in order
 abbrev pub unfolded : Graph → List CallTree
 unfolded g = map (call_at (calls_of g.nodes)) g.effects
+
+-- each node stands for the call of its function at what its inputs stand for
+abbrev pub UnfoldByInputs : List Node → Type 0
+UnfoldByInputs nodes = (n : ℕ) → n < length nodes → call_at (calls_of nodes) n ≡ call_of (calls_of nodes) (node_at nodes n)
 
 -- the input is no result of node number n or of a later one
 abbrev pub IsBelow : ℕ → Input → Type 0

@@ -12,7 +12,7 @@ ghost use Rattle.dx_graph.specs.Graph.{Node};
 ghost use Rattle.dx_graph.specs.Unfolding as trees;
 ghost use Rattle.dx_graph.specs.GraphView.{graph_of, spots_in};
 ghost use Rattle.dx_graph.specs.Operands.{GivenFits, given_of, OwnFits, Gives};
-ghost use Rattle.dx_graph.specs.Expanding.{Ready, Remembers, Needs, Grows, Expands, ExpandsArgs, ExpandsStatement, ExpandsBody, IsCallOf, SameText, dictionary_in, top_scope, setting, inner_setting, scope_of, expr_in, call_in, args_in, body_in, function_call, function_expanded, applied};
+ghost use Rattle.dx_graph.specs.Expanding.{Ready, Remembers, Needs, Grows, Expands, ExpandsArgs, ExpandsStatement, ExpandsBody, IsCallOf, SameText, dictionary_in, top_scope, setting, inner_setting, scope_of, expr_in, call_in, args_in, body_in, function_call, function_expanded, own_effect, applied};
 
 use crate::given::Given;
 use crate::graph::Graph;
@@ -31,7 +31,7 @@ fn note_effect(graph: &mut Graph, f: Function, n: u32) -> Result<(), AllocError>
     requires { IsCallOf (graph_of graph.old).nodes n f }
     ensures grows { Grows graph.old graph.new }
     ensures nodes { (graph_of graph.new).nodes ≡ (graph_of graph.old).nodes }
-    ensures effects { OnOk result (trees.unfolded (graph_of graph.new) ≡ trees.unfolded (graph_of graph.old) ++ plain.own_effect f (trees.call_at (trees.calls_of (graph_of graph.old).nodes) n)) }
+    ensures effects { OnOk result (trees.unfolded (graph_of graph.new) ≡ trees.unfolded (graph_of graph.old) ++ own_effect f (trees.call_at (trees.calls_of (graph_of graph.old).nodes) n)) }
 {
     match f {
         Function::Effect(_) => graph.effect(n),

@@ -58,7 +58,7 @@ impl Graph {
     {
         let placed = &self.nodes[n as usize];
         let mut steps = self.trails.base(alloc, placed.trail)?;
-        steps.push(Step::Nth(name_of(placed.node.what), placed.k))?;
+        steps.push(Step::Nth(name_of(placed.called), placed.k))?;
         site_text(alloc, steps.as_slice())
     }
 
@@ -121,26 +121,27 @@ impl Graph {
     /// A node at the end, and its number: the k-th call of a function in the text of a trail.
     pub(crate) fn call(
         &mut self,
-        what: Function,
+        called: Function,
         inputs: Inputs,
         cache: u8,
         trail: Option<u32>,
         k: usize,
     ) -> Result<u32, AllocError>
         requires trail { IsTrail (length (spots_in self.old)) trail }
-        requires node { IsNode (graph_of self.old).nodes (length (graph_of self.old).nodes) (node_of (spot_under (spots_in self.old) trail) what inputs cache k) }
+        requires node { IsNode (graph_of self.old).nodes (length (graph_of self.old).nodes) (node_of (spot_under (spots_in self.old) trail) called called inputs cache k) }
         ensures number { IfOk result (λ n. n ≡ length (graph_of self.old).nodes) }
-        ensures ok { OnOk result (graph_of self.new ≡ with_node (node_of (spot_under (spots_in self.old) trail) what inputs cache k) (graph_of self.old)) }
+        ensures ok { OnOk result (graph_of self.new ≡ with_node (node_of (spot_under (spots_in self.old) trail) called called inputs cache k) (graph_of self.old)) }
         ensures err { OnErr result (graph_of self.new ≡ graph_of self.old) }
         ensures spots { spots_in self.new ≡ spots_in self.old }
     {
         let number = next_number(self.nodes.len())?;
         self.nodes.push(Placed {
             node: Node {
-                what,
+                what: called,
                 inputs,
                 cache,
             },
+            called,
             trail,
             k,
         })?;

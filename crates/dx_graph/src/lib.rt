@@ -7,6 +7,7 @@ mod expansion;
 mod given;
 mod graph;
 mod inputs;
+mod law;
 mod name;
 mod node;
 mod operand;
@@ -18,4 +19,5 @@ mod trails;
 
 pub use driver::expand;
 pub use graph::Graph;
+pub use law::nodes_unfold_by_inputs;
 pub use node::{Input, Inputs, Node};

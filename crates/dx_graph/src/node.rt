@@ -25,8 +25,10 @@ pub struct Node {
 #[derive(Drop)]
 pub struct Placed {
     pub node: Node,
+    /// The function that a script calls there, by whose name the site ends.
+    pub called: Function,
     /// The trail of the text that it stands in; None where that is a call at the top level.
     pub trail: Option<u32>,
-    /// It is the k-th call of its function in that text.
+    /// It is the k-th call of that function in that text.
     pub k: usize,
 }

@@ -12,7 +12,7 @@ use Rattle.dx_macros.specs.Site.{Step, Spot, next_step, first_target}
 use Rattle.dx_macros.specs.Names.{has, calls_in, calls_after, names_after}
 use Rattle.dx_macros.specs.Tree.{Tree}
 use Rattle.dx_macros.specs.Dictionary.{TopText, top_text, Macros, Dictionary, Callee, Unknown, CallsMacro, CallsFunction, callee, definition, param_names, signature_of_macro}
-use Rattle.dx_macros.specs.Expansion.{Scope, Given, ArgsExpanded, Expanded, Under, with_name, assigned, with_params, given_for, or_tree, default_tree, plainly, call_expanded, spot_of_call, expand_expr, expand_call, expand_args, expand_statement, scope_after, expand_body, before_body, results_in, enter_macro, under_top, expand_within, scope_within, effects_of, top_spot}
+use Rattle.dx_macros.specs.Expansion.{Scope, Given, ArgsExpanded, Expanded, Under, with_name, assigned, with_params, given_for, or_tree, default_tree, plainly, call_expanded, spot_of_call, expand_expr, expand_call, expand_args, expand_statement, scope_after, expand_body, before_body, results_in, enter_macro, under_top, expand_within, scope_within, kept_of, effects_among, top_spot}
 use Rattle.dx_macros.specs.Walk.{Walk, Walked, Goes, Faulty, and_then, fault_of_call, fault_of_signature, or_nesting, walked_by, arg_names, WalkUnder, Reader, enter_callee, walk_expr, walk_call, walk_args, walk_statement, walk_body, read_all, beside, pick, walk_macro, walk_at_top, walk_text, read_definition, reader_at, walk_begins, walk_of, fault_in, fault_of_text}
 use Rattle.dx_macros.specs.Budget.{more, BudgetSuffices}
 
@@ -193,7 +193,7 @@ module _ (macros : Macros) (frames : Frames) (defs : List TopText) (n : ℕ) whe
     callee_fits (CallsMacro m) calls names targets base spot step cache x y w w' f e g r =
         let s = left_suc calls m left names targets f in
         let h = H s.0 s.1 m y.given base (spot_of_call spot step) w w' g r in
-        let join : Expanded → Expanded = λ inner. record { result = inner.result; effects = y.effects ++ inner.effects } in
+        let join : Expanded → Expanded = λ inner. record { result = inner.result; kept = y.kept ++ inner.kept } in
         (h.0, ap (call_expanded u1 spot step cache (CallsMacro m)) e ∙ ap join h.1)
 
     mutual
@@ -223,7 +223,7 @@ module _ (macros : Macros) (frames : Frames) (defs : List TopText) (n : ℕ) whe
           let a = goes_inv (walk_expr u base read before 0 e w) (λ w1. walk_args u base read (before ++ calls_in e) args w1) w' g in
           let x = expr_fits e read σ τ F base spot before 0 w a.0 a.1 r in
           let y = args_fits args read σ τ F base spot (before ++ calls_in e) a.0 w' a.2 (ready_on p w a.0 r x.0) in
-          let join : Expanded → ArgsExpanded → ArgsExpanded = λ first rest. record { given = record { name = m; tree = first.result 0 } ∷ rest.given; effects = first.effects ++ rest.effects } in
+          let join : Expanded → ArgsExpanded → ArgsExpanded = λ first rest. record { given = record { name = m; tree = first.result 0 } ∷ rest.given; kept = first.kept ++ rest.kept } in
           (grows_then w a.0 w' x.0 y.0, ap₂ join x.1 y.1)
 
     statement_fits : (x : Stmt) (read : Reader) (σ τ : Scope) → Fits p read σ τ → (base : List Step) (spot : Spot) (before : List Text) (w w' : Walk) → walk_statement u base read before x w ≡ Goes w' → Ready p w → Grows w w' × (expand_statement u1 spot σ before x ≡ expand_statement u2 spot τ before x)
@@ -238,7 +238,7 @@ module _ (macros : Macros) (frames : Frames) (defs : List TopText) (n : ℕ) whe
     body_fits : (ss : Stmts) (top : Reader) (s t : Scope) → Fits p top s t → (results own : List Text) (σ τ : Scope) → Covers own s t σ τ → (base : List Step) (spot : Spot) (before : List Text) (w w' : Walk) → walk_body u base top results own before ss w ≡ Goes w' → Ready p w → Grows w w' × (expand_body u1 spot results σ before ss ≡ expand_body u2 spot results τ before ss)
     body_fits NoStmt top s t F results own σ τ c base spot before w w' g r =
         let h = results_fit p (beside own top) σ τ (beside_fits p top s t F own σ τ c) results w w' g r in
-        let plain_end : (ℕ → Tree) → Expanded = λ f. record { result = f; effects = [] } in
+        let plain_end : (ℕ → Tree) → Expanded = λ f. record { result = f; kept = [] } in
         (h.0, ap plain_end (fun_eq (results_in results σ) (results_in results τ) h.1))
     body_fits (AndStmt x ss) top s t F results own σ τ c base spot before w w' g r =
         let a = goes_inv (walk_statement u base (beside own top) before x w) (λ w1. walk_body u base top results (names_after own x) (calls_after before x) ss w1) w' g in
@@ -247,7 +247,7 @@ module _ (macros : Macros) (frames : Frames) (defs : List TopText) (n : ℕ) whe
         let f2 = expand_statement u2 spot τ before x in
         let c2 = covers_after x own s t σ τ c f1.result f2.result (ap (λ (h : Expanded). h.result) y.1) in
         let z = body_fits ss top s t F results (names_after own x) (scope_after σ x f1.result) (scope_after τ x f2.result) c2 base spot (calls_after before x) a.0 w' a.2 (ready_on p w a.0 r y.0) in
-        (grows_then w a.0 w' y.0 z.0, ap₂ (λ (h k : Expanded). before_body h.effects k) y.1 z.1)
+        (grows_then w a.0 w' y.0 z.0, ap₂ (λ (h k : Expanded). before_body h.kept k) y.1 z.1)
 
   macro_fits : (p : ℕ) (top : Reader) (s t : Scope) → Fits p top s t → (left : ℕ) → Enters p left (walk_macro macros top left) (enter_macro macros frames s (more left n)) (enter_macro macros frames t left)
   macro_fits p top s t F zero l e m gs base spot w w' g r = cc
@@ -300,15 +300,15 @@ goes_of : (a : Walked) → fault_in a ≡ None → (w : Walk) × (a ≡ Goes w)
 goes_of (Goes w) e = (w, refl)
 goes_of (Faulty s f) e = cc
 
-of_text : (d : Dictionary) (frames : Frames) (n : ℕ) (o : Option TopText) → fault_of_text d o ≡ None → effects_of (more 64 n) d frames o ≡ effects_of 64 d frames o
+of_text : (d : Dictionary) (frames : Frames) (n : ℕ) (o : Option TopText) → fault_of_text d o ≡ None → kept_of (more 64 n) d frames o ≡ kept_of 64 d frames o
 of_text d frames n None e = refl
 of_text d frames n (Some x) e =
     let p = length d.definitions in
     let g = goes_of (walk_of d x) e in
     let y = expr_at_top d.macros frames d.definitions n p (reader_at d.macros d.definitions p) _ _ (reader_fits d.macros frames d.definitions n p) x.value (first_target x.targets) (top_spot x.targets) (length x.targets) (walk_begins d) g.0 g.1
     (begins_ready d.macros frames d.definitions n p p (walk_begins d) refl) in
-    ap (λ (z : Expanded). z.effects) y.1
+    ap (λ (z : Expanded). z.kept) y.1
 
 -- the law
 pub budget_suffices : (d : Dictionary) (frames : Frames) (s : Stmt) → BudgetSuffices d frames s
-budget_suffices d frames s e n = of_text d frames n (top_text s) e
+budget_suffices d frames s e n = ap effects_among (of_text d frames n (top_text s) e)

@@ -1,5 +1,6 @@
 -- What the names of a script mean, and the effects of a statement.
-use Rattle.std.specs.Prelude.{ℕ, zero, suc, ℤ, List, [], ◌∷◌, ◌++◌, length, drop, Option, Some, None, Bool, false, nat_lt, if◌then◌else◌}
+use Rattle.std.specs.Prelude.{ℕ, zero, suc, ℤ, List, [], ◌∷◌, ◌++◌, length, drop, Option, Some, None, Bool, true, false, nat_lt, if◌then◌else◌}
+use Rattle.std.specs.List.{filter}
 use Rattle.std.specs.Str.{bytes_eq}
 use Rattle.dx_base.specs.declared.function.Function.{Function}
 use Rattle.dx_base.specs.declared.function.Function.TheVariants as function
@@ -35,10 +36,10 @@ Scope = Text → Tree
 abbrev pub no_scope : Scope
 no_scope name = null_tree
 
--- what an expression comes to: its results, by number from 0, and the effects in it, in order
+-- what an expression comes to: its results, by number from 0, and the calls in it that are kept, in order
 pub record Expanded : Type 0 where
   pub result : ℕ → Tree
-  pub effects : List CallTree
+  pub kept : List CallTree
 
 -- one result
 abbrev pub only : Tree → ℕ → Tree
@@ -46,7 +47,7 @@ only t zero = t
 only t (suc n) = null_tree
 
 abbrev pub plainly : Tree → Expanded
-plainly t = record { result = only t; effects = [] }
+plainly t = record { result = only t; kept = [] }
 
 -- ---- arguments
 
@@ -57,7 +58,7 @@ pub record Given : Type 0 where
 
 pub record ArgsExpanded : Type 0 where
   pub given : List Given
-  pub effects : List CallTree
+  pub kept : List CallTree
 
 abbrev pub is_named : Option Text → Text → Bool
 is_named None p = false
@@ -135,20 +136,27 @@ spot_of_call spot step = record { base = spot.base ++ step ∷ []; path = spot.p
 abbrev pub function_result : ℕ → CallTree → ℕ → Tree
 function_result results c i = if nat_lt i results then ResultTree i c else null_tree
 
-abbrev pub own_effect : Function → CallTree → List CallTree
-own_effect (function.Effect e) c = c ∷ []
-own_effect other c = []
+abbrev pub is_effect : Function → Bool
+is_effect (function.Effect e) = true
+is_effect other = false
 
--- a call: its arguments' effects, then those of the macro's body, or its own
+-- a call is kept where it counts beside what takes its results: where it is an effect
+abbrev pub is_kept : Function → Bool
+is_kept f = is_effect f
+
+abbrev pub own_kept : Function → CallTree → List CallTree
+own_kept f c = if is_kept f then c ∷ [] else []
+
+-- a call: what its arguments keep, then what the macro's body keeps, or the call itself
 abbrev pub call_expanded : Under → Spot → Step → ℕ → Callee → ArgsExpanded → Expanded
-call_expanded u spot step cache Unknown args = record { result = only null_tree; effects = args.effects }
+call_expanded u spot step cache Unknown args = record { result = only null_tree; kept = args.kept }
 call_expanded u spot step cache (CallsMacro m) args =
     let inner = u.enter m args.given (spot_of_call spot step) in
-    record { result = inner.result; effects = args.effects ++ inner.effects }
+    record { result = inner.result; kept = args.kept ++ inner.kept }
 call_expanded u spot step cache (CallsFunction f) args =
     let place : Place = record { site = spot.base ++ step ∷ []; path = spot.path; cache = cache } in
     let c = TreeCall f place (inputs (row_of f).params (row_of f).more 0 args.given) in
-    record { result = function_result (row_of f).results c; effects = args.effects ++ own_effect f c }
+    record { result = function_result (row_of f).results c; kept = args.kept ++ own_kept f c }
 
 -- `before` are the calls that stand before in the same text
 abbrev mutual
@@ -164,11 +172,11 @@ abbrev mutual
 
   -- a call that stands as an argument means its first result
   pub expand_args : Under → Spot → Scope → List Text → Args → ArgsExpanded
-  expand_args u spot scope before NoArg = record { given = []; effects = [] }
+  expand_args u spot scope before NoArg = record { given = []; kept = [] }
   expand_args u spot scope before (AndArg n e rest) =
       let first = expand_expr u spot scope before e in
       let others = expand_args u spot scope (before ++ calls_in e) rest in
-      record { given = record { name = n; tree = first.result 0 } ∷ others.given; effects = first.effects ++ others.effects }
+      record { given = record { name = n; tree = first.result 0 } ∷ others.given; kept = first.kept ++ others.kept }
 
 -- ---- macro bodies: each statement in the scope that the earlier ones made
 
@@ -188,13 +196,13 @@ results_in (r ∷ rest) scope zero = scope r
 results_in (r ∷ rest) scope (suc i) = results_in rest scope i
 
 abbrev pub before_body : List CallTree → Expanded → Expanded
-before_body effects rest = record { result = rest.result; effects = effects ++ rest.effects }
+before_body kept rest = record { result = rest.result; kept = kept ++ rest.kept }
 
 abbrev pub expand_body : Under → Spot → List Text → Scope → List Text → Stmts → Expanded
-expand_body u spot results scope before NoStmt = record { result = results_in results scope; effects = [] }
+expand_body u spot results scope before NoStmt = record { result = results_in results scope; kept = [] }
 expand_body u spot results scope before (AndStmt s rest) =
     let here = expand_statement u spot scope before s in
-    before_body here.effects (expand_body u spot results (scope_after scope s here.result) (calls_after before s) rest)
+    before_body here.kept (expand_body u spot results (scope_after scope s here.result) (calls_after before s) rest)
 
 -- how calls of macros are expanded where that many macro steps are left, at a place whose names mean `top`
 abbrev pub enter_macro : Macros → Frames → Scope → ℕ → Macro → List Given → Spot → Expanded
@@ -222,13 +230,23 @@ scope_within steps macros frames definitions (suc i) =
     let t = definition definitions i in
     assigned t.targets 0 (expand_within steps macros frames top t).result top
 
--- definitions that are read have no effects
-abbrev pub effects_of : ℕ → Dictionary → Frames → Option TopText → List CallTree
-effects_of steps d frames None = []
-effects_of steps d frames (Some t) = (expand_within steps d.macros frames (scope_within steps d.macros frames d.definitions (length d.definitions)) t).effects
+-- definitions that are read keep no call
+abbrev pub kept_of : ℕ → Dictionary → Frames → Option TopText → List CallTree
+kept_of steps d frames None = []
+kept_of steps d frames (Some t) = (expand_within steps d.macros frames (scope_within steps d.macros frames d.definitions (length d.definitions)) t).kept
+
+-- the calls that a statement keeps, in order
+abbrev pub kept_within : ℕ → Dictionary → Frames → Stmt → List CallTree
+kept_within steps d frames s = kept_of steps d frames (top_text s)
+
+abbrev pub function_of : CallTree → Function
+function_of (TreeCall f place args) = f
+
+abbrev pub effects_among : List CallTree → List CallTree
+effects_among calls = filter (λ c. is_effect (function_of c)) calls
 
 abbrev pub effects_within : ℕ → Dictionary → Frames → Stmt → List CallTree
-effects_within steps d frames s = effects_of steps d frames (top_text s)
+effects_within steps d frames s = effects_among (kept_within steps d frames s)
 
 -- the effects of a statement, in order; a site has at most 64 macro steps
 abbrev pub effects : Dictionary → Frames → Stmt → List CallTree

@@ -17,7 +17,7 @@ call-requires-clause-node c = record {
 pub returns-clause-unfolds : goal.returns-clause-unfolds
 returns-clause-unfolds c =
     let old = graph_of c.args.graph.now in
-    let node = node_of (spot_under (spots_in c.args.graph.now) c.args.trail) c.args.f c.in_ok-inputs.inputs c.args.cache c.args.k in
+    let node = node_of (spot_under (spots_in c.args.graph.now) c.args.trail) c.args.f c.args.f c.in_ok-inputs.inputs c.args.cache c.args.k in
     node_unfolds c.call.result old (graph_of c.call.new.self) node _ c.call.ensures.number c.call.ensures.ok (ap (TreeCall c.args.f node.place) (c.in_ok-inputs.ensures.trees old.nodes))
 
 pub returns-clause-effects : goal.returns-clause-effects

@@ -11,7 +11,7 @@ invariant_of-self c =
     let self = c.args.self.now in
     let old = self.nodes.items in
     let new = c.push.new.self.items in
-    let p : Placed = record { node = record { what = c.args.what; inputs = c.args.inputs; cache = c.args.cache }; trail = c.args.trail; k = c.args.k } in
+    let p : Placed = record { node = record { what = c.args.called; inputs = c.args.inputs; cache = c.args.cache }; called = c.args.called; trail = c.args.trail; k = c.args.k } in
     let count = length self.trails in
     let placed : IsTrail count c.args.trail = subst (λ n. IsTrail n c.args.trail) (count_spots self.trails) c.requires.trail in
     let Few : List Placed → Type 0 = λ ps. length ps < 4294967296 in
