@@ -15,7 +15,7 @@ use Rattle.dx_ast.specs.Syntax as plain
 use Rattle.dx_macros.specs.Dictionary.{Dictionary, definition, Callee, callee, callee_by}
 use Rattle.dx_macros.specs.DictionaryView.{dictionary_of}
 use Rattle.dx_macros.specs.Shown.{text_of}
-use Rattle.dx_macros.specs.Places.{Marks, flags}
+use Rattle.dx_base.specs.Places.{Marks, flags}
 use Rattle.dx_macros.specs.Machine as m
 use Rattle.dx_macros.specs.MachineView.{plain_job, IsPushed, PushesJob, IsEntered, IsCounted, IsLeft}
 use Rattle.dx_macros.specs.Weight.{expr_weight, call_weight, macro_weight, callee_weight, job_weight, jobs_weight, unread, chances, weight, Bounds, IsFit, FallsTo, Falls, Pays}

@@ -1,5 +1,4 @@
 pub mod Names
-pub mod Places
 pub mod Site
 pub mod Tree
 pub mod Dictionary

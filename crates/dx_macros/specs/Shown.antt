@@ -3,7 +3,6 @@ use Rattle.std.specs.Prelude.{◌≡◌, ◌≤◌, ℕ, true, List, [], ◌∷�
 use Rattle.std.specs.List.{Contains}
 use Rattle.std.specs.List.Sorted.{IsNonDecreasing}
 use Rattle.std.specs.Str.{bytes_eq}
-use Rattle.std.specs.Borrow.{Bor}
 use Rattle.std.specs.declared.alloc.Global.{Global}
 use Rattle.std.specs.HashMap.{HashMap}
 use Rattle.dx_base.specs.NameTable.{under_name}
@@ -12,21 +11,8 @@ use Rattle.dx_ast.specs.declared.statements.MacroDef.{MacroDef}
 use Rattle.dx_ast.specs.Classes.{Text}
 use Rattle.dx_ast.specs.Plain.{plain_expr, plain_macro}
 use Rattle.dx_ast.specs.Lawful.{IsLawfulAssign, IsLawfulMacro}
-use Rattle.dx_macros.specs.Names.{has, count}
+use Rattle.dx_base.specs.NameLists.{has, count}
 use Rattle.dx_macros.specs.Dictionary.{TopText, definition}
-
--- ---- names
-
-abbrev pub texts : List (Bor (List ℕ)) → List Text
-texts ns = map (λ n. n.now) ns
-
-abbrev pub or_zero : Option ℕ → ℕ
-or_zero (Some n) = n
-or_zero None = 0
-
--- under each name stands how often it is in the list
-abbrev pub IsCounted : {S : Type 0} → HashMap (Vec ℕ Global) ℕ S → List Text → Type 0
-IsCounted times names = (name : Text) → or_zero (under_name times name) ≡ count name names
 
 -- ---- definitions and macros
 

@@ -1,6 +1,6 @@
 ghost use Rattle.std.specs.Prelude.{◌≡◌, ◌<◌, ◌≤◌, ◌∷◌, ◌++◌, [], List, map, length, nat_lt, true, false, OnOk, OnErr, IfSome};
 ghost use Rattle.std.specs.List.Sorted.{IsNonDecreasing, IsPartitionPoint};
-ghost use Rattle.dx_macros.specs.Names.{has};
+ghost use Rattle.dx_base.specs.NameLists.{has};
 ghost use Rattle.dx_macros.specs.Dictionary.{TopText, last_named};
 ghost use Rattle.dx_macros.specs.Shown.{text_of, index_of, with_place, noted, ArePlaces, Indexes};
 

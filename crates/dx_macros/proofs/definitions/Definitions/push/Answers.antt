@@ -1,10 +1,9 @@
 use Rattle.std.proofs.Common.{◌≡◌, ◌∙◌, ◌∷◌, ◌++◌, [], ℕ, List, length, map, ap, ap₂, sym, subst, arith}
-use Rattle.std.proofs.lemmas.List.{length-map}
+use Rattle.std.proofs.lemmas.List.{length-map, map-append}
 use Rattle.dx_ast.specs.declared.statements.Assign.{Assign}
 use Rattle.dx_ast.specs.Classes.{Text}
 use Rattle.dx_macros.specs.Dictionary.{TopText}
 use Rattle.dx_macros.specs.Shown.{Index, text_of, index_of, noted, Indexes}
-use Rattle.dx_macros.proofs.Counting.{map-snoc}
 use Rattle.dx_macros.proofs.Noting.{joins}
 use Rattle.dx_macros.proofs.definitions.Definitions.push.Goals as goal
 
@@ -28,5 +27,5 @@ invariant_of-self-2 c =
     let place = here ∙ sym (length-map list text_of) in
     let all = c.in_ok-note_all.ensures.ok ∙ ap₂ (λ (names : List Text) (p : ℕ). noted (index_of c.self.inside.places) names p) c.as_slice.ensures place in
     let defs = map text_of list ++ text_of c.args.a ∷ [] in
-    subst (λ (defs : List TopText). Indexes (index_of c.note_all.new.places) defs) (sym (ap (map text_of) c.in_ok-push.ensures.items ∙ map-snoc text_of list c.args.a))
+    subst (λ (defs : List TopText). Indexes (index_of c.note_all.new.places) defs) (sym (ap (map text_of) c.in_ok-push.ensures.items ∙ map-append text_of list (c.args.a ∷ [])))
     (subst (λ (index : Index). Indexes index defs) (sym all) (joins (index_of c.self.inside.places) (map text_of list) (text_of c.args.a) c.self.invariant))
