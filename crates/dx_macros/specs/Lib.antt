@@ -6,6 +6,7 @@ pub mod Expansion
 pub mod Walk
 pub mod Budget
 pub mod Shown
+pub mod Held
 pub mod Steps
 pub mod Machine
 pub mod DictionaryView
