@@ -77,7 +77,7 @@ fn walk_assign<'a>(alloc: Global, d: &'a Dictionary, a: &'a Assign) -> Result<Sp
 }
 
 // A statement that isn't executed has no calls, and reads nothing.
-fn walk<'a>(alloc: Global, d: &'a Dictionary, s: &'a Stmt) -> Result<Sparse<()>, Stop<'a>>
+fn walk_statement<'a>(alloc: Global, d: &'a Dictionary, s: &'a Stmt) -> Result<Sparse<()>, Stop<'a>>
     ensures finds { Finds (first_fault (dictionary_of d.now) (plain_stmt s.now)) result }
     ensures reads { IfOk result (λ read. flags read ≡ definitions_read (dictionary_of d.now) (plain_stmt s.now)) }
 {
@@ -90,19 +90,33 @@ fn walk<'a>(alloc: Global, d: &'a Dictionary, s: &'a Stmt) -> Result<Sparse<()>,
 }
 
 impl Dictionary {
+    /// One walk of a statement before its execution: which definitions it reads, those at the marked places in the order
+    /// in which the definitions joined, or its first static fault with the text of the site of the call that has it.
+    /// A statement that isn't executed has no fault and reads nothing.
+    pub fn walk(&self, alloc: Global, s: &Stmt) -> Result<Sparse<()>, CheckFail>
+        requires lawful { IsLawful (plain_stmt s.now) }
+        ensures fault { Checks (first_fault (dictionary_of self.now) (plain_stmt s.now)) result }
+        ensures reads { IfOk result (λ read. flags read ≡ definitions_read (dictionary_of self.now) (plain_stmt s.now)) }
+    {
+        match walk_statement(alloc, self, s) {
+            Ok(read) => Ok(read),
+            Err(Stop::Memory) => Err(CheckFail::Memory),
+            Err(Stop::Fault(site, fault)) => {
+                let text = site_text(alloc, site.as_slice())?;
+                Err(CheckFail::Fault(text, fault))
+            }
+        }
+    }
+
     /// The first static fault of a statement, and the text of the site of the call that has it: an Ok where there is
     /// none. A statement that isn't executed has none.
     pub fn check(&self, alloc: Global, s: &Stmt) -> Result<(), CheckFail>
         requires lawful { IsLawful (plain_stmt s.now) }
         ensures { Checks (first_fault (dictionary_of self.now) (plain_stmt s.now)) result }
     {
-        match walk(alloc, self, s) {
+        match self.walk(alloc, s) {
             Ok(_) => Ok(()),
-            Err(Stop::Memory) => Err(CheckFail::Memory),
-            Err(Stop::Fault(site, fault)) => {
-                let text = site_text(alloc, site.as_slice())?;
-                Err(CheckFail::Fault(text, fault))
-            }
+            Err(fail) => Err(fail),
         }
     }
 
@@ -113,10 +127,10 @@ impl Dictionary {
         requires no_fault { first_fault (dictionary_of self.now) (plain_stmt s.now) ≡ None }
         ensures { IfOk result (λ read. flags read ≡ definitions_read (dictionary_of self.now) (plain_stmt s.now)) }
     {
-        match walk(alloc, self, s) {
+        match self.walk(alloc, s) {
             Ok(read) => Ok(read),
-            Err(Stop::Memory) => Err(AllocError),
-            Err(Stop::Fault(_, _)) => unreachable!(),
+            Err(CheckFail::Memory) => Err(AllocError),
+            Err(CheckFail::Fault(_, _)) => unreachable!(),
         }
     }
 }

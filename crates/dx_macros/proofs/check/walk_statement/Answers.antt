@@ -6,7 +6,7 @@ use Rattle.dx_macros.specs.Places.{flags}
 use Rattle.dx_macros.specs.Walk.{walk_by, read_in, fault_of_text}
 use Rattle.dx_macros.proofs.AtPlaces.{none_marked}
 use Rattle.dx_macros.proofs.Doing.{no_text}
-use Rattle.dx_macros.proofs.check.walk.Goals as goal
+use Rattle.dx_macros.proofs.check.walk_statement.Goals as goal
 
 pub returns-in_default : goal.returns-in_default
 returns-in_default c =
