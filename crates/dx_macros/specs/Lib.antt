@@ -1,5 +1,6 @@
 pub mod Names
 pub mod Site
+pub mod SiteBound
 pub mod Tree
 pub mod Dictionary
 pub mod Expansion

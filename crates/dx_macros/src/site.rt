@@ -1,5 +1,7 @@
+//! The steps that lead to a call, and their text.
 ghost use Rattle.std.specs.Prelude.{◌≡◌, ◌++◌, ◌∷◌, map, OnOk, IfOk};
 ghost use Rattle.dx_macros.specs.Site.{step_text, steps_text};
+ghost use Rattle.dx_macros.specs.SiteBound.{IsShortSite};
 ghost use Rattle.dx_macros.specs.Steps.{plain_step, plain_steps, joined};
 
 use dx_base::Bytes;
@@ -28,9 +30,10 @@ fn write_step<'a>(text: &mut Vec<u8>, step: Step<'a>) -> Result<(), AllocError>
     }
 }
 
-/// The steps joined by `/`.
+/// The steps joined by `/`: at most 277 bytes for each step, where the names are lawful.
 pub fn site_text<'a>(alloc: Global, steps: &[Step<'a>]) -> Result<Bytes, AllocError>
-    ensures { IfOk result (λ text. text ≡ steps_text (plain_steps steps.now)) }
+    ensures text { IfOk result (λ text. text ≡ steps_text (plain_steps steps.now)) }
+    ensures bound { IfOk result (λ text. IsShortSite (plain_steps steps.now) text) }
 {
     let mut text = Vec::new(alloc);
     let mut is_first = true;
