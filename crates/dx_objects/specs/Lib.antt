@@ -1,5 +1,6 @@
 pub mod Nodes
 pub mod Shown
+pub mod Order
 pub mod PartsFall
 pub mod View
 pub mod Falls
@@ -8,3 +9,4 @@ pub mod Makes
 pub mod With
 pub mod Values
 pub mod Runs
+pub mod Members
