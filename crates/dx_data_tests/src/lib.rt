@@ -5,3 +5,13 @@
 mod arrays;
 #[cfg(test)]
 mod arrays_made;
+#[cfg(test)]
+mod objects;
+#[cfg(test)]
+mod objects_library;
+#[cfg(test)]
+mod objects_made;
+#[cfg(test)]
+mod objects_names;
+#[cfg(test)]
+mod objects_small;

@@ -5,4 +5,3 @@ pub mod LawfulLaws
 pub mod FindLaws
 pub mod OrderLaws
 pub mod ValuesLaws
-pub mod MembersLaws

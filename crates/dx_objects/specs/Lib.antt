@@ -9,4 +9,3 @@ pub mod Makes
 pub mod With
 pub mod Values
 pub mod Runs
-pub mod Members

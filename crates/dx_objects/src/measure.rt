@@ -200,8 +200,8 @@ impl Body {
             }
             Body::Series(parts) => {
                 let positions = parts.position_bytes();
-                let all = parts.sums().and(rest);
-                all.with_own(positions.saturating_add(64))
+                let both = parts.sums().and(rest);
+                both.with_own(positions.saturating_add(64))
             }
         }
     }

@@ -100,7 +100,7 @@ fn copy_of_name(alloc: Global, name: &Option<Bytes>) -> Result<Option<Bytes>, Al
 
 impl Part {
     // The same part, which shares its object.
-    fn copy(&self, alloc: Global) -> Result<Part, AllocError>
+    pub(crate) fn copy(&self, alloc: Global) -> Result<Part, AllocError>
         ensures { IfOk result (λ p. spec.part p.name p.position p.object.value spec.no_parts ≡ spec.part self.now.name self.now.position self.now.object.value spec.no_parts) }
     {
         Ok(Part {
