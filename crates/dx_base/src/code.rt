@@ -1,3 +1,5 @@
+//! Why a module, an effect or a file is refused.
+
 /// Why a module, an effect or a selector refuses its inputs. `BadFile` and `BadExpression` hold the offset at which
 /// the file or the expression goes wrong, counted in bytes from 0.
 #[derive(Clone, Copy, Debug, PartialEq, Eq)]

@@ -1,3 +1,4 @@
+//! Lists of any elements.
 ghost use Rattle.std.specs.Prelude.{◌≡◌, ◌==◌, [], ◌∷◌, ◌++◌, length, OnOk, OnErr};
 
 use std::alloc::{AllocError, Global};

@@ -1,3 +1,5 @@
+//! The tokens of scripts, and why a text is no script.
+
 use crate::Bytes;
 
 /// A place in the text of a script: how many bytes are before it, its line, and its column in that line. Lines and

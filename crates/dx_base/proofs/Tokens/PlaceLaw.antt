@@ -16,14 +16,14 @@ use Rattle.dx_base.specs.Tokens.Standing.{IsLexeme, IsError, HasPlaces, HasPlace
 use Rattle.dx_base.specs.Tokens.Reading.{IsReached, start, behind_token}
 use Rattle.dx_base.proofs.Tokens.StandingLaw.{only_lexeme}
 
-step_offset : (p : Place) (b : ℕ) → (behind p b).offset ≡ p.offset + 1
+pub step_offset : (p : Place) (b : ℕ) → (behind p b).offset ≡ p.offset + 1
 step_offset p b = by_test (b == 10)
   where
     by_test : (newline : Bool) → let step : Place = cond newline (record { offset = p.offset + 1; line = p.line + 1; column = 1 }) (record { offset = p.offset + 1; line = p.line; column = p.column + 1 }) in step.offset ≡ p.offset + 1
     by_test true = refl
     by_test false = refl
 
-offset_behind : (p : Place) (bytes : List ℕ) → (behind_all p bytes).offset ≡ p.offset + length bytes
+pub offset_behind : (p : Place) (bytes : List ℕ) → (behind_all p bytes).offset ≡ p.offset + length bytes
 offset_behind p [] = omega arith
 offset_behind p (b ∷ rest) = omega (arith, offset_behind (behind p b) rest, step_offset p b)
 
