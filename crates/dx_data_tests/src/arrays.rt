@@ -1,8 +1,6 @@
 // Arrays of each class: what they hand out, their values, their stated size, and which are refused.
 use crate::arrays_made::{cells, constant, line, plain, points, shape};
-use dx_arrays::{
-    Array, ArrayClass, ArrayError, ElemType, cell_count, has_room, point_count,
-};
+use dx_arrays::{Array, ArrayClass, ArrayError, ElemType, cell_count, has_room, point_count};
 use std::alloc::{AllocError, Global};
 use std::test::Fail;
 
@@ -132,8 +130,8 @@ fn many_items_are_read_as_one_by_one(rt: HostRuntime) -> Result<(), Fail> {
             for to in from..array.items() + 1 {
                 let mut read = Vec::from_slice(alloc, &[99])?;
                 array.push_items(from, to, &mut read)?;
-                let expected = &all[from as usize * width..to as usize * width];
-                assert!(rt; read[0] == 99 && read[1..] == *expected);
+                let (first, end) = (from as usize * width, to as usize * width);
+                assert!(rt; read[0] == 99 && read[1..] == all[first..end]);
             }
         }
     }

@@ -15,3 +15,5 @@ mod objects_made;
 mod objects_names;
 #[cfg(test)]
 mod objects_small;
+#[cfg(test)]
+mod print;

@@ -1,7 +1,9 @@
-use super::*;
-use dx_arrays::{Array, ElemType, Shape};
-use dx_base::Items;
-use dx_objects::{Object, Part, Parts, Value};
+// What Print and Echo write of values of each kind, and what Print refuses.
+use crate::arrays_made::{cells, constant, line, plain, points};
+use dx_arrays::{Array, ElemType};
+use dx_base::{Bytes, Code};
+use dx_objects::{Object, Outs, Part, Parts, RunFail, Value};
+use dx_print::{echo_text, print_text};
 use std::alloc::Global;
 use std::rc::Rc;
 use std::test::Fail;
@@ -22,47 +24,14 @@ enum Sample<'a> {
     Series(&'a [&'a [u8]]),
 }
 
-fn shape(alloc: Global, extents: &[u32]) -> Result<Shape, Fail> {
-    Ok(Items::from_vec(Vec::from_slice(alloc, extents)?))
-}
-
-fn plain(alloc: Global, elem: ElemType, extents: &[u32], values: &[i64]) -> Result<Array, Fail> {
-    let shape = shape(alloc, extents)?;
-    let values = Vec::from_slice(alloc, values)?;
-    Ok(Array::plain(elem, shape, values)?)
-}
-
-fn constant(alloc: Global, items: u64, value: &[i64]) -> Result<Array, Fail> {
-    let shape = shape(alloc, &[2])?;
-    let value = Vec::from_slice(alloc, value)?;
-    Ok(Array::constant(ElemType::Short, shape, items, value)?)
-}
-
-// The numbers from 1 on.
-fn regular(alloc: Global, items: u64) -> Result<Array, Fail> {
-    let shape = shape(alloc, &[])?;
-    let origin = Vec::from_slice(alloc, &[1])?;
-    let delta = Vec::from_slice(alloc, &[1])?;
-    Ok(Array::regular(ElemType::Int, shape, items, origin, delta)?)
-}
-
-fn points(alloc: Global) -> Result<Array, Fail> {
-    let counts = Vec::from_slice(alloc, &[2, 2])?;
-    let origin = Vec::from_slice(alloc, &[0, -1])?;
-    let deltas = Vec::from_slice(alloc, &[10, 0, 0, 1])?;
-    Ok(Array::grid_positions(counts, origin, deltas)?)
-}
-
-fn cells(alloc: Global) -> Result<Array, Fail> {
-    Ok(Array::grid_connections(Vec::from_slice(alloc, &[3])?)?)
-}
-
 fn of_array(alloc: Global, array: Array) -> Result<Object, Fail> {
-    Ok(Object::array(array, Parts::new(alloc))?)
+    let none = Parts::new(alloc);
+    Ok(Object::array(array, none)?)
 }
 
 fn of_text(alloc: Global, text: &[u8]) -> Result<Object, Fail> {
-    Ok(Object::text(Bytes::copy_of(alloc, text)?, Parts::new(alloc))?)
+    let (text, none) = (Bytes::copy_of(alloc, text)?, Parts::new(alloc));
+    Ok(Object::text(text, none)?)
 }
 
 fn name_of(alloc: Global, name: &[u8]) -> Result<Option<Bytes>, Fail> {
@@ -74,7 +43,8 @@ fn name_of(alloc: Global, name: &[u8]) -> Result<Option<Bytes>, Fail> {
 
 // Parts of these names that share one array.
 fn parts(alloc: Global, names: &[&[u8]]) -> Result<Parts, Fail> {
-    let object = Rc::new(alloc, of_array(alloc, cells(alloc)?)?)?;
+    let array = cells(alloc, &[3])?;
+    let object = Rc::new(alloc, of_array(alloc, array)?)?;
     let mut parts = Parts::new(alloc);
     for name in names {
         parts.push(Part {
@@ -87,41 +57,46 @@ fn parts(alloc: Global, names: &[&[u8]]) -> Result<Parts, Fail> {
 }
 
 fn field(alloc: Global, names: &[&[u8]]) -> Result<Object, Fail> {
-    Ok(Object::field(parts(alloc, names)?, Parts::new(alloc))?)
+    let (parts, none) = (parts(alloc, names)?, Parts::new(alloc));
+    Ok(Object::field(parts, none)?)
 }
 
 fn group(alloc: Global, names: &[&[u8]]) -> Result<Object, Fail> {
-    Ok(Object::group(parts(alloc, names)?, Parts::new(alloc))?)
+    let (parts, none) = (parts(alloc, names)?, Parts::new(alloc));
+    Ok(Object::group(parts, none)?)
 }
 
 fn series(alloc: Global, names: &[&[u8]]) -> Result<Object, Fail> {
-    Ok(Object::series(parts(alloc, names)?, Parts::new(alloc))?)
+    let (parts, none) = (parts(alloc, names)?, Parts::new(alloc));
+    Ok(Object::series(parts, none)?)
 }
 
-fn shared(alloc: Global, object: Object) -> Result<Value, Fail> {
-    Ok(Some(Rc::new(alloc, object)?))
+// The points of a small grid.
+fn small_grid(alloc: Global) -> Result<Array, Fail> {
+    points(alloc, &[2, 2], &[0, -1], &[10, 0, 0, 1])
+}
+
+fn object(alloc: Global, sample: Sample) -> Result<Option<Object>, Fail> {
+    let array = match sample {
+        Sample::Null => return Ok(None),
+        Sample::Text(text) => return Ok(Some(of_text(alloc, text)?)),
+        Sample::Field(names) => return Ok(Some(field(alloc, names)?)),
+        Sample::Group(names) => return Ok(Some(group(alloc, names)?)),
+        Sample::Series(names) => return Ok(Some(series(alloc, names)?)),
+        Sample::Numbers(elem, values) => plain(alloc, elem, &[], values)?,
+        Sample::Shaped(extents, values) => plain(alloc, ElemType::Int, extents, values)?,
+        Sample::Constant(items, item) => constant(alloc, items, item)?,
+        Sample::Regular(items) => line(alloc, items, 1, 1)?,
+        Sample::Points => small_grid(alloc)?,
+        Sample::Cells => cells(alloc, &[3])?,
+    };
+    Ok(Some(of_array(alloc, array)?))
 }
 
 fn value(alloc: Global, sample: Sample) -> Result<Value, Fail> {
-    match sample {
-        Sample::Null => Ok(None),
-        Sample::Text(text) => shared(alloc, of_text(alloc, text)?),
-        Sample::Numbers(elem, values) => {
-            shared(alloc, of_array(alloc, plain(alloc, elem, &[], values)?)?)
-        }
-        Sample::Shaped(extents, values) => shared(
-            alloc,
-            of_array(alloc, plain(alloc, ElemType::Int, extents, values)?)?,
-        ),
-        Sample::Constant(items, item) => {
-            shared(alloc, of_array(alloc, constant(alloc, items, item)?)?)
-        }
-        Sample::Regular(items) => shared(alloc, of_array(alloc, regular(alloc, items)?)?),
-        Sample::Points => shared(alloc, of_array(alloc, points(alloc)?)?),
-        Sample::Cells => shared(alloc, of_array(alloc, cells(alloc)?)?),
-        Sample::Field(names) => shared(alloc, field(alloc, names)?),
-        Sample::Group(names) => shared(alloc, group(alloc, names)?),
-        Sample::Series(names) => shared(alloc, series(alloc, names)?),
+    match object(alloc, sample)? {
+        None => Ok(None),
+        Some(object) => Ok(Some(Rc::new(alloc, object)?)),
     }
 }
 
@@ -200,14 +175,8 @@ fn print_shows_the_header_of_each_kind(rt: HostRuntime) -> Result<(), Fail> {
         (Sample::Group(&[b"a", b""]), "group 2 members\n"),
         (Sample::Series(&[b""]), "series 1 members\n"),
     ] {
-        assert!(rt;
-            prints(alloc, [object, Sample::Null, Sample::Null], text)?,
-            "at {text}"
-        );
-        assert!(rt;
-            prints(alloc, [object, O, Sample::Null], text)?,
-            "with o at {text}"
-        );
+        assert!(rt; prints(alloc, [object, Sample::Null, Sample::Null], text)?);
+        assert!(rt; prints(alloc, [object, O, Sample::Null], text)?);
     }
     Ok(())
 }
@@ -229,10 +198,7 @@ fn print_names_each_type(rt: HostRuntime) -> Result<(), Fail> {
         (ElemType::UInt, "array plain unsigned int rank 0 items 0\n"),
     ] {
         let empty = Sample::Numbers(elem, &[]);
-        assert!(rt;
-            prints(rt.alloc(), [empty, D, Sample::Null], text)?,
-            "at {text}"
-        );
+        assert!(rt; prints(rt.alloc(), [empty, D, Sample::Null], text)?);
     }
     Ok(())
 }
@@ -268,10 +234,7 @@ fn print_shows_items(rt: HostRuntime) -> Result<(), Fail> {
         (Sample::Text(b"d"), "text \"d\"\n"),
         (Sample::Field(&[b"data"]), "field 1 components\n"),
     ] {
-        assert!(rt;
-            prints(rt.alloc(), [object, D, Sample::Null], text)?,
-            "at {text}"
-        );
+        assert!(rt; prints(rt.alloc(), [object, D, Sample::Null], text)?);
     }
     Ok(())
 }
@@ -293,10 +256,7 @@ fn print_leaves_items_out_where_there_are_more_than_50(rt: HostRuntime) -> Resul
         ),
     ] {
         let numbers = Sample::Regular(items);
-        assert!(rt;
-            prints(rt.alloc(), [numbers, D, Sample::Null], text)?,
-            "at {items}"
-        );
+        assert!(rt; prints(rt.alloc(), [numbers, D, Sample::Null], text)?);
     }
     Ok(())
 }
@@ -320,7 +280,7 @@ fn print_refuses_options_and_then_the_component(rt: HostRuntime) -> Result<(), F
         ([Sample::Field(&[b"data"]), D, text], "Unsupported"),
         ([NUMBER, Sample::Null, NUMBER], "Unsupported"),
     ] {
-        assert!(rt; prints(rt.alloc(), inputs, code)?, "at {code}");
+        assert!(rt; prints(rt.alloc(), inputs, code)?);
     }
     Ok(())
 }
@@ -357,7 +317,7 @@ fn echo_puts_its_inputs_on_one_line(rt: HostRuntime) -> Result<(), Fail> {
         (&[], "\n"),
     ];
     for (samples, line) in cases {
-        assert!(rt; echoes(rt.alloc(), samples, line)?, "at {line}");
+        assert!(rt; echoes(rt.alloc(), samples, line)?);
     }
     Ok(())
 }
