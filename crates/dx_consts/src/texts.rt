@@ -44,5 +44,5 @@ fn members(alloc: Global, texts: &[Bytes]) -> Result<Parts, AllocError>
             object: text(alloc, t.bytes())?,
         })?;
     }
-    Ok(Parts::from_vec(members))
+    Parts::from_vec(alloc, members)
 }

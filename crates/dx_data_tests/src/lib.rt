@@ -6,4 +6,14 @@ mod arrays;
 #[cfg(test)]
 mod arrays_made;
 #[cfg(test)]
+mod objects;
+#[cfg(test)]
+mod objects_library;
+#[cfg(test)]
+mod objects_made;
+#[cfg(test)]
+mod objects_names;
+#[cfg(test)]
+mod objects_small;
+#[cfg(test)]
 mod print;

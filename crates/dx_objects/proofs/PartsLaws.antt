@@ -1,5 +1,6 @@
 -- Parts in lists and in trees.
-use Rattle.std.proofs.Common.{◌≡◌, ℕ, suc, ◌+◌, ◌<◌, max, List, [], ◌∷◌, ◌++◌, length, get_or, take, drop, set, pos, ◌≤◌, ◌∙◌, refl, sym, ap, add-one, drop-cons, append-nil, arith}
+use Rattle.std.proofs.Common.{◌≡◌, ℕ, zero, suc, ◌+◌, ◌<◌, max, List, [], ◌∷◌, ◌++◌, length, get_or, take, drop, set, pos, ◌≤◌, ◌∙◌, refl, sym, ap, add-one, drop-cons, append-nil, arith}
+use Rattle.std.specs.List.{range_with_len}
 use Rattle.std.proofs.lemmas.List.{take_more_set, drop-set-lt, take-append-drop}
 use Rattle.std.proofs.Math.ListN.{drop_of_length-le}
 use Rattle.dx_base.specs.Object.{Tree, PartList, no_parts, part, append, part_count}
@@ -50,5 +51,15 @@ cleared_end ps i all h e =
     let whole : take i ps ≡ ps = sym (append-nil (take i ps)) ∙ both in
     let done : append (parts_of ps) no_parts ≡ all = rw (whole, past) at e in
     sym (append-no_parts (parts_of ps)) ∙ done
+
+range_from : (a n j : ℕ) → a + n ≡ j → range_with_len a n ++ j ∷ [] ≡ range_with_len a (suc n)
+range_from a zero j e = ap (λ x. x ∷ []) (let f : j ≡ a = omega (arith, e) in f)
+range_from a (suc n) j e = ap (λ xs. a ∷ xs) (range_from (a + 1) n j (omega (arith, e)))
+
+-- one number more
+pub range_more : (n : ℕ) → range_with_len 0 n ++ n ∷ [] ≡ range_with_len 0 (n + 1)
+range_more n = rw add-one (range_from 0 n n (omega arith))
+
+pub ruleset pushing = (parts_of_push, range_more)
 
 pub ruleset appending = (append-no_parts, append_assoc, parts_of-drop)

@@ -4,7 +4,7 @@ use Rattle.std.proofs.Common.{arith}
 use Rattle.dx_base.specs.Object.{PartList}
 use Rattle.dx_objects.specs.declared.object.Body.{Body}
 use Rattle.dx_objects.specs.declared.object.Body.TheVariants.{Array, Text, Field, Group, Composite, Series}
-use Rattle.dx_objects.specs.declared.object.Object.TheDeep.{deep-Body}
+use Rattle.dx_objects.specs.declared.object.NamedParts.TheDeep.{deep-Body}
 use Rattle.dx_objects.specs.View.{tree_of}
 use Rattle.dx_objects.specs.Nodes.{nodes, all_nodes}
 

@@ -1,5 +1,6 @@
 pub mod Nodes
 pub mod Shown
+pub mod Order
 pub mod PartsFall
 pub mod View
 pub mod Falls

@@ -2,7 +2,7 @@
 use Rattle.std.specs.Prelude.{ℕ, ◌+◌, ◌≤◌, max, List, [], ◌∷◌}
 use Rattle.std.proofs.Common.{arith}
 use Rattle.dx_objects.specs.declared.object.Part.{Part}
-use Rattle.dx_objects.specs.declared.object.Object.TheDeep.{deep-Part}
+use Rattle.dx_objects.specs.declared.object.NamedParts.TheDeep.{deep-Part}
 use Rattle.dx_objects.specs.Shown.{parts_of}
 use Rattle.dx_objects.specs.Nodes.{all_nodes}
 use denote.Param.Weighed.{most}

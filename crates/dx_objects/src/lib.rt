@@ -7,12 +7,14 @@ mod laws;
 mod library;
 mod lookup;
 mod makers;
+mod measure;
 mod names;
 mod numbers;
 mod object;
+mod order;
 mod outs;
+mod parts;
 mod run_fail;
-mod sums;
 mod with;
 
 pub use dx_arrays::{Array, ArrayClass, ArrayError, ElemType, Shape, in_range};
@@ -21,11 +23,11 @@ pub use kinds::Kind;
 pub use laws::component_law;
 pub use library::{Library, Recorder, Run};
 pub use makers::ObjectError;
+pub use measure::{MAX_COUNT, MAX_LEVELS, MAX_SIZE, Measure};
 pub use numbers::number;
-pub use object::{Object, Part, Parts};
+pub use object::{Object, Part};
 pub use outs::{Outs, Value};
+pub use parts::Parts;
 pub use run_fail::RunFail;
 pub use with::WithError;
 
-#[cfg(test)]
-mod tests;

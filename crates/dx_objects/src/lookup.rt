@@ -2,7 +2,6 @@
 ghost use Rattle.std.specs.Prelude.{◌≡◌, None, Some, MatchOption};
 ghost use Rattle.dx_base.specs.ObjectNames as spec_names;
 
-use crate::names::find;
 use crate::object::{Body, Object};
 use std::rc::Rc;
 
@@ -12,7 +11,7 @@ impl Object {
         ensures { MatchOption result (spec_names.component name.now self.now ≡ None) (λ o. spec_names.component name.now self.now ≡ Some o.now.value) }
     {
         match &self.body {
-            Body::Field(parts) => find(name, parts.as_slice()),
+            Body::Field(parts) => parts.find(name),
             _ => None,
         }
     }
@@ -22,7 +21,7 @@ impl Object {
         ensures { MatchOption result (spec_names.member name.now self.now ≡ None) (λ o. spec_names.member name.now self.now ≡ Some o.now.value) }
     {
         match &self.body {
-            Body::Group(parts) | Body::Composite(parts) => find(name, parts.as_slice()),
+            Body::Group(parts) | Body::Composite(parts) => parts.find(name),
             _ => None,
         }
     }
@@ -31,6 +30,6 @@ impl Object {
     pub fn attribute(&self, name: &[u8]) -> Option<&Rc<Object>>
         ensures { MatchOption result (spec_names.attribute name.now self.now ≡ None) (λ o. spec_names.attribute name.now self.now ≡ Some o.now.value) }
     {
-        find(name, self.attributes.as_slice())
+        self.attributes.find(name)
     }
 }

@@ -4,20 +4,12 @@ ghost use Rattle.dx_base.specs.ObjectLimits.{unplaced, has_good_names as spec_go
 ghost use Rattle.dx_objects.specs.View.{tree_of};
 ghost use Rattle.dx_objects.specs.Makes.{Makes};
 
-use crate::names::{are_all_arrays, are_all_fields, are_all_named, do_differ, is_none_named};
-use crate::object::{Body, Object, Parts};
+use crate::names::{are_all_arrays, are_all_fields, is_none_named};
+use crate::object::{Body, NamedParts, Object};
+use crate::parts::Parts;
 use dx_arrays::Array;
 use dx_base::Bytes;
 use thiserror::Error;
-
-/// How many levels an object may have.
-pub(crate) const MAX_LEVELS: u64 = 64;
-
-/// How many objects an object may be with all below it, each counted every time it occurs.
-pub(crate) const MAX_COUNT: u64 = 1_048_576;
-
-/// The greatest stated size in bytes.
-pub(crate) const MAX_SIZE: u64 = 268_435_456;
 
 /// Why no object is made. Where several reasons stand together, the answer is the first of `BadNames`, `NotAnArray`,
 /// `MemberNotAField` and `TooLarge`.
@@ -39,49 +31,55 @@ pub enum ObjectError {
 
 impl Object {
     /// An array.
+    #[tactic(auto, using(crate::proofs::OrderLaws::bad_names))]
     pub fn array(a: Array, attrs: Parts) -> Result<Object, ObjectError>
         ensures { Makes (spec.array a (unplaced attrs)) result }
     {
-        Object::make(Body::Array(a), attrs.unplaced())
+        Object::make(Body::Array(a), attrs.unplaced().named()?)
     }
 
     /// A text.
+    #[tactic(auto, using(crate::proofs::OrderLaws::bad_names))]
     pub fn text(t: Bytes, attrs: Parts) -> Result<Object, ObjectError>
         ensures { Makes (spec.text t (unplaced attrs)) result }
     {
-        Object::make(Body::Text(t), attrs.unplaced())
+        Object::make(Body::Text(t), attrs.unplaced().named()?)
     }
 
     /// A field of these components. Positions of components and attributes become 0.
+    #[tactic(auto, using(crate::proofs::OrderLaws::bad_names))]
     pub fn field(parts: Parts, attrs: Parts) -> Result<Object, ObjectError>
         ensures { Makes (spec.field (unplaced parts) (unplaced attrs)) result }
     {
-        Object::make(Body::Field(parts.unplaced()), attrs.unplaced())
+        Object::make(Body::Field(parts.unplaced().named()?), attrs.unplaced().named()?)
     }
 
     /// A group of these members. Positions of members and attributes become 0.
+    #[tactic(auto, using(crate::proofs::OrderLaws::bad_names))]
     pub fn group(parts: Parts, attrs: Parts) -> Result<Object, ObjectError>
         ensures { Makes (spec.group (unplaced parts) (unplaced attrs)) result }
     {
-        Object::make(Body::Group(parts.unplaced()), attrs.unplaced())
+        Object::make(Body::Group(parts.unplaced().named()?), attrs.unplaced().named()?)
     }
 
     /// A composite group of these members, each of which is a field. Positions of members and attributes become 0.
+    #[tactic(auto, using(crate::proofs::OrderLaws::bad_names))]
     pub fn composite(parts: Parts, attrs: Parts) -> Result<Object, ObjectError>
         ensures { Makes (spec.composite (unplaced parts) (unplaced attrs)) result }
     {
-        Object::make(Body::Composite(parts.unplaced()), attrs.unplaced())
+        Object::make(Body::Composite(parts.unplaced().named()?), attrs.unplaced().named()?)
     }
 
     /// A series of these members. Positions of attributes become 0.
+    #[tactic(auto, using(crate::proofs::OrderLaws::bad_names))]
     pub fn series(parts: Parts, attrs: Parts) -> Result<Object, ObjectError>
         ensures { Makes (spec.series parts (unplaced attrs)) result }
     {
-        Object::make(Body::Series(parts), attrs.unplaced())
+        Object::make(Body::Series(parts.named()?), attrs.unplaced().named()?)
     }
 
     // The object of this body, where it is one.
-    fn make(body: Body, attributes: Parts) -> Result<Object, ObjectError>
+    fn make(body: Body, attributes: NamedParts) -> Result<Object, ObjectError>
         requires { HasNoPositions (tree_of body attributes) }
         ensures { Makes (tree_of body attributes) result }
     {
@@ -94,35 +92,35 @@ impl Object {
         if !body.has_field_members(&attributes) {
             return Err(ObjectError::MemberNotAField);
         }
-        let sums = body.sums(&attributes);
-        if sums.levels > MAX_LEVELS || sums.count > MAX_COUNT || sums.size > MAX_SIZE {
+        let measure = body.measure(&attributes);
+        if !measure.fits() {
             return Err(ObjectError::TooLarge);
         }
         Ok(Object {
             body,
             attributes,
-            size: sums.size,
-            count: sums.count,
-            levels: sums.levels,
+            size: measure.size,
+            count: measure.count,
+            levels: measure.levels,
         })
     }
 }
 
 impl Body {
     // Whether the names of the parts and attributes are as the kind wants them.
-    fn has_good_names(&self, attributes: &Parts) -> bool
+    fn has_good_names(&self, attributes: &NamedParts) -> bool
         ensures { result ≡ spec_good_names (tree_of self.now attributes.now) }
     {
         let are_parts_good = match self {
             Body::Array(_) | Body::Text(_) => true,
-            Body::Field(parts) => are_all_named(parts.as_slice()) && do_differ(parts.as_slice()),
-            Body::Group(parts) | Body::Composite(parts) => do_differ(parts.as_slice()),
+            Body::Field(parts) => parts.are_all_named(),
+            Body::Group(parts) | Body::Composite(parts) => parts.have_good_names(),
             Body::Series(parts) => is_none_named(parts.as_slice()),
         };
-        are_parts_good && are_all_named(attributes.as_slice()) && do_differ(attributes.as_slice())
+        are_parts_good && attributes.are_all_named()
     }
 
-    fn has_array_components(&self, attributes: &Parts) -> bool
+    fn has_array_components(&self, attributes: &NamedParts) -> bool
         ensures { result ≡ spec_array_components (tree_of self.now attributes.now) }
     {
         match self {
@@ -131,7 +129,7 @@ impl Body {
         }
     }
 
-    fn has_field_members(&self, attributes: &Parts) -> bool
+    fn has_field_members(&self, attributes: &NamedParts) -> bool
         ensures { result ≡ spec_field_members (tree_of self.now attributes.now) }
     {
         match self {

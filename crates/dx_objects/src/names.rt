@@ -1,11 +1,10 @@
 // The names of parts, and their kinds.
-ghost use Rattle.std.specs.Prelude.{◌≡◌, None, Some, MatchOption};
+ghost use Rattle.std.specs.Prelude.{◌≡◌, ◌&&◌};
 ghost use Rattle.dx_base.specs.ObjectNames as spec_names;
 ghost use Rattle.dx_base.specs.ObjectLimits as limits;
 ghost use Rattle.dx_objects.specs.Shown.{parts_of};
 
-use crate::object::{Object, Part};
-use std::rc::Rc;
+use crate::object::{NamedParts, Part};
 
 pub(crate) fn is_named(part: &Part, name: &[u8]) -> bool
     ensures { result ≡ spec_names.same_name name.now part.now.name }
@@ -16,34 +15,8 @@ pub(crate) fn is_named(part: &Part, name: &[u8]) -> bool
     }
 }
 
-/// The object of the first part of this name. Each look-up by name goes through here.
-pub(crate) fn find<'a>(name: &[u8], parts: &'a [Part]) -> Option<&'a Rc<Object>>
-    ensures { MatchOption result (spec_names.find name.now (parts_of parts.now) ≡ None) (λ o. spec_names.find name.now (parts_of parts.now) ≡ Some o.now.value) }
-{
-    for part in parts {
-        if is_named(part, name) {
-            return Some(&part.object);
-        }
-    }
-    None
-}
-
-/// Whether the names that stand differ.
-pub(crate) fn do_differ(parts: &[Part]) -> bool
-    ensures { result ≡ limits.differ (parts_of parts.now) }
-{
-    for i in 0..parts.len() {
-        if let Some(name) = &parts[i].name {
-            if find(name.bytes(), &parts[i + 1..]).is_some() {
-                return false;
-            }
-        }
-    }
-    true
-}
-
 /// Whether each part has a name.
-pub(crate) fn are_all_named(parts: &[Part]) -> bool
+fn are_all_named(parts: &[Part]) -> bool
     ensures { result ≡ limits.all_named (parts_of parts.now) }
 {
     for part in parts {
@@ -88,4 +61,21 @@ pub(crate) fn are_all_fields(parts: &[Part]) -> bool
         }
     }
     true
+}
+
+impl NamedParts {
+    /// Whether each part has a name. That the names differ is known.
+    pub(crate) fn are_all_named(&self) -> bool
+        ensures { result ≡ (limits.all_named self.now && limits.differ self.now) }
+    {
+        are_all_named(self.as_slice())
+    }
+
+    /// That the names which stand differ: it is known of all such parts.
+    pub(crate) fn have_good_names(&self) -> bool
+        ensures { result ≡ limits.differ self.now }
+    {
+        let _parts = self.as_slice();
+        true
+    }
 }

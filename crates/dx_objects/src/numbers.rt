@@ -5,8 +5,9 @@ ghost use Rattle.dx_base.specs.declared.elem.ElemType.TheVariants.{Int};
 ghost use Rattle.dx_base.specs.ObjectNumbers as spec;
 ghost use Rattle.dx_objects.specs.Values.{value_of};
 
-use crate::object::{Body, Object, Parts};
+use crate::object::{Body, Object};
 use crate::outs::Value;
+use crate::parts::Parts;
 use dx_arrays::{Array, ElemType, Shape, in_range};
 use std::alloc::{AllocError, Global};
 use std::rc::Rc;

@@ -1,7 +1,7 @@
 // Values, and lists of them.
-ghost use Rattle.std.specs.Prelude.{◌≡◌, ◌++◌, ◌∷◌, ◌==◌, ◌<◌, [], min, OnOk, OnErr, IfOk, length, slice_get, Some};
+ghost use Rattle.std.specs.Prelude.{◌≡◌, ◌++◌, ◌∷◌, ◌==◌, ◌<◌, [], min, OnOk, OnErr, IfOk, length, slice_get, Some, None, MatchOption};
 ghost use Rattle.dx_base.specs.Object.{value_size as spec_value_size, results_size};
-ghost use Rattle.dx_objects.specs.Values.{value_of, values_of};
+ghost use Rattle.dx_objects.specs.Values.{value_of, values_of, value_at};
 
 use crate::object::Object;
 use std::alloc::{AllocError, Global};
@@ -79,6 +79,20 @@ impl Outs {
         ensures { slice_get self.now i ≡ Some (value_of result.now) }
     {
         &self.items[i]
+    }
+
+    #[tactic(auto, using(crate::proofs::ValuesLaws::values))]
+    /// The object at a place, and none where NULL stands there or the place is behind the end.
+    pub fn value(&self, i: usize) -> Option<&Rc<Object>>
+        ensures { MatchOption result (value_at self.now i ≡ None) (λ o. value_at self.now i ≡ Some o.now.value) }
+    {
+        if i >= self.len() {
+            return None;
+        }
+        match self.get(i) {
+            None => None,
+            Some(object) => Some(object),
+        }
     }
 
     /// Puts a value at the end. Where memory runs out the list stays as it was.

@@ -2,10 +2,12 @@
 ghost use Rattle.std.specs.Prelude.{◌≡◌, IfOk};
 ghost use Rattle.dx_base.specs.Object as spec;
 ghost use Rattle.dx_base.specs.ObjectNames.{put, without};
+ghost use Rattle.dx_objects.specs.Shown.{parts_of};
 ghost use Rattle.dx_objects.specs.With.{GivesWith, GivesWithout};
 
 use crate::names::is_named;
-use crate::object::{Body, Object, Part, Parts};
+use crate::object::{Body, NamedParts, Object, Part};
+use crate::parts::Parts;
 use dx_base::Bytes;
 use std::alloc::{AllocError, Global};
 use std::rc::Rc;
@@ -98,7 +100,7 @@ fn copy_of_name(alloc: Global, name: &Option<Bytes>) -> Result<Option<Bytes>, Al
 
 impl Part {
     // The same part, which shares its object.
-    fn copy(&self, alloc: Global) -> Result<Part, AllocError>
+    pub(crate) fn copy(&self, alloc: Global) -> Result<Part, AllocError>
         ensures { IfOk result (λ p. spec.part p.name p.position p.object.value spec.no_parts ≡ spec.part self.now.name self.now.position self.now.object.value spec.no_parts) }
     {
         Ok(Part {
@@ -110,16 +112,24 @@ impl Part {
 }
 
 impl Parts {
+    /// The same parts, which share their objects.
     #[tactic(auto, using(crate::proofs::PartsLaws::appending))]
-    // The same parts, which share their objects.
-    fn copy(&self, alloc: Global) -> Result<Parts, AllocError>
-        ensures { IfOk result (λ ps. ps ≡ self.now) }
+    pub fn copy_of(alloc: Global, parts: &[Part]) -> Result<Parts, AllocError>
+        ensures { IfOk result (λ copy. copy ≡ parts_of parts.now) }
     {
         let mut copy = Parts::new(alloc);
-        for part in &self.items {
+        for part in parts {
             copy.push(part.copy(alloc)?)?;
         }
         Ok(copy)
+    }
+}
+
+impl NamedParts {
+    pub(crate) fn copy(&self, alloc: Global) -> Result<Parts, AllocError>
+        ensures { IfOk result (λ copy. copy ≡ self.now) }
+    {
+        Parts::copy_of(alloc, self.as_slice())
     }
 
     #[tactic(auto, using(crate::proofs::PartsLaws::appending))]
