@@ -159,6 +159,7 @@ impl Session {
     }
 
     // Does what a word of the sequencer says.
+    #[tactic(auto, using(dx_io::proofs::Growing::grows_by_nothing))]
     fn tell<O: Sink>(&mut self, alloc: Global, w: Word, out: &mut O) -> Result<bool, End>
         ensures does { Does (spec.told w (state_of self.old)) (O.written out.old) (O.written out.new) (state_of self.new) result }
         ensures cut { OnErr result (IsCutWord w (state_of self.old) (state_of self.new) (O.written out.old) (O.written out.new)) }
