@@ -21,6 +21,3 @@ pub use parser::parse_expr;
 pub use shape::{Shape, is_single, shape_of};
 pub use uses::uses_input;
 pub use values::Values;
-
-#[cfg(test)]
-mod tests;

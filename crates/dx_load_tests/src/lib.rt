@@ -1,9 +1,23 @@
-//! Tests of loading sessions and of the table of functions, by public calls alone.
+//! Tests of loading, of frames and of sessions, by public calls alone.
 #![tactic(auto)]
 
 #[cfg(test)]
 mod constant_tests;
 #[cfg(test)]
+mod device_tests;
+#[cfg(test)]
+mod frame_tests;
+#[cfg(test)]
+mod limit_tests;
+#[cfg(test)]
 mod load_tests;
+#[cfg(test)]
+mod macro_tests;
+#[cfg(test)]
+mod outcome;
+#[cfg(test)]
+mod print_tests;
+#[cfg(test)]
+mod sequencer_tests;
 #[cfg(test)]
 mod table_tests;

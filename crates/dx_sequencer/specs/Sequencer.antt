@@ -1,5 +1,5 @@
 -- The sequencer: its variables and switches, and what each word does to them. `next` is a whole number without bounds.
-use Rattle.std.specs.Prelude.{◌≡◌, ◌<◌, ℕ, ℤ, pos, negsuc, ◌+ℤ◌, ◌-ℤ◌, ◌*ℤ◌, Bool, true, false, not, ◌&&◌, ◌||◌, int_le, int_lt, Option, Some, None, if◌then◌else◌}
+use Rattle.std.specs.Prelude.{◌≡◌, ◌<◌, ℕ, zero, suc, ℤ, pos, negsuc, ◌+ℤ◌, ◌-ℤ◌, ◌*ℤ◌, Bool, true, false, not, ◌&&◌, ◌||◌, int_le, int_lt, nat_lt, Option, Some, None, if◌then◌else◌}
 use Rattle.dx_ast.specs.declared.sequencing.FrameVar.{FrameVar}
 use Rattle.dx_ast.specs.declared.sequencing.FrameVar.TheVariants as var
 use Rattle.dx_ast.specs.declared.sequencing.Frames.{Frames}
@@ -123,3 +123,19 @@ pub record IsLongPlay (s : State) : Type 0 where
   pub steps : ℕ
   pub play : IsPlay s steps
   pub long : max_steps < steps
+
+-- how many frames are inside from this one on in the direction, counted no further than a bound
+unfoldable pub frames_inside : ℕ → State → ℤ → ℕ
+frames_inside zero s x = 0
+frames_inside (suc bound) s x = if is_inside s x then suc (frames_inside bound s (moved s x)) else 0
+
+-- the steps of a play, or one more than a play may have
+abbrev pub play_steps : State → ℕ
+play_steps s = frames_inside (suc max_steps) s s.next
+
+abbrev pub is_too_long : State → Bool
+is_too_long s = nat_lt max_steps (play_steps s)
+
+-- the steps of a play that isn't too long
+abbrev pub steps_of_play : State → Option ℕ
+steps_of_play s = if is_too_long s then None else Some (play_steps s)

@@ -4,6 +4,3 @@
 mod sequencer;
 
 pub use sequencer::{FrameRange, Sequencer, Step};
-
-#[cfg(test)]
-mod tests;

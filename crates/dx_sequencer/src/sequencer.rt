@@ -145,7 +145,9 @@ impl Sequencer {
 
     /// Begins a play, and answers how many steps it makes: one for each frame from the next one to the last inside in the
     /// direction. None where they are more than 65,536, and then nothing changes.
+    #[tactic(auto, using(crate::proofs::Playing::no_steps))]
     pub fn begin_play(&mut self) -> Option<u32>
+        ensures counted { result ≡ spec.steps_of_play (spec.at_play self.old) }
         ensures steps { IfSome result (λ n. IsPlay (spec.at_play self.old) n) }
         ensures few { IfSome result (λ n. n ≤ spec.max_steps) }
         ensures state { IfSome result (λ _. self.new ≡ spec.at_play self.old) }

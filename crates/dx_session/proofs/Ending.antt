@@ -9,7 +9,7 @@ use Rattle.dx_include.specs.declared.fail.LoadFail.TheVariants as fail
 use Rattle.dx_include.specs.declared.loaded.Loaded.{Loaded}
 use Rattle.dx_include.specs.Loading.{Loading}
 use Rattle.dx_include.specs.Answers.{Refuses}
-use Rattle.dx_session.specs.declared.end.End.{End}
+use Rattle.dx_execution.specs.declared.end.End.{End}
 use Rattle.dx_session.specs.Ends.{end_of}
 use Rattle.dx_session.specs.Lines.{refusal_line}
 use Rattle.dx_session.specs.Outcome.{Ends}

@@ -1,4 +1,4 @@
--- Steps and statements one after the other.
+-- The statements of a session one after the other.
 use Rattle.std.proofs.Common.{◌≡◌, ℕ, List, [], ◌∷◌, ◌++◌, Bool, true, false, refl, sym, ap, subst, ◌∙◌, append_assoc, length, arith}
 use Rattle.std.specs.Prelude.{◌||◌}
 use Rattle.std.proofs.lemmas.List.{append-nil}
@@ -7,24 +7,9 @@ use Rattle.dx_io.proofs.Growing.{grows_by_nothing, grows_on, grows_on_into}
 use Rattle.dx_ast.specs.declared.statements.Stmt as code
 use Rattle.dx_ast.specs.Lawful.{IsLawful, AreLawful}
 use Rattle.dx_ast.specs.Plain.{plain_stmt, plain_stmts}
-use Rattle.dx_session.specs.Session.{Done, State, Told, and_then, silently, statement, statements}
-
--- what was done before, in front
-abbrev pub in_front : List ℕ → Bool → Done → Done
-in_front front erred d = record { text = front ++ d.text; erred = erred || d.erred; state = d.state }
-
-either : (a b c : Bool) → (a || b) || c ≡ a || (b || c)
-either true b c = refl
-either false b c = refl
-
-pub neither : (a : Bool) → a || false ≡ a
-neither true = refl
-neither false = refl
-
-pub in_front_twice : (a b : List ℕ) (e f : Bool) (d : Done) → in_front a e (in_front b f d) ≡ in_front (a ++ b) (e || f) d
-in_front_twice a b e f d =
-    ap (λ (text : List ℕ). let x : Done = record { text = text; erred = e || (f || d.erred); state = d.state } in x) (sym (append_assoc a b d.text))
-    ∙ ap (λ (erred : Bool). let x : Done = record { text = (a ++ b) ++ d.text; erred = erred; state = d.state } in x) (sym (either e f d.erred))
+use Rattle.dx_execution.specs.Executes.{Told}
+use Rattle.dx_statements.proofs.Folding.{in_front, in_front_twice, neither}
+use Rattle.dx_statements.specs.Session.{Done, State, and_then, silently, statement, statements}
 
 -- what was printed since, and that the rest makes the whole
 pub record SoFar (whole rest : Done) (erred : Bool) (told now : Told) : Type 0 where

@@ -6,7 +6,7 @@ use Rattle.dx_include.specs.declared.loaded.Loaded.{Loaded}
 use Rattle.dx_include.specs.Loading.{Loading}
 use Rattle.dx_include.specs.Computed.{loading_of}
 use Rattle.dx_session.specs.Lines.{usage_line, refusal_line}
-use Rattle.dx_session.specs.Session.{Done}
+use Rattle.dx_statements.specs.Session.{Done}
 use Rattle.dx_session.specs.Outcome.{Outcome, line, session, status_of}
 
 -- what the statements come to

@@ -1,11 +1,4 @@
 pub mod Computed
-pub mod Does
-pub mod Effects
-pub mod Ended
 pub mod Ends
-pub mod Executing
 pub mod Lines
 pub mod Outcome
-pub mod Sequence
-pub mod Session
-pub mod SessionView

@@ -4,7 +4,7 @@ use Rattle.std.specs.Str.{bytes_eq}
 use Rattle.std.specs.List.{starts_with}
 use Rattle.std.specs.Bool.{MatchBool}
 use Rattle.std.specs.declared.alloc.Global.{Global}
-use Rattle.dx_session.specs.declared.end.End.{End}
+use Rattle.dx_execution.specs.declared.end.End.{End}
 use Rattle.dx_io.specs.Devices.{FileMap, Grows, GrowsInto}
 use Rattle.dx_ast.specs.declared.statements.Stmt.{Stmt}
 use Rattle.dx_ast.specs.Plain.{plain_stmts}
@@ -12,7 +12,7 @@ use Rattle.dx_include.specs.declared.fail.LoadFail.{LoadFail}
 use Rattle.dx_include.specs.declared.loaded.Loaded.{Loaded}
 use Rattle.dx_include.specs.Loading.{Loading, IsLoading}
 use Rattle.dx_session.specs.Lines.{usage_line, refusal_line}
-use Rattle.dx_session.specs.Session.{Done, statements, initial}
+use Rattle.dx_statements.specs.Session.{Done, statements, initial}
 
 -- the words as texts
 abbrev pub texts : List (String Global) → List (List ℕ)

@@ -5,17 +5,18 @@ ghost use Rattle.dx_io.specs.Devices.{FileMap, Rose, Writes};
 ghost use Rattle.dx_include.specs.Answers.{LoadCause, Loads};
 ghost use Rattle.dx_include.specs.Computed.{loading_of};
 ghost use Rattle.dx_session.specs.Computed.{of_loading, outcome_of};
-ghost use Rattle.dx_session.specs.Ends.{PrintCause, end_of};
+ghost use Rattle.dx_execution.specs.Ends.{PrintCause};
+ghost use Rattle.dx_session.specs.Ends.{end_of};
 ghost use Rattle.dx_session.specs.Lines.{refusal_line};
 ghost use Rattle.dx_session.specs.Outcome.{Outcome, IsOutcome, Ends, EndsAs, IsWhole, is_cut, texts, line, session as session_of, status_of};
 
-use crate::end::End;
 use crate::lines;
-use crate::session::Session;
 use dx_ast::Stmts;
 use dx_base::Bytes;
+use dx_execution::End;
 use dx_include::{LoadFail, load};
 use dx_io::{Files, Sink, write_all};
+use dx_statements::Session;
 use std::alloc::Global;
 
 const USAGE: &[u8] = b"usage: dxi [--memory BYTES] [--trace] [--links] (SESSION | --workload N)\n";

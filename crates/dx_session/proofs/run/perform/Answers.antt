@@ -3,8 +3,8 @@ use Rattle.std.proofs.lemmas.Result.{err_from_is_err_and}
 use Rattle.std.specs.Vec.Iter.{into_iter_items}
 use Rattle.dx_ast.specs.Plain.{plain_stmt, plain_stmts}
 use Rattle.dx_session.specs.Outcome.{session, status_of}
-use Rattle.dx_session.specs.Session.{State, statement, statements}
-use Rattle.dx_session.specs.SessionView.{state_of}
+use Rattle.dx_statements.specs.Session.{State, statement, statements}
+use Rattle.dx_statements.specs.SessionView.{state_of}
 use Rattle.dx_session.proofs.Folding.{goes_on, is_cut, is_done, lawful_tail, next_statement, no_statement, nothing_left}
 use Rattle.dx_session.proofs.run.perform.Goals as goal
 

@@ -3,8 +3,8 @@ use Rattle.std.specs.Vec.Iter.{into_iter_items, into_iter_len}
 use Rattle.dx_ast.specs.Lawful.{AreLawful}
 use Rattle.dx_ast.specs.Plain.{plain_stmts}
 use Rattle.dx_session.specs.Outcome.{session}
-use Rattle.dx_session.specs.Session.{statements}
-use Rattle.dx_session.specs.SessionView.{state_of}
+use Rattle.dx_statements.specs.Session.{statements}
+use Rattle.dx_statements.specs.SessionView.{state_of}
 use Rattle.dx_session.proofs.Folding.{SoFar}
 use Rattle.dx_session.proofs.run.perform.Given as goal
 

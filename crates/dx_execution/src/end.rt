@@ -1,0 +1,38 @@
+use dx_io::SinkFail;
+use std::alloc::AllocError;
+
+/// What cuts a session short.
+#[derive(Clone, Copy, Debug, PartialEq, Eq)]
+pub enum End {
+    /// A file couldn't be read.
+    ReadFault,
+    /// The output couldn't be written.
+    WriteFault,
+    /// Memory ran out.
+    Memory,
+}
+
+impl From<SinkFail> for End {
+    ghost use Rattle.std.specs.Prelude.{◌≡◌};
+    ghost use Rattle.dx_execution.specs.Ends.{write_end};
+
+    ghost from_gives = { λ f e. e ≡ write_end f };
+
+    fn from(fail: SinkFail) -> Self {
+        match fail {
+            SinkFail::Fault => End::WriteFault,
+            SinkFail::Memory => End::Memory,
+        }
+    }
+}
+
+impl From<AllocError> for End {
+    ghost use Rattle.std.specs.Prelude.{◌≡◌};
+    ghost use Rattle.dx_execution.specs.declared.end.End.TheVariants.{Memory};
+
+    ghost from_gives = { λ _ e. e ≡ Memory };
+
+    fn from(_: AllocError) -> Self {
+        End::Memory
+    }
+}

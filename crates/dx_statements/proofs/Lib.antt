@@ -1,0 +1,4 @@
+pub mod Folding
+pub mod Lawfulness
+pub mod Plays
+pub mod Stepping

@@ -1,0 +1,5 @@
+pub mod Does
+pub mod Lines
+pub mod Sequence
+pub mod Session
+pub mod SessionView
