@@ -1,8 +1,6 @@
-//! Tests of the lowest crates: types, numbers, lists and words, and the devices in memory and at each real edge.
+//! Tests of the devices: those in memory, and one for each real edge.
 #![tactic(auto)]
 
-#[cfg(test)]
-mod base;
 #[cfg(test)]
 mod folder;
 #[cfg(test)]
