@@ -6,4 +6,6 @@ mod arrays;
 #[cfg(test)]
 mod arrays_made;
 #[cfg(test)]
+mod consts;
+#[cfg(test)]
 mod print;
