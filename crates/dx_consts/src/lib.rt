@@ -6,6 +6,3 @@ mod texts;
 mod value;
 
 pub use value::object_of;
-
-#[cfg(test)]
-mod tests;

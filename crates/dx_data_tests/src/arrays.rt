@@ -1,4 +1,7 @@
 // Arrays of each class: what they hand out, their values, their stated size, and which are refused.
+ghost use Rattle.std.specs.Prelude.{◌≤◌};
+ghost use Rattle.dx_base.specs.Array.{items};
+
 use crate::arrays_made::{cells, constant, line, plain, points, shape};
 use dx_arrays::{Array, ArrayClass, ArrayError, ElemType, cell_count, has_room, point_count};
 use std::alloc::{AllocError, Global};
@@ -25,7 +28,7 @@ fn stored_items_and_lines_have_their_parameters_and_their_size(
     assert!(rt; pairs.extents() == [2].as_slice() && pairs.items() == 2 && pairs.size() == 80);
     assert!(rt; pairs.plain_values() == Some([1, 2, 3, 4].as_slice()));
     assert!(rt; pairs.counts().is_empty() && pairs.origin().is_empty());
-    let same = constant(alloc, 3, &[7])?;
+    let same = constant(alloc, &[], 3, &[7])?;
     assert!(rt; same.class() == ArrayClass::Constant && same.origin() == [7].as_slice());
     assert!(rt; same.size() == 66 && same.plain_values().is_none());
     assert!(rt; values_of(alloc, &same)?.as_slice() == [7, 7, 7].as_slice());
@@ -109,7 +112,7 @@ fn a_cell_has_the_numbers_of_its_corners(rt: HostRuntime) -> Result<(), Fail> {
 fn of_each_class(alloc: Global) -> Result<[Array; 8], Fail> {
     Ok([
         plain(alloc, ElemType::Int, &[2], &[1, 2, 3, 4, 5, 6, 7, 8])?,
-        constant(alloc, 5, &[7, -7])?,
+        constant(alloc, &[2], 5, &[7, -7])?,
         line(alloc, 6, 10, -2)?,
         line(alloc, 1, 10, i64::MAX)?,
         points(alloc, &[4, 3], &[-5, 7], &[100, 1, 3, -10])?,
@@ -119,19 +122,30 @@ fn of_each_class(alloc: Global) -> Result<[Array; 8], Fail> {
     ])
 }
 
+// A first value, and behind it the values of these items, one by one.
+fn values_between(alloc: Global, array: &Array, from: u64, to: u64) -> Result<Vec<i64>, AllocError>
+    requires { to ≤ items array.now }
+{
+    let mut values = Vec::from_slice(alloc, &[99])?;
+    for item in from..to {
+        for place in 0..array.width() {
+            values.push(array.value(item, place))?;
+        }
+    }
+    Ok(values)
+}
+
 // The values of any stretch of items are those of its items, one after the other, behind what the list holds.
 #[test]
 fn many_items_are_read_as_one_by_one(rt: HostRuntime) -> Result<(), Fail> {
     let alloc = rt.alloc();
     for array in &of_each_class(alloc)? {
-        let width = array.width() as usize;
-        let all = values_of(alloc, array)?;
         for from in 0..array.items() + 1 {
             for to in from..array.items() + 1 {
                 let mut read = Vec::from_slice(alloc, &[99])?;
                 array.push_items(from, to, &mut read)?;
-                let (first, end) = (from as usize * width, to as usize * width);
-                assert!(rt; read[0] == 99 && read[1..] == all[first..end]);
+                let expected = values_between(alloc, array, from, to)?;
+                assert!(rt; read.as_slice() == expected.as_slice());
             }
         }
     }

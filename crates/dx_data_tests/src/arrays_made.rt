@@ -19,8 +19,13 @@ pub(crate) fn plain(
     Ok(Array::plain(elem, shape, values)?)
 }
 
-pub(crate) fn constant(alloc: Global, items: u64, value: &[i64]) -> Result<Array, Fail> {
-    let shape = shape(alloc, &[value.len() as u32])?;
+pub(crate) fn constant(
+    alloc: Global,
+    extents: &[u32],
+    items: u64,
+    value: &[i64],
+) -> Result<Array, Fail> {
+    let shape = shape(alloc, extents)?;
     let value = Vec::from_slice(alloc, value)?;
     Ok(Array::constant(ElemType::Short, shape, items, value)?)
 }

@@ -6,6 +6,8 @@ mod arrays;
 #[cfg(test)]
 mod arrays_made;
 #[cfg(test)]
+mod consts;
+#[cfg(test)]
 mod objects;
 #[cfg(test)]
 mod objects_library;

@@ -85,7 +85,7 @@ fn object(alloc: Global, sample: Sample) -> Result<Option<Object>, Fail> {
         Sample::Series(names) => return Ok(Some(series(alloc, names)?)),
         Sample::Numbers(elem, values) => plain(alloc, elem, &[], values)?,
         Sample::Shaped(extents, values) => plain(alloc, ElemType::Int, extents, values)?,
-        Sample::Constant(items, item) => constant(alloc, items, item)?,
+        Sample::Constant(items, item) => constant(alloc, &[2], items, item)?,
         Sample::Regular(items) => line(alloc, items, 1, 1)?,
         Sample::Points => small_grid(alloc)?,
         Sample::Cells => cells(alloc, &[3])?,
