@@ -1,3 +1,5 @@
+//! What a script can assign or hand to a call: constants, names, variables of the sequencer, calls.
+
 use crate::constants::Const;
 use crate::sequencing::FrameVar;
 use dx_base::{Bytes, Items};

@@ -1,3 +1,5 @@
+//! The variables and words of the sequencer.
+
 /// A variable of the sequencer: `@startframe`, `@endframe`, `@deltaframe`, `@nextframe` or `@frame`.
 #[derive(Clone, Copy, Debug, PartialEq, Eq)]
 pub enum FrameVar {

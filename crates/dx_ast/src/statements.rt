@@ -1,3 +1,5 @@
+//! The statements of a script.
+
 use crate::constants::{Const, TextList};
 use crate::expressions::{Call, Expr};
 use crate::sequencing::{FrameVar, Word};
