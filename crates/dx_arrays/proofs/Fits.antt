@@ -58,7 +58,7 @@ plain_value a vs i place w r e f h k g =
     rw out (rw (← f) at)
 
 -- an item has a value
-width-pos : (es : List ℕ) → is_shape es ≡ true → 0 < product es
+pub width-pos : (es : List ℕ) → is_shape es ≡ true → 0 < product es
 width-pos [] h = omega arith
 width-pos (e ∷ []) h = grind (arith, nat_tests)
 width-pos (e ∷ f ∷ []) h =

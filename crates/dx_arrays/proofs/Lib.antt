@@ -8,3 +8,5 @@ pub mod InType
 pub mod Fits
 pub mod PointLaws
 pub mod CellLaws
+pub mod Lines
+pub mod Blocks

@@ -4,3 +4,4 @@ pub mod View
 pub mod Reach
 pub mod Corner
 pub mod Laws
+pub mod Block

@@ -5,9 +5,11 @@ ghost use Rattle.dx_base.specs.ArrayLimits.{IsLawfulArray};
 ghost use Rattle.dx_base.specs.declared.elem.ElemType.TheVariants.{Int};
 ghost use Rattle.dx_arrays.specs.Makes.{Makes};
 ghost use Rattle.dx_arrays.specs.Classes.{kind_of, plain_of};
+ghost use Rattle.dx_arrays.specs.Block.{line_len};
 
 use crate::extents::{
-    Extents, MAX_ITEMS, MAX_VALUES, cell_count, corner_count, has_room, is_grid, product_of,
+    Extents, MAX_ITEMS, MAX_VALUES, cell_count, corner_count, has_room, is_grid, last_of,
+    product_of,
 };
 use crate::grid::{corner, position};
 use crate::number::{along, narrowed};
@@ -234,6 +236,7 @@ impl Array {
     pub fn width(&self) -> u64
         ensures width { result ≡ spec.width self.now }
         ensures some { 0 < result }
+        ensures lawful { IsLawfulArray self.now }
     {
         self.extents.width()
     }
@@ -319,6 +322,19 @@ impl Array {
                 position(counts, origin[place as usize], deltas, item, place)
             }
             Stored::Connections(counts) => corner(counts, item, place) as i64,
+        }
+    }
+
+    /// How many items stand on one line, along which each place grows by the same from item to item.
+    pub(crate) fn line_len(&self) -> u64
+        ensures len { result ≡ line_len self.now.class }
+        ensures lawful { IsLawfulArray self.now }
+    {
+        match &self.stored {
+            Stored::Plain(_) => 1,
+            Stored::Constant(_) | Stored::Regular(_, _) => self.items,
+            Stored::Positions(counts, _, _) => last_of(counts) as u64,
+            Stored::Connections(counts) => last_of(counts).saturating_sub(1) as u64,
         }
     }
 

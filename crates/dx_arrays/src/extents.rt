@@ -2,24 +2,25 @@
 ghost use Rattle.std.specs.Prelude.{◌≡◌, ◌<◌, ◌≤◌, ◌^◌, ◌*◌, ◌&&◌, take, [], ◌∷◌, min, length, IsTrue, MatchOption, false, nat_le};
 ghost use Rattle.std.specs.List.{list_all};
 ghost use Rattle.dx_base.specs.Array.{product, cells};
+ghost use Rattle.dx_arrays.specs.Block.{last_count};
 ghost use Rattle.dx_base.specs.ArrayLimits.{is_shape as spec_is_shape, is_grid as spec_is_grid, max_items, max_values};
 
 use std::marker::Model;
 
 /// How many extents a shape may have.
-pub(crate) const MAX_RANK: usize = 2;
+pub const MAX_RANK: usize = 2;
 
 /// The greatest extent.
-pub(crate) const MAX_EXTENT: u32 = 256;
+pub const MAX_EXTENT: u32 = 256;
 
 /// How many dimensions a grid may have.
-pub(crate) const MAX_DIMENSIONS: usize = 3;
+pub const MAX_DIMENSIONS: usize = 3;
 
 /// How many items an array may have.
-pub(crate) const MAX_ITEMS: u64 = 16_777_216;
+pub const MAX_ITEMS: u64 = 16_777_216;
 
 /// How many values the items of an array may have in all.
-pub(crate) const MAX_VALUES: u64 = 134_217_728;
+pub const MAX_VALUES: u64 = 134_217_728;
 
 /// The extents of an item, which are kept in place, and their product.
 #[derive(Debug, Drop)]
@@ -32,6 +33,7 @@ pub(crate) struct Extents {
 impl Model for Extents {
     ghost use Rattle.std.specs.Prelude.{◌≡◌, ◌≤◌, List, ℕ, take, IsTrue};
     ghost use Rattle.dx_base.specs.Array.{product};
+    ghost use Rattle.dx_arrays.specs.Block.{last_count};
     ghost use Rattle.dx_base.specs.ArrayLimits.{is_shape};
 
     ghost Value = { List ℕ };
@@ -127,8 +129,17 @@ pub(crate) fn product_of(extents: &[u32]) -> u64
     product
 }
 
-/// How many cells a grid has, or the greatest number where there are more.
-pub(crate) fn cell_count(counts: &[u32]) -> u64
+/// How many points a grid with these counts has, which is how many items its positions are, or the greatest number
+/// where there are more. Nothing is made for it.
+pub fn point_count(counts: &[u32]) -> u64
+    ensures { result ≡ min (product counts.now) 18446744073709551615 }
+{
+    product_of(counts)
+}
+
+/// How many cells a grid with these counts of points has, which is how many items its connections are, or the greatest
+/// number where there are more. Nothing is made for it.
+pub fn cell_count(counts: &[u32]) -> u64
     ensures { result ≡ min (product (cells counts.now)) 18446744073709551615 }
 {
     let mut product: u64 = 1;
@@ -136,6 +147,14 @@ pub(crate) fn cell_count(counts: &[u32]) -> u64
         product = product.saturating_mul(count.saturating_sub(1) as u64);
     }
     product
+}
+
+/// The last of some counts.
+pub(crate) fn last_of(counts: &[u32]) -> u32
+    requires { 0 < length counts.now }
+    ensures { result ≡ last_count counts.now }
+{
+    counts[counts.len() - 1]
 }
 
 /// How many corners a cell of the grid has.
@@ -146,8 +165,9 @@ pub(crate) fn corner_count(counts: &[u32]) -> u32
     1 << counts.len()
 }
 
-/// Whether an array may have so many items of this width.
-pub(crate) fn has_room(items: u64, width: u64) -> bool
+/// Whether an array may have so many items of so many values: at most `MAX_ITEMS` items, and at most `MAX_VALUES` values
+/// in all.
+pub fn has_room(items: u64, width: u64) -> bool
     requires some { 0 < width }
     requires few { width ≤ 65536 }
     ensures room { result ≡ (nat_le (items * width) (max_items * width) && nat_le (items * width) max_values) }

@@ -3,6 +3,7 @@
 #![tactic(auto)]
 
 mod array;
+mod block;
 mod extents;
 mod grid;
 mod laws;
@@ -11,5 +12,7 @@ mod range;
 
 pub use array::{Array, ArrayClass, ArrayError, Shape};
 pub use dx_base::{ElemType, in_range};
+pub use extents::{
+    MAX_DIMENSIONS, MAX_EXTENT, MAX_ITEMS, MAX_RANK, MAX_VALUES, cell_count, has_room, point_count,
+};
 pub use laws::{cell_law, point_law, reach_law};
-

@@ -6,6 +6,7 @@ use Rattle.dx_base.specs.declared.token.SyntaxError.{SyntaxError}
 use Rattle.dx_base.specs.declared.token.SyntaxKind.TheVariants as kind
 use Rattle.dx_grammar.specs.Rule as rule
 use Rattle.dx_grammar.specs.Rule.{nothing, refused, one, unless, more, snoc, ◌>>=◌, ◌>>◌, ◌∣◌}
+use Rattle.dx_ast.specs.Limits.{max_numbers, max_nested_calls}
 use Rattle.dx_ast.specs.declared.constants.Const.{Const}
 use Rattle.dx_ast.specs.declared.constants.Const.TheVariants as const
 use Rattle.dx_ast.specs.declared.expressions.Expr.{Expr}
@@ -54,7 +55,7 @@ abbrev pub number : List ℤ → Rule ℤ
 number found = do
   comma
   n ← int
-  unless (fault_if (length found == 256) kind.Syntax n.0) n.1
+  unless (fault_if (length found == max_numbers) kind.Syntax n.0) n.1
 
 -- '[' INT { [ ',' ] INT } ']'
 abbrev pub vector : Rule (Place × List ℤ)
@@ -209,7 +210,7 @@ call_after zero n = sign (codes "(") >>= λ p. refused (fault kind.Syntax p)
 call_after (suc calls) n = call_of (expr_by (call_after calls)) n
 
 abbrev pub call : Text → Rule Call
-call = call_after 64
+call = call_after max_nested_calls
 
 abbrev pub expression : ℕ → Rule Expr
 expression calls = expr_by (call_after calls)
@@ -228,7 +229,7 @@ abbrev pub single : Rule (Option Stmt)
 single = do
   n ← name
   sign (codes "=")
-  e ← expression 64
+  e ← expression max_nested_calls
   sign (codes ";")
   nothing (Some (stmt.Assign (record { targets = n.1 ∷ []; value = e })))
 

@@ -1,5 +1,6 @@
 -- The trees that a script can stand for.
 use Rattle.std.specs.Prelude.{◌≡◌, ℕ, ◌≤◌, ◌<◌, ◌*◌, false, List, [], ◌∷◌, length, map, Option, Some, None, All}
+use Rattle.dx_ast.specs.Limits.{max_name_bytes, max_numbers, max_elements, max_names}
 use Rattle.dx_ast.specs.declared.constants.Const.{Const}
 use Rattle.dx_ast.specs.declared.constants.Const.TheVariants as const
 use Rattle.dx_ast.specs.declared.statements.Param.{Param}
@@ -9,7 +10,7 @@ use Rattle.dx_ast.specs.Value.{HasLawfulValue}
 use Rattle.dx_ast.specs.Syntax.{Expr, Constant, Name, Frame, CallOf, Call, MakeCall, Args, NoArg, AndArg, Stmt, Assigns, Calls, Defines, Includes, Sets, Says, Sequences, Macro, MakeMacro, Stmts, NoStmt, AndStmt}
 
 abbrev pub IsName : Text → Type 0
-IsName n = (1 ≤ length n) × (length n ≤ 255)
+IsName n = (1 ≤ length n) × (length n ≤ max_name_bytes)
 
 -- ---- constants
 
@@ -18,10 +19,10 @@ abbrev pub HasLawfulShape : Const → Type 0
 HasLawfulShape const.Null = Unit {0}
 HasLawfulShape (const.Int n) = Unit {0}
 HasLawfulShape (const.Text t) = Unit {0}
-HasLawfulShape (const.Vector ns) = (1 ≤ length ns) × (length ns ≤ 256)
-HasLawfulShape (const.Ints ns) = length ns ≤ 65536
-HasLawfulShape (const.Vectors width ns) = (1 ≤ width) × (width ≤ 256) × ((count : ℕ) × (count ≤ 65536) × (length ns ≡ count * width))
-HasLawfulShape (const.Texts ts) = length ts ≤ 65536
+HasLawfulShape (const.Vector ns) = (1 ≤ length ns) × (length ns ≤ max_numbers)
+HasLawfulShape (const.Ints ns) = length ns ≤ max_elements
+HasLawfulShape (const.Vectors width ns) = (1 ≤ width) × (width ≤ max_numbers) × ((count : ℕ) × (count ≤ max_elements) × (length ns ≡ count * width))
+HasLawfulShape (const.Texts ts) = length ts ≤ max_elements
 
 pub record IsLawfulConst (c : Const) : Type 0 where
   pub shape : HasLawfulShape c
@@ -92,7 +93,7 @@ Differ (n ∷ rest) = (has_name n rest ≡ false) × Differ rest
 
 -- at most 64 names, which differ
 pub record AreLawfulNames (ns : List Text) : Type 0 where
-  pub few : length ns ≤ 64
+  pub few : length ns ≤ max_names
   pub names : All IsName ns
   pub differ : Differ ns
 

@@ -4,6 +4,7 @@ use Rattle.std.specs.Str.{bytes_eq}
 use Rattle.dx_base.specs.declared.token.Place.{Place}
 use Rattle.dx_base.specs.declared.token.SyntaxError.{SyntaxError}
 use Rattle.dx_base.specs.declared.token.SyntaxKind.TheVariants as kind
+use Rattle.dx_ast.specs.Limits.{max_elements, max_names}
 use Rattle.dx_ast.specs.declared.constants.Const.{Const}
 use Rattle.dx_ast.specs.declared.constants.Const.TheVariants as const
 use Rattle.dx_ast.specs.declared.expressions.Call.{Call}
@@ -45,7 +46,7 @@ with_element found e = (found.0 + 1, joined found.1 e)
 
 -- one that differs is that first, and then one too many
 abbrev pub element_fault : Found → Place → Const → Option SyntaxError
-element_fault found p e = if not (agrees found.1 e) then Some (fault kind.MixedList p) else fault_if (found.0 == 65536) kind.ListTooLong p
+element_fault found p e = if not (agrees found.1 e) then Some (fault kind.MixedList p) else fault_if (found.0 == max_elements) kind.ListTooLong p
 
 -- ---- ranges
 
@@ -71,7 +72,7 @@ unfoldable pub range : ℤ → ℤ → ℤ → List ℤ
 range a b d = stepping (range_count a b d) a d
 
 abbrev pub range_fault : ℤ → ℤ → Place → ℤ → Option SyntaxError
-range_fault a b p d = fault_if (nat_lt 65536 (range_count a b d)) kind.ListTooLong p
+range_fault a b p d = fault_if (nat_lt max_elements (range_count a b d)) kind.ListTooLong p
 
 -- ---- attributes
 
@@ -108,7 +109,7 @@ has_name n (first ∷ rest) = bytes_eq n first || has_name n rest
 
 -- the 65th, or one that is there already
 abbrev pub name_fault : ℕ → List Text → Place → Text → Option SyntaxError
-name_fault count found p n = fault_if ((count == 64) || has_name n found) kind.Syntax p
+name_fault count found p n = fault_if ((count == max_names) || has_name n found) kind.Syntax p
 
 abbrev pub param_name : Param → Text
 param_name p = p.name

@@ -7,8 +7,6 @@ mod rows;
 mod sequencing;
 mod statements;
 mod table;
-#[cfg(test)]
-mod tests;
 
 pub use constants::{Const, Ints, TextList};
 pub use expressions::{Arg, Args, Call, Expr};

@@ -1,6 +1,5 @@
 //! Texts as lists of bytes.
 ghost use Rattle.std.specs.Prelude.{◌≡◌, IfOk};
-ghost use Rattle.dx_base.specs.BytesView.{bytes_in};
 
 use std::alloc::{AllocError, Global};
 use std::cmp::Ordering;
@@ -10,23 +9,15 @@ use std::marker::Model;
 /// A text, a name or the content of a file, which contracts see as a list of bytes.
 #[derive(Debug, Drop)]
 pub struct Bytes {
-    content: Content,
-}
-
-// The bytes in memory of their own, or a text of the program itself.
-#[derive(Debug, Drop)]
-enum Content {
-    Owned(Vec<u8>),
-    Fixed(&'static [u8]),
+    content: Vec<u8>,
 }
 
 impl Model for Bytes {
     ghost use Rattle.std.specs.Prelude.{List, ℕ};
-    ghost use Rattle.dx_base.specs.BytesView.{bytes_in};
 
     ghost Value = { List ℕ };
 
-    ghost view = { λ b. bytes_in b.content };
+    ghost view = { λ b. b.content.items };
 }
 
 impl Bytes {
@@ -35,7 +26,7 @@ impl Bytes {
         ensures { IfOk result (λ copy. copy ≡ b.now) }
     {
         Ok(Bytes {
-            content: Content::Owned(Vec::from_slice(alloc, b)?),
+            content: Vec::from_slice(alloc, b)?,
         })
     }
 
@@ -43,37 +34,20 @@ impl Bytes {
     pub fn from_vec(content: Vec<u8>) -> Bytes
         ensures { result ≡ content.items }
     {
-        Bytes {
-            content: Content::Owned(content),
-        }
+        Bytes { content }
     }
 
-    /// A text of the program itself, which takes no memory.
-    pub fn of_static(text: &'static [u8]) -> Bytes
-        ensures { result ≡ text.now }
+    /// The bytes, moved out.
+    pub fn into_vec(self) -> Vec<u8>
+        ensures { result.items ≡ self }
     {
-        Bytes {
-            content: Content::Fixed(text),
-        }
-    }
-
-    /// The bytes, moved out. Only a text of the program itself takes memory.
-    pub fn into_vec(self, alloc: Global) -> Result<Vec<u8>, AllocError>
-        ensures { IfOk result (λ bytes. bytes.items ≡ self) }
-    {
-        match self.content {
-            Content::Owned(content) => Ok(content),
-            Content::Fixed(text) => Vec::from_slice(alloc, text),
-        }
+        self.content
     }
 
     pub fn bytes(&self) -> &[u8]
         ensures { result.now ≡ self.now }
     {
-        match &self.content {
-            Content::Owned(content) => content,
-            Content::Fixed(text) => text,
-        }
+        &self.content
     }
 }
 

@@ -1,6 +1,6 @@
 // Arrays of each class: what they hand out, their values, their stated size, and which are refused.
 use crate::arrays_made::{cells, constant, line, plain, points, shape};
-use dx_arrays::{Array, ArrayClass, ArrayError, ElemType};
+use dx_arrays::{Array, ArrayClass, ArrayError, ElemType, cell_count, has_room, point_count};
 use std::alloc::{AllocError, Global};
 use std::test::Fail;
 
@@ -102,6 +102,64 @@ fn a_cell_has_the_numbers_of_its_corners(rt: HostRuntime) -> Result<(), Fail> {
     }
     let none = cells(alloc, &[1, 4294967295])?;
     assert!(rt; none.items() == 0 && none.width() == 4);
+    Ok(())
+}
+
+// One array of each class, with several lines of items in those of grids.
+fn of_each_class(alloc: Global) -> Result<[Array; 8], Fail> {
+    Ok([
+        plain(alloc, ElemType::Int, &[2], &[1, 2, 3, 4, 5, 6, 7, 8])?,
+        constant(alloc, 5, &[7, -7])?,
+        line(alloc, 6, 10, -2)?,
+        line(alloc, 1, 10, i64::MAX)?,
+        points(alloc, &[4, 3], &[-5, 7], &[100, 1, 3, -10])?,
+        points(alloc, &[2, 3, 1], &[1, 2, 3], &[9, 0, 1, 0, 5, 0, 7, 0, -1])?,
+        cells(alloc, &[4, 5])?,
+        cells(alloc, &[2, 2, 6])?,
+    ])
+}
+
+// The values of any stretch of items are those of its items, one after the other, behind what the list holds.
+#[test]
+fn many_items_are_read_as_one_by_one(rt: HostRuntime) -> Result<(), Fail> {
+    let alloc = rt.alloc();
+    for array in &of_each_class(alloc)? {
+        let width = array.width() as usize;
+        let all = values_of(alloc, array)?;
+        for from in 0..array.items() + 1 {
+            for to in from..array.items() + 1 {
+                let mut read = Vec::from_slice(alloc, &[99])?;
+                array.push_items(from, to, &mut read)?;
+                let (first, end) = (from as usize * width, to as usize * width);
+                assert!(rt; read[0] == 99 && read[1..] == all[first..end]);
+            }
+        }
+    }
+    Ok(())
+}
+
+#[test]
+fn items_of_grids_are_counted_before_they_are_made(rt: HostRuntime) -> Result<(), Fail> {
+    let rows: [(&[u32], u64, u64); 6] = [
+        (&[4096, 4096], 16777216, 16769025),
+        (&[5, 1, 7], 35, 0),
+        (&[0, 9], 0, 0),
+        (&[], 1, 1),
+        (
+            &[4294967295, 4294967295],
+            18446744065119617025,
+            18446744056529682436,
+        ),
+        (
+            &[4294967295, 4294967295, 4294967295],
+            18446744073709551615,
+            18446744073709551615,
+        ),
+    ];
+    for (counts, points, cells) in rows {
+        assert!(rt; point_count(counts) == points && cell_count(counts) == cells);
+    }
+    assert!(rt; has_room(16777216, 8) && !has_room(16777217, 1) && !has_room(8388609, 16));
     Ok(())
 }
 

@@ -5,3 +5,5 @@
 mod arrays;
 #[cfg(test)]
 mod arrays_made;
+#[cfg(test)]
+mod print;

@@ -29,7 +29,8 @@ use Rattle.dx_graph.specs.Unfolding.{call_at, calls_of, unfolded}
 use Rattle.dx_graph.specs.GraphView.{graph_of}
 use Rattle.dx_graph.specs.Operands.{Gives, meaning, scope_with}
 use Rattle.dx_graph.specs.Expanding.{Setting, Expands, Remembers, Starts, expr_in, dictionary_in, top_scope, top_results}
-use Rattle.dx_graph.specs.Driving.{top_setting, top_expanded, effects_in, Memo, missing, IsMissing, SameWorld, Rests, Learned}
+use Rattle.dx_graph.specs.Driving.{top_setting, top_expanded, effects_in, SameWorld, Rests, Learned}
+use Rattle.dx_graph.specs.Marks.{Memo}
 use Rattle.dx_graph.specs.declared.graph.Graph.{Graph}
 use Rattle.dx_graph.specs.declared.operand.Operand.{Operand}
 use Rattle.dx_graph.specs.declared.operand.Results.{Results}
@@ -114,104 +115,6 @@ rests_learned w v old mid new i r same below set rests grows gives cleared = rec
   places = same.places ∙ rests.places ∙ sym (ap (λ (d : Dictionary). length (dictionary_of d).definitions) same.dictionary);
   effects = ap (λ (g : plain.Graph). g.effects) cleared;
 }
-
--- after a definition whose results couldn't be kept: its nodes stay
-pub rests_grown : (w : World) (old mid new : Graph) → Rests w old → Starts (graph_of old).nodes (graph_of mid).nodes → graph_of new ≡ plain.with_effects (take 0 (graph_of mid).effects) (graph_of mid) → Rests w new
-rests_grown w old mid new rests grows cleared = record {
-  memo = subst (λ (ns : List Node). Remembers ns w) (sym (ap (λ (g : plain.Graph). g.nodes) cleared)) (remembers_later w (graph_of old).nodes (graph_of mid).nodes grows rests.memo);
-  places = rests.places;
-  effects = ap (λ (g : plain.Graph). g.effects) cleared;
-}
-
--- after a text that stopped, when the graph is cut back
-pub rests_cut : (w : World) (old mid new : Graph) (count : ℕ) → Rests w old → count ≡ length (graph_of old).nodes → Starts (graph_of old).nodes (graph_of mid).nodes → graph_of new ≡ plain.first_nodes count (graph_of mid) → Rests w new
-rests_cut w old mid new count rests all grows is_cut =
-    let kept : (graph_of new).nodes ≡ (graph_of old).nodes =
-    ap (λ (g : plain.Graph). g.nodes) is_cut ∙ ap₂ (λ (n : ℕ) (ns : List Node). take n ns) all grows.1 ∙ take-append_seam (graph_of old).nodes grows.0 in
-    record {
-      memo = subst (λ (ns : List Node). Remembers ns w) (sym kept) rests.memo;
-      places = rests.places;
-      effects = ap (λ (g : plain.Graph). g.effects) is_cut;
-    }
-
-pub missing_set : (memo : Memo) (i : ℕ) (r : Results) → i < length memo → slice_index_or memo i None ≡ None → missing (slice_set memo i (Some r)) + 1 ≡ missing memo
-missing_set [] i r h e = absurd (omega arith)
-missing_set (None ∷ memo) zero r h e = omega arith
-missing_set (Some x ∷ memo) zero r h e = cc
-missing_set (None ∷ memo) (suc i) r h e = omega (arith, missing_set memo i r (omega (arith, h)) e)
-missing_set (Some x ∷ memo) (suc i) r h e = omega (arith, missing_set memo i r (omega (arith, h)) e)
-
--- ---- texts that wait for one another: each stands before those that wait for it
-
-abbrev pub IsFalling : List ℕ → Type 0
-IsFalling [] = Unit {0}
-IsFalling (i ∷ rest) = All (λ j. j < i) rest × IsFalling rest
-
-all_first : (P : ℕ → Type 0) (xs : List ℕ) (i : ℕ) → All P (xs ++ i ∷ []) → All P xs
-all_first P xs i all k d lt = subst P (get_or_append_left xs (i ∷ []) d k lt) (all k d (omega (arith, lt, length-append xs (i ∷ []))))
-
-all_last : (P : ℕ → Type 0) (xs : List ℕ) (i : ℕ) → All P (xs ++ i ∷ []) → P i
-all_last P xs i all = subst P (get_or_push xs i i (length xs) refl) (all (length xs) i (omega (arith, length-append xs (i ∷ []))))
-
-falling_push : (xs : List ℕ) (i : ℕ) → IsFalling xs → All (λ (j : ℕ). i < j) xs → IsFalling (xs ++ i ∷ [])
-falling_push [] i h above = (λ k d lt. absurd (omega (arith, lt)), tt)
-falling_push (x ∷ xs) i h above =
-    (All-push (λ (j : ℕ). j < x) xs i h.0 (above 0 x (omega arith)), falling_push xs i h.1 (λ k d lt. above (suc k) d (omega (arith, lt))))
-
-falling_last : (xs : List ℕ) (i : ℕ) → IsFalling (xs ++ i ∷ []) → IsFalling xs × All (λ (j : ℕ). i < j) xs
-falling_last [] i h = (tt, λ k d lt. absurd (omega (arith, lt)))
-falling_last (x ∷ xs) i h =
-    let later = falling_last xs i h.1 in (
-      (all_first (λ (j : ℕ). j < x) xs i h.0, later.0),
-      All-cons (λ (j : ℕ). i < j) x xs (all_last (λ (j : ℕ). j < x) xs i h.0) later.1,
-    )
-
-pub record IsWaiting (memo : Memo) (pending : List ℕ) (next : ℕ) : Type 0 where
-  pub missing : All (IsMissing memo) pending
-  pub above : All (λ i. next < i) pending
-  pub falling : IsFalling pending
-  pub next_missing : IsMissing memo next
-
--- when the next text needs an earlier one
-pub waits_longer : (memo : Memo) (pending new : List ℕ) (next i : ℕ) → new ≡ pending ++ next ∷ [] → (i < next) × (slice_index_or memo i None ≡ None) → IsWaiting memo pending next → IsWaiting memo new i
-waits_longer memo pending new next i is needs h = subst (λ (xs : List ℕ). IsWaiting memo xs i) (sym is) (record {
-  missing = All-push (IsMissing memo) pending next h.missing h.next_missing;
-  above = All-push (λ (j : ℕ). i < j) pending next (λ k d lt. omega (arith, needs.0, h.above k d lt)) needs.0;
-  falling = falling_push pending next h.falling h.above;
-  next_missing = record { below = omega (arith, needs.0, h.next_missing.below); none = needs.1 };
-})
-
-still_missing : (memo new : Memo) (i j : ℕ) (r : Results) → new ≡ slice_set memo i (Some r) → i < j → IsMissing memo j → IsMissing new j
-still_missing memo new i j r is lt h = record {
-  below = omega (arith, h.below, ap length is, length-set memo i (Some r));
-  none = ap (λ (m : Memo). get_or m j None) is ∙ get_or-set_other memo i j (Some r) None (λ e. omega (arith, lt, e)) ∙ h.none;
-}
-
--- when the next text has its results, the last one that waits is the next
-pub waits_shorter : (memo new : Memo) (pending rest : List ℕ) (next i : ℕ) (learned : Learned next memo new) → pending ≡ rest ++ i ∷ [] → IsWaiting memo pending next → IsWaiting new rest i
-waits_shorter memo new pending rest next i learned is h =
-    let above = subst (All (λ (j : ℕ). next < j)) is h.above in
-    let all = subst (All (IsMissing memo)) is h.missing in
-    let falling = falling_last rest i (subst IsFalling is h.falling) in
-    record {
-      missing = λ k d lt. still_missing memo new next (get_or rest k d) learned.0 learned.1 (all_first (λ (j : ℕ). next < j) rest i above k d lt) (all_first (IsMissing memo) rest i all k d lt);
-      above = falling.1;
-      falling = falling.0;
-      next_missing = still_missing memo new next i learned.0 learned.1 (all_last (λ (j : ℕ). next < j) rest i above) (all_last (IsMissing memo) rest i all);
-    }
-
-pub fewer : (memo new : Memo) (i : ℕ) → IsMissing memo i → Learned i memo new → missing new + 1 ≡ missing memo
-fewer memo new i h learned = ap (λ (m : Memo). missing m + 1) learned.1 ∙ missing_set memo i learned.0 h.below h.none
-
-more_by : (m c : ℕ) → (m + 1) * c ≡ m * c + c
-more_by m c = grind arith
-
--- one missing less pays for any place
-pub less_left : (old new places other place next : ℕ) → new + 1 ≡ old → other ≡ places → place < places → new * (other + 1) + place < old * (places + 1) + next
-less_left old new places other place next e same h =
-    let before : old * (places + 1) ≡ new * (places + 1) + (places + 1) = ap (λ (k : ℕ). k * (places + 1)) (sym e) ∙ more_by new (places + 1) in
-    let after : new * (other + 1) ≡ new * (places + 1) = ap (λ (k : ℕ). new * (k + 1)) same in
-    omega (arith, before, after, h)
 
 pub same_on : (u v w : World) → SameWorld u v → SameWorld v w → SameWorld u w
 same_on u v w a b = record {

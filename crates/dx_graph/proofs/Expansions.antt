@@ -25,9 +25,7 @@ use Rattle.dx_graph.specs.GraphView.{graph_of, spots_in}
 use Rattle.dx_graph.specs.Operands.{operand_tree, OperandFits, results_trees, Means, Gives, given_of, GivenFits, Own, OwnFits, scope_with}
 use Rattle.dx_graph.specs.Trails.{spot_under}
 use Rattle.dx_graph.specs.Unfolding.{unfolded}
-use Rattle.dx_graph.specs.declared.text.Stop.{Stop}
-use Rattle.dx_graph.specs.declared.text.Stop.TheVariants as stop
-use Rattle.dx_graph.specs.Expanding.{Setting, Needs, Starts, Grows, Expands, ExpandsArgs, ExpandsStatement, ExpandsBody, SameText, setting, scope_of, under_of, expr_in, call_in, args_in, statement_in, body_in, applied, function_call, function_expanded, own_effect, inner_setting, dictionary_in, top_scope}
+use Rattle.dx_graph.specs.Expanding.{Setting, Starts, Grows, Expands, ExpandsArgs, ExpandsStatement, ExpandsBody, SameText, setting, scope_of, under_of, expr_in, call_in, args_in, statement_in, body_in, applied, function_call, function_expanded, own_effect, inner_setting, dictionary_in, top_scope}
 use Rattle.dx_graph.specs.declared.graph.Graph.{Graph}
 use Rattle.dx_graph.specs.declared.given.Given.{Given}
 use Rattle.dx_graph.specs.declared.operand.Operand.{Operand}
@@ -301,8 +299,3 @@ assign_statement w t before targets names s e old new own r is n g fits h a =
 pub always : {A E P : Type 0} (r : Result A E) → P → OnOk r P
 always (Ok a) h = h
 always (Err e) h = tt
-
--- a stop in a text of the same place
-pub stops_at : (A B : Type 0) (w : World) (p q : ℕ) (x : Stop) → p ≡ q → Needs {A = A} w p (Err x) → Needs {A = B} w q (Err x)
-stops_at A B w p q (stop.Need i) e h = (omega (arith, e, h.0), h.1)
-stops_at A B w p q stop.Memory e h = tt

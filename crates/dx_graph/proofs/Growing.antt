@@ -7,7 +7,7 @@ use Rattle.std.proofs.Math.Logic.{∥∥₁_map}
 use Rattle.std.proofs.Math.Nat.{eq-or-lt_of_le}
 use Rattle.dx_ast.specs.Table.{row_of}
 use Rattle.dx_graph.specs.Trails.{spot_of, spots_of}
-use Rattle.dx_graph.specs.Graph.{Node, Graph, no_node, node_of, node_at, with_node, with_effects, first_nodes, MayTake, IsNode, AreNodes, IsEffect, IsEffectNode, IsGraph}
+use Rattle.dx_graph.specs.Graph.{Node, Graph, no_node, node_of, node_at, with_node, with_effects, MayTake, IsNode, AreNodes, IsEffect, IsEffectNode, IsGraph}
 use Rattle.dx_graph.specs.Shown.{plain_node, graph_with, IsPlaced, ArePlaced}
 use Rattle.dx_graph.specs.declared.node.Input.{Input}
 use Rattle.dx_graph.specs.declared.node.Input.TheVariants as input
@@ -105,39 +105,6 @@ effects_push g n all h = ∥∥₁_map all (λ is. record { nodes = is.nodes; ef
 
 pub effects_take : (g : Graph) (count : ℕ) → ∥ IsGraph g ∥₁ → ∥ IsGraph (with_effects (take count g.effects) g) ∥₁
 effects_take g count all = ∥∥₁_map all (λ is. record { nodes = is.nodes; effects = All-take (IsEffectNode g.nodes) count g.effects is.effects })
-
--- ---- fewer nodes
-
-may_take_first : (ns : List Node) (count n : ℕ) (i : Input) → n ≤ count → MayTake ns n i → MayTake (take count ns) n i
-may_take_first ns count n (input.Constant c) le h = h
-may_take_first ns count n (input.Result m result) le h =
-    (h.0, subst (λ (node : Node). result < (row_of node.what).results) (sym (get_or-take count ns m no_node (omega (arith, h.0, le)))) h.1)
-
-node_first : (ns : List Node) (count n : ℕ) → n < length (take count ns) → AreNodes ns → IsNode (take count ns) n (node_at (take count ns) n)
-node_first ns count n lt all =
-    let short : length (take count ns) ≡ min count (length ns) = length-take count ns in
-    let in_count : n < count = omega (arith, lt, short) in
-    let h = all n (omega (arith, lt, short)) in
-    subst (λ (node : Node). IsNode (take count ns) n node) (sym (get_or-take count ns n no_node in_count)) (record {
-      inputs = λ k d k_lt. may_take_first ns count n (get_or (node_at ns n).inputs k d) (omega (arith, in_count)) (h.inputs k d k_lt);
-      enough = h.enough;
-      few = h.few;
-      cache = h.cache;
-    })
-
-pub lawful_first : (ts : List Trail) (ps : List Placed) (es : List ℕ) (count : ℕ) → ∥ IsGraph (graph_with ts ps es) ∥₁ → ∥ IsGraph (graph_with ts (take count ps) []) ∥₁
-lawful_first ts ps es count all =
-    let plain = plain_node (spots_of ts) in
-    ∥∥₁_map all (λ is. record {
-      nodes = subst AreNodes (take-map plain count ps) (λ n lt. node_first (map plain ps) count n lt is.nodes);
-      effects = λ k d lt. absurd (omega (arith, lt));
-    })
-
-pub first_shown : (ts : List Trail) (ps : List Placed) (es : List ℕ) (count : ℕ) → graph_with ts (take count ps) [] ≡ first_nodes count (graph_with ts ps es)
-first_shown ts ps es count = ap (λ ns. record { nodes = ns; effects = [] }) (sym (take-map (plain_node (spots_of ts)) count ps))
-
-pub placed_first : (count least : ℕ) (ps : List Placed) → ArePlaced least ps → ArePlaced least (take count ps)
-placed_first count least ps all = All-take (IsPlaced least) count ps all
 
 -- ---- counts
 

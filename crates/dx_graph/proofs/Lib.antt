@@ -6,6 +6,8 @@ pub mod Named
 pub mod Arguments
 pub mod Scopes
 pub mod TopLevel
+pub mod Marks
+pub mod Parts
 pub mod Outcomes
 pub mod Taking
 pub mod Standing
@@ -14,3 +16,4 @@ pub mod LawfulParts
 pub mod Expansions
 pub mod Measures
 pub mod Driving
+pub mod Marked

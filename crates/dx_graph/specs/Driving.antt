@@ -6,6 +6,7 @@ use Rattle.dx_macros.specs.Dictionary.{TopText}
 use Rattle.dx_macros.specs.Expansion.{Expanded, under_top, expand_within, effects_among}
 use Rattle.dx_graph.specs.GraphView.{graph_of}
 use Rattle.dx_graph.specs.Expanding.{Setting, Remembers, dictionary_in, top_scope}
+use Rattle.dx_graph.specs.Marks.{Memo}
 use Rattle.dx_graph.specs.declared.graph.Graph.{Graph}
 use Rattle.dx_graph.specs.declared.operand.Results.{Results}
 use Rattle.dx_graph.specs.declared.text.World.{World}
@@ -24,20 +25,6 @@ effects_in None w place = []
 effects_in (Some t) w place = effects_among (top_expanded w place t).kept
 
 -- ---- what is remembered
-
-abbrev pub Memo : Type 0
-Memo = List (Option Results)
-
--- how many definitions have no results yet
-abbrev pub missing : Memo → ℕ
-missing [] = 0
-missing (None ∷ rest) = suc (missing rest)
-missing (Some r ∷ rest) = missing rest
-
--- a definition has no results yet
-pub record IsMissing (memo : Memo) (i : ℕ) : Type 0 where
-  pub below : i < length memo
-  pub none : slice_index_or memo i None ≡ None
 
 -- only what is remembered may differ
 pub record SameWorld (old new : World) : Type 0 where

@@ -1,5 +1,5 @@
 -- What an expansion under way has at hand, and what it adds to its graph.
-use Rattle.std.specs.Prelude.{◌≡◌, ℕ, suc, ◌<◌, List, [], ◌∷◌, ◌++◌, Some, None, All, length, map, if◌then◌else◌, slice_index_or, Result, Ok, Err}
+use Rattle.std.specs.Prelude.{◌≡◌, ℕ, suc, ◌<◌, List, [], ◌∷◌, ◌++◌, Some, None, All, length, map, if◌then◌else◌, slice_index_or}
 use Rattle.std.specs.Str.{bytes_eq}
 use Rattle.dx_base.specs.NameTable.{under_name}
 use Rattle.dx_ast.specs.Classes.{Text as Name}
@@ -24,8 +24,6 @@ use Rattle.dx_graph.specs.declared.given.Given.{Given}
 use Rattle.dx_graph.specs.declared.operand.Results.{Results}
 use Rattle.dx_graph.specs.declared.text.World.{World}
 use Rattle.dx_graph.specs.declared.text.Text.{Text}
-use Rattle.dx_graph.specs.declared.text.Stop.{Stop}
-use Rattle.dx_graph.specs.declared.text.Stop.TheVariants as stop
 
 -- ---- the top level
 
@@ -129,12 +127,6 @@ pub record SameText (old new : Text) : Type 0 where
   pub trail : new.trail ≡ old.trail
   pub left : new.left ≡ old.left
   pub place : new.place ≡ old.place
-
--- where it stops at a definition that wasn't expanded, that stands before the text's place
-abbrev pub Needs : {A : Type 0} → World → ℕ → Result A Stop → Type 0
-Needs w place (Ok a) = Unit {0}
-Needs w place (Err (stop.Need i)) = (i < place) × (slice_index_or w.memo i None ≡ None)
-Needs w place (Err stop.Memory) = Unit {0}
 
 -- ---- what an expansion adds
 

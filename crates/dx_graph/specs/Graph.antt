@@ -1,5 +1,5 @@
 -- Graphs of calls.
-use Rattle.std.specs.Prelude.{ℕ, ◌+◌, ◌<◌, ◌≤◌, List, [], ◌∷◌, ◌++◌, All, length, take, slice_index_or}
+use Rattle.std.specs.Prelude.{ℕ, ◌+◌, ◌<◌, ◌≤◌, List, [], ◌∷◌, ◌++◌, All, length, slice_index_or}
 use Rattle.dx_base.specs.declared.function.Function.{Function}
 use Rattle.dx_base.specs.declared.function.Function.TheVariants as function
 use Rattle.dx_ast.specs.Lawful.{IsLawfulConst}
@@ -43,10 +43,6 @@ with_node node g = record { nodes = g.nodes ++ node ∷ []; effects = g.effects 
 
 abbrev pub with_effects : List ℕ → Graph → Graph
 with_effects effects g = record { nodes = g.nodes; effects = effects }
-
--- the first nodes, and no effect
-abbrev pub first_nodes : ℕ → Graph → Graph
-first_nodes count g = record { nodes = take count g.nodes; effects = [] }
 
 -- ---- what holds of every graph
 

@@ -7,4 +7,5 @@ pub mod Shown
 pub mod GraphView
 pub mod Operands
 pub mod Expanding
+pub mod Marks
 pub mod Driving

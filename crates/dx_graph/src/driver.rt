@@ -1,26 +1,29 @@
-ghost use Rattle.std.specs.Prelude.{◌≡◌, ◌<◌, ◌++◌, length, None, IfOk, OnOk, OnErr, replicate};
+ghost use Rattle.std.specs.Prelude.{◌≡◌, ◌<◌, ◌++◌, length, Some, None, IfOk, OnOk, replicate};
 ghost use Rattle.dx_ast.specs.Lawful.{IsLawful, IsLawfulExpr, IsLawfulCall};
 ghost use Rattle.dx_ast.specs.Plain.{plain_expr, plain_call, plain_stmt};
-ghost use Rattle.dx_macros.specs.Dictionary.{top_text, of_call};
+ghost use Rattle.dx_macros.specs.Checking.{Checks};
+ghost use Rattle.dx_macros.specs.Dictionary.{TopText, top_text, of_call, definition};
 ghost use Rattle.dx_macros.specs.DictionaryView.{dictionary_of};
 ghost use Rattle.dx_macros.specs.Expansion.{top_spot, effects};
+ghost use Rattle.dx_macros.specs.Places.{flags};
 ghost use Rattle.dx_macros.specs.Shown.{text_of};
 ghost use Rattle.dx_macros.specs.Walk.{first_fault};
 ghost use Rattle.dx_graph.specs.Trails.{IsTrail, spot_under};
 ghost use Rattle.dx_graph.specs.Unfolding.{unfolded};
 ghost use Rattle.dx_graph.specs.GraphView.{graph_of, spots_in};
-ghost use Rattle.dx_graph.specs.Expanding.{Remembers, Needs, Ready, Grows, Expands, setting, top_results};
+ghost use Rattle.dx_graph.specs.Expanding.{Remembers, Ready, Grows, Expands, setting, dictionary_in, top_results};
 ghost use Rattle.dx_graph.specs.Operands.{Gives};
-ghost use Rattle.dx_graph.specs.Driving.{top_setting, top_expanded, effects_in, missing, IsMissing, SameWorld, Rests, Learned};
+ghost use Rattle.dx_graph.specs.Driving.{top_setting, top_expanded, effects_in, SameWorld, Rests, Learned};
+ghost use Rattle.dx_graph.specs.Marks.{ExprWalked, TopWalked, AreWalked, HaveResults};
 ghost use Rattle.dx_graph.specs.declared.graph.Graph.{Graph};
 
 use crate::expansion::{expand_call, expand_expr};
 use crate::graph::Graph;
 use crate::operand::Results;
-use crate::text::{Stop, Text, World};
+use crate::text::{Text, World};
 use dx_ast::{Assign, Call, Frames, Stmt};
 use dx_base::Bytes;
-use dx_macros::{Dictionary, MAX_STEPS, Names, Sparse};
+use dx_macros::{CheckFail, Dictionary, MAX_STEPS, Names, Sparse};
 use indexmap::IndexMap;
 use std::alloc::{AllocError, Global};
 
@@ -46,6 +49,7 @@ fn text_at_top<'a>(w: &World<'a>, trail: Option<u32>, place: usize) -> Text<'a>
     ensures place { result.place ≡ place }
     ensures ready { (g : Graph) → Remembers (graph_of g).nodes w.now → IsTrail (length (spots_in g)) trail → Ready w.now result g }
     ensures setting { (g : Graph) → setting w.now result g ≡ top_setting w.now place (spot_under (spots_in g) trail) }
+    ensures walked { (t : TopText) → TopWalked w.now place t → ExprWalked w.now result t.value }
 {
     Text {
         trail,
@@ -61,12 +65,12 @@ fn expand_assign<'a>(
     graph: &mut Graph,
     a: &'a Assign,
     place: usize,
-) -> Result<Results<'a>, Stop>
+) -> Result<Results<'a>, AllocError>
     requires memo { Remembers (graph_of graph.old).nodes w.now }
     requires lawful { ∥ IsLawfulExpr (plain_expr a.now.value) ∥₁ }
+    requires walked { TopWalked w.now place (text_of a.now) }
     ensures grows { Grows graph.old graph.new }
     ensures expands { IfOk result (λ r. Expands (top_expanded w.now place (text_of a.now)) graph.old graph.new r) }
-    ensures needs { Needs w.now place result }
 {
     let trail = first_trail(w.alloc, graph, a.targets.as_slice())?;
     let text = text_at_top(w, trail, place);
@@ -80,112 +84,78 @@ fn expand_top_call<'a>(
     graph: &mut Graph,
     c: &'a Call,
     place: usize,
-) -> Result<Results<'a>, Stop>
+) -> Result<Results<'a>, AllocError>
     requires memo { Remembers (graph_of graph.old).nodes w.now }
     requires lawful { ∥ IsLawfulCall (plain_call c.now) ∥₁ }
+    requires walked { TopWalked w.now place (of_call (plain_call c.now)) }
     ensures grows { Grows graph.old graph.new }
     ensures expands { IfOk result (λ r. Expands (top_expanded w.now place (of_call (plain_call c.now))) graph.old graph.new r) }
-    ensures needs { Needs w.now place result }
 {
     let text = text_at_top(w, None, place);
     let mut before = Names::new(w.alloc);
     expand_call(w, &text, graph, &mut before, c)
 }
 
-fn expand_definition<'a>(w: &World<'a>, graph: &mut Graph, i: usize) -> Result<Results<'a>, Stop>
+fn expand_definition<'a>(
+    w: &World<'a>,
+    graph: &mut Graph,
+    i: usize,
+) -> Result<Results<'a>, AllocError>
     requires rests { Rests w.now graph.old }
-    requires missing { IsMissing w.now.memo i }
+    requires below { i < length w.now.memo }
+    requires walked { TopWalked w.now i (definition (dictionary_in w.now).definitions i) }
     ensures grows { Grows graph.old graph.new }
     ensures gives { IfOk result (λ r. Gives (graph_of graph.new).nodes r (top_results w.now i)) }
-    ensures needs { Needs w.now i result }
 {
     let a = w.dictionary.definition(i);
     expand_assign(w, graph, a, i)
 }
 
 /// The definition at a place is expanded and remembered. Its effects are no effects of the graph.
-fn define<'a>(w: &mut World<'a>, graph: &mut Graph, i: usize) -> Result<(), Stop>
+fn define<'a>(w: &mut World<'a>, graph: &mut Graph, i: usize) -> Result<(), AllocError>
     requires rests { Rests w.old graph.old }
-    requires missing { IsMissing w.old.memo i }
-    ensures rests { Rests w.new graph.new }
-    ensures same { SameWorld w.old w.new }
-    ensures ok { OnOk result (Learned i w.old.memo w.new.memo) }
-    ensures err { OnErr result (w.new.memo ≡ w.old.memo) }
-    ensures needs { Needs w.old i result }
+    requires below { i < length w.old.memo }
+    requires walked { TopWalked w.old i (definition (dictionary_in w.old).definitions i) }
+    ensures rests { OnOk result (Rests w.new graph.new) }
+    ensures same { OnOk result (SameWorld w.old w.new) }
+    ensures learned { OnOk result (Learned i w.old.memo w.new.memo) }
 {
-    let count = graph.len() as usize;
-    match expand_definition(w, graph, i) {
-        Ok(results) => {
-            graph.forget_effects(0);
-            w.memo.set(i, results)?;
-            Ok(())
-        }
-        Err(stop) => {
-            graph.cut(count);
-            Err(stop)
-        }
-    }
-}
-
-/// The definition at a place is expanded, and before it the definitions that it needs.
-fn define_all<'a>(w: &mut World<'a>, graph: &mut Graph, i: usize) -> Result<(), AllocError>
-    requires rests { Rests w.old graph.old }
-    requires missing { IsMissing w.old.memo i }
-    ensures rests { Rests w.new graph.new }
-    ensures same { SameWorld w.old w.new }
-    ensures fewer { OnOk result (missing w.new.memo < missing w.old.memo) }
-{
-    let mut pending = Vec::new(w.alloc);
-    let mut last = i;
-    loop {
-        match define(w, graph, last) {
-            Ok(()) => match pending.pop() {
-                None => return Ok(()),
-                Some(before) => last = before,
-            },
-            Err(Stop::Need(j)) => {
-                pending.push(last)?;
-                last = j;
-            }
-            Err(Stop::Memory) => return Err(AllocError),
-        }
-    }
-}
-
-/// The definition at a place is expanded, if it has no results yet.
-fn define_once<'a>(w: &mut World<'a>, graph: &mut Graph, i: usize) -> Result<(), AllocError>
-    requires rests { Rests w.old graph.old }
-    ensures rests { Rests w.new graph.new }
-    ensures same { SameWorld w.old w.new }
-{
-    if w.memo.is_empty_at(i) {
-        define_all(w, graph, i)?;
-    }
+    let results = expand_definition(w, graph, i)?;
+    graph.forget_effects(0);
+    w.memo.set(i, results)?;
     Ok(())
 }
 
-/// The definitions that a statement reads are expanded in the order of their places, so that no text has to be begun anew.
-fn define_read<'a>(w: &mut World<'a>, graph: &mut Graph, s: &Stmt) -> Result<(), AllocError>
-    requires lawful { IsLawful (plain_stmt s.now) }
-    requires no_fault { first_fault (dictionary_of w.old.dictionary.now) (plain_stmt s.now) ≡ None }
+/// The definitions that the walk of a statement marked are expanded, in the order of their places.
+fn define_marked<'a>(
+    w: &mut World<'a>,
+    graph: &mut Graph,
+    marks: &Sparse<()>,
+) -> Result<(), AllocError>
     requires rests { Rests w.old graph.old }
-    ensures rests { Rests w.new graph.new }
-    ensures same { SameWorld w.old w.new }
+    requires walked { AreWalked w.old (flags marks.now) }
+    ensures rests { OnOk result (Rests w.new graph.new) }
+    ensures same { OnOk result (SameWorld w.old w.new) }
+    ensures known { OnOk result (HaveResults w.new.memo (flags marks.now)) }
 {
-    let read = w.dictionary.reads(w.alloc, s)?;
-    for place in read.places() {
-        define_once(w, graph, *place)?;
+    for place in marks.places() {
+        define(w, graph, *place)?;
     }
     Ok(())
 }
 
 /// A statement at a place of the top level.
-fn expand_last<'a>(w: &World<'a>, graph: &mut Graph, s: &'a Stmt, place: usize) -> Result<(), Stop>
+fn expand_last<'a>(
+    w: &World<'a>,
+    graph: &mut Graph,
+    s: &'a Stmt,
+    place: usize,
+) -> Result<(), AllocError>
     requires memo { Remembers (graph_of graph.old).nodes w.now }
     requires lawful { IsLawful (plain_stmt s.now) }
+    requires walked { (t : TopText) → top_text (plain_stmt s.now) ≡ Some t → TopWalked w.now place t }
     ensures grows { Grows graph.old graph.new }
     ensures expands { OnOk result (unfolded (graph_of graph.new) ≡ unfolded (graph_of graph.old) ++ effects_in (top_text (plain_stmt s.now)) w.now place) }
-    ensures needs { Needs w.now place result }
 {
     match s {
         Stmt::Call(c) => {
@@ -204,26 +174,6 @@ fn expand_last<'a>(w: &World<'a>, graph: &mut Graph, s: &'a Stmt, place: usize) 
     }
 }
 
-/// The statement at the end of the top level, and before it the definitions that it needs.
-fn expand_all<'a>(w: &mut World<'a>, graph: &mut Graph, s: &'a Stmt) -> Result<(), AllocError>
-    requires rests { Rests w.old graph.old }
-    requires lawful { IsLawful (plain_stmt s.now) }
-    ensures { OnOk result (unfolded (graph_of graph.new) ≡ effects (dictionary_of w.old.dictionary.now) w.old.frames (plain_stmt s.now)) }
-{
-    let place = w.dictionary.len();
-    loop {
-        let count = graph.len() as usize;
-        match expand_last(w, graph, s, place) {
-            Ok(()) => return Ok(()),
-            Err(Stop::Need(i)) => {
-                graph.cut(count);
-                define_all(w, graph, i)?;
-            }
-            Err(Stop::Memory) => return Err(AllocError),
-        }
-    }
-}
-
 /// A world that remembers nothing yet.
 fn new_world<'a>(alloc: Global, d: &'a Dictionary, f: &Frames) -> World<'a>
     ensures dictionary { result.dictionary.now ≡ d.now }
@@ -238,6 +188,26 @@ fn new_world<'a>(alloc: Global, d: &'a Dictionary, f: &Frames) -> World<'a>
     }
 }
 
+/// The first static fault of a statement, as `check` answers it; where there is none its expansion, as `expand` does. The
+/// statement and the definitions that it reads are walked once.
+pub fn check_and_expand(
+    alloc: Global,
+    d: &Dictionary,
+    s: &Stmt,
+    f: &Frames,
+) -> Result<Graph, CheckFail>
+    requires lawful { IsLawful (plain_stmt s.now) }
+    ensures fault { Checks (first_fault (dictionary_of d.now) (plain_stmt s.now)) result }
+    ensures means { IfOk result (λ g. unfolded (graph_of g) ≡ effects (dictionary_of d.now) f.now (plain_stmt s.now)) }
+{
+    let marks = d.walk(alloc, s)?;
+    let mut w = new_world(alloc, d, f);
+    let mut graph = Graph::new(alloc);
+    define_marked(&mut w, &mut graph, &marks)?;
+    expand_last(&w, &mut graph, s, d.len())?;
+    Ok(graph)
+}
+
 /// The expansion of a statement: the graph whose effects are those of the statement, in order, which is empty where the
 /// statement isn't executed. What a definition comes to stands in it once, however often it is read. A definition that is
 /// read has no effects.
@@ -246,9 +216,9 @@ pub fn expand(alloc: Global, d: &Dictionary, s: &Stmt, f: &Frames) -> Result<Gra
     requires no_fault { first_fault (dictionary_of d.now) (plain_stmt s.now) ≡ None }
     ensures means { IfOk result (λ g. unfolded (graph_of g) ≡ effects (dictionary_of d.now) f.now (plain_stmt s.now)) }
 {
-    let mut w = new_world(alloc, d, f);
-    let mut graph = Graph::new(alloc);
-    define_read(&mut w, &mut graph, s)?;
-    expand_all(&mut w, &mut graph, s)?;
-    Ok(graph)
+    match check_and_expand(alloc, d, s, f) {
+        Ok(graph) => Ok(graph),
+        Err(CheckFail::Memory) => Err(AllocError),
+        Err(CheckFail::Fault(_, _)) => unreachable!(),
+    }
 }

@@ -4,7 +4,8 @@ ghost use Rattle.dx_ast.specs.Lawful.{IsLawfulExpr, IsLawfulCall, AreLawfulArgs,
 ghost use Rattle.dx_ast.specs.Plain.{plain_expr, plain_call, plain_args, plain_stmt, plain_stmts, plain_macro};
 ghost use Rattle.dx_ast.specs.declared.expressions.Call.{out-Call};
 ghost use Rattle.dx_ast.specs.declared.statements.MacroDef.{out-MacroDef};
-ghost use Rattle.dx_macros.specs.Names.{calls_in, calls_of, calls_in_args, calls_after};
+ghost use Rattle.dx_macros.specs.Dictionary.{param_names};
+ghost use Rattle.dx_macros.specs.Names.{calls_in, calls_of, calls_in_args, calls_after, names_after};
 ghost use Rattle.dx_macros.specs.Site.{Nth};
 ghost use Rattle.dx_macros.specs.Expansion as plain;
 ghost use Rattle.dx_graph.specs.Trails.{IsTrail, spot_under};
@@ -12,7 +13,8 @@ ghost use Rattle.dx_graph.specs.Graph.{Node};
 ghost use Rattle.dx_graph.specs.Unfolding as trees;
 ghost use Rattle.dx_graph.specs.GraphView.{graph_of, spots_in};
 ghost use Rattle.dx_graph.specs.Operands.{GivenFits, given_of, OwnFits, Gives};
-ghost use Rattle.dx_graph.specs.Expanding.{Ready, Remembers, Needs, Grows, Expands, ExpandsArgs, ExpandsStatement, ExpandsBody, IsCallOf, SameText, dictionary_in, top_scope, setting, inner_setting, scope_of, expr_in, call_in, args_in, body_in, function_call, function_expanded, own_effect, applied};
+ghost use Rattle.dx_graph.specs.Expanding.{Ready, Remembers, Grows, Expands, ExpandsArgs, ExpandsStatement, ExpandsBody, IsCallOf, SameText, dictionary_in, top_scope, setting, inner_setting, scope_of, expr_in, call_in, args_in, body_in, function_call, function_expanded, own_effect, applied};
+ghost use Rattle.dx_graph.specs.Marks.{ExprWalked, CallWalked, ArgsWalked, CalleeWalked, MacroWalked, StatementWalked, NamesWalked, BodyWalked, Holds};
 
 use crate::given::Given;
 use crate::graph::Graph;
@@ -20,7 +22,7 @@ use crate::inputs::inputs_of;
 use crate::operand::{Operand, Results, frame_value};
 use crate::own::{assign, bind_params};
 use crate::put::put;
-use crate::text::{Stop, Text, World, meaning};
+use crate::text::{Text, World, meaning};
 use dx_ast::{Arg, Call, Expr, MacroDef, Stmt, results};
 use dx_base::{Bytes, Function};
 use dx_macros::{Callee, Names, called};
@@ -91,17 +93,17 @@ pub fn expand_expr<'a>(
     graph: &mut Graph,
     before: &mut Names<'a>,
     e: &'a Expr,
-) -> Result<Results<'a>, Stop>
+) -> Result<Results<'a>, AllocError>
     requires ready { Ready w.now t.now graph.old }
     requires lawful { ∥ IsLawfulExpr (plain_expr e.now) ∥₁ }
+    requires walked { ExprWalked w.now t.now (plain_expr e.now) }
     ensures grows { Grows graph.old graph.new }
     ensures before { OnOk result (before.new ≡ before.old ++ calls_in (plain_expr e.now)) }
     ensures expands { IfOk result (λ r. Expands (expr_in (setting w.now t.now graph.old) before.old (plain_expr e.now)) graph.old graph.new r) }
-    ensures needs { Needs w.now t.now.place result }
 {
     match e {
         Expr::Constant(c) => Ok(Results::One(Operand::Constant(c))),
-        Expr::Name(n) => Ok(Results::One(meaning(w, t, n.bytes())?)),
+        Expr::Name(n) => Ok(Results::One(meaning(w, t, n.bytes()))),
         Expr::Frame(v) => Ok(Results::One(Operand::Number(frame_value(&w.frames, *v)))),
         Expr::Call(c) => expand_call(w, t, graph, before, c),
     }
@@ -115,13 +117,13 @@ pub fn expand_call<'a>(
     graph: &mut Graph,
     before: &mut Names<'a>,
     c: &'a Call,
-) -> Result<Results<'a>, Stop>
+) -> Result<Results<'a>, AllocError>
     requires ready { Ready w.now t.now graph.old }
     requires lawful { ∥ IsLawfulCall (plain_call c.now) ∥₁ }
+    requires walked { CallWalked w.now t.now (plain_call c.now) }
     ensures grows { Grows graph.old graph.new }
     ensures before { OnOk result (before.new ≡ before.old ++ calls_of (plain_call c.now)) }
     ensures expands { IfOk result (λ r. Expands (call_in (setting w.now t.now graph.old) before.old (plain_call c.now)) graph.old graph.new r) }
-    ensures needs { Needs w.now t.now.place result }
 {
     let name = c.name.bytes();
     let k = before.count(name) + 1;
@@ -138,13 +140,13 @@ fn expand_args<'a>(
     graph: &mut Graph,
     before: &mut Names<'a>,
     args: &'a [Arg],
-) -> Result<Vec<Given<'a>>, Stop>
+) -> Result<Vec<Given<'a>>, AllocError>
     requires ready { Ready w.now t.now graph.old }
     requires lawful { ∥ AreLawfulArgs (plain_args args.now) ∥₁ }
+    requires walked { ArgsWalked w.now t.now (plain_args args.now) }
     ensures grows { Grows graph.old graph.new }
     ensures before { OnOk result (before.new ≡ before.old ++ calls_in_args (plain_args args.now)) }
     ensures expands { IfOk result (λ given. ExpandsArgs (args_in (setting w.now t.now graph.old) before.old (plain_args args.now)) graph.old graph.new given.items) }
-    ensures needs { Needs w.now t.now.place result }
 {
     let mut given = Vec::new(w.alloc);
     for arg in args {
@@ -164,19 +166,18 @@ fn apply<'a>(
     c: &'a Call,
     k: usize,
     given: &[Given<'a>],
-) -> Result<Results<'a>, Stop>
+) -> Result<Results<'a>, AllocError>
     requires ready { Ready w.now t.now graph.old }
     requires lawful { ∥ IsLawfulCall (plain_call c.now) ∥₁ }
     requires given { All (GivenFits (graph_of graph.old).nodes) given.now }
+    requires walked { CalleeWalked w.now t.now (out-Call c.now).name }
     ensures grows { Grows graph.old graph.new }
     ensures expands { IfOk result (λ r. Expands (applied (setting w.now t.now graph.old) (out-Call c.now).name (out-Call c.now).cache k (map (given_of (graph_of graph.old).nodes) given.now)) graph.old graph.new r) }
-    ensures needs { Needs w.now t.now.place result }
 {
     match called(w.dictionary, c.name.bytes()) {
         Callee::Unknown => Ok(Results::One(Operand::Null)),
         Callee::Function(f) => {
-            let results = call_function(w.alloc, graph, f, given, c.cache, t.trail, k)?;
-            Ok(results)
+            call_function(w.alloc, graph, f, given, c.cache, t.trail, k)
         }
         Callee::Macro(m) => enter(w, t, graph, m, c.name.bytes(), k, given),
     }
@@ -201,6 +202,7 @@ fn inner_text<'a>(
     ensures ready { IfOk result (λ inner. Ready w.now inner graph.new) }
     ensures left { IfOk result (λ inner. inner.left + 1 ≡ t.now.left) }
     ensures place { IfOk result (λ inner. inner.place ≡ t.now.place) }
+    ensures own { IfOk result (λ inner. Holds (under_name inner.own) (param_names (out-MacroDef m.now).params)) }
     ensures setting { IfOk result (λ inner. setting w.now inner graph.new ≡ inner_setting (setting w.now t.now graph.old) (top_scope w.now t.now.place) inner.left (out-MacroDef m.now).params (Nth name.now k) (map (given_of (graph_of graph.old).nodes) given.now)) }
 {
     let trail = graph.step(w.alloc, t.trail, name, k)?;
@@ -223,14 +225,14 @@ fn enter<'a>(
     name: &[u8],
     k: usize,
     given: &[Given<'a>],
-) -> Result<Results<'a>, Stop>
+) -> Result<Results<'a>, AllocError>
     requires ready { Ready w.now t.now graph.old }
     requires lawful { ∥ IsLawfulMacro (plain_macro m.now) ∥₁ }
     requires given { All (GivenFits (graph_of graph.old).nodes) given.now }
     requires known { (dictionary_in w.now).macros name.now ≡ Some (plain_macro m.now) }
+    requires walked { MacroWalked w.now t.now (plain_macro m.now) }
     ensures grows { Grows graph.old graph.new }
     ensures expands { IfOk result (λ r. Expands ((setting w.now t.now graph.old).under.enter (plain_macro m.now) (map (given_of (graph_of graph.old).nodes) given.now) (plain.spot_of_call (setting w.now t.now graph.old).spot (Nth name.now k))) graph.old graph.new r) }
-    ensures needs { Needs w.now t.now.place result }
 {
     if t.left == 0 {
         return Ok(Results::One(Operand::Null));
@@ -241,14 +243,17 @@ fn enter<'a>(
 }
 
 /// The results of a macro: what their names mean at the end of its body.
-fn results_of<'a>(w: &World<'a>, t: &Text<'a>, names: &[Bytes]) -> Result<Results<'a>, Stop>
-    ensures needs { Needs w.now t.now.place result }
+fn results_of<'a>(
+    w: &World<'a>,
+    t: &Text<'a>,
+    names: &[Bytes],
+) -> Result<Results<'a>, AllocError>
+    requires walked { NamesWalked w.now t.now names.now }
     ensures gives { (nodes : List Node) → Remembers nodes w.now → OwnFits nodes (under_name t.now.own) → IfOk result (λ r. Gives nodes r (plain.results_in names.now (scope_of w.now t.now nodes))) }
 {
     let mut all = Vec::new(w.alloc);
     for name in names {
-        let o = meaning(w, t, name.bytes())?;
-        put(&mut all, o)?;
+        put(&mut all, meaning(w, t, name.bytes()))?;
     }
     Ok(Results::Many(all))
 }
@@ -260,14 +265,15 @@ fn expand_body<'a>(
     t: &mut Text<'a>,
     graph: &mut Graph,
     body: &'a [Stmt],
-) -> Result<(), Stop>
+) -> Result<(), AllocError>
     requires ready { Ready w.now t.old graph.old }
     requires lawful { ∥ IsLawfulBody (plain_stmts body.now) ∥₁ }
+    requires walked { (results : List (List ℕ)) × BodyWalked w.now t.old results (plain_stmts body.now) }
     ensures grows { Grows graph.old graph.new }
     ensures text { SameText t.old t.new }
     ensures ready { OnOk result (Ready w.now t.new graph.new) }
+    ensures walked { OnOk result ((results : List (List ℕ)) → BodyWalked w.now t.old results (plain_stmts body.now) → NamesWalked w.now t.new results) }
     ensures expands { OnOk result ((results : List (List ℕ)) → ExpandsBody (body_in (setting w.now t.old graph.old) results [] (plain_stmts body.now)) graph.old graph.new (plain.results_in results (scope_of w.now t.new (graph_of graph.new).nodes))) }
-    ensures needs { Needs w.now t.old.place result }
 {
     let mut before = Names::new(w.alloc);
     for s in body {
@@ -284,15 +290,16 @@ fn expand_statement<'a>(
     graph: &mut Graph,
     before: &mut Names<'a>,
     s: &'a Stmt,
-) -> Result<(), Stop>
+) -> Result<(), AllocError>
     requires ready { Ready w.now t.old graph.old }
     requires lawful { ∥ IsLawfulInBody (plain_stmt s.now) ∥₁ }
+    requires walked { StatementWalked w.now t.old (plain_stmt s.now) }
     ensures grows { Grows graph.old graph.new }
     ensures text { SameText t.old t.new }
     ensures before { OnOk result (before.new ≡ calls_after before.old (plain_stmt s.now)) }
+    ensures own { OnOk result ((names : List (List ℕ)) → Holds (under_name t.old.own) names → Holds (under_name t.new.own) (names_after names (plain_stmt s.now))) }
     ensures ready { OnOk result (Ready w.now t.new graph.new) }
     ensures expands { OnOk result (ExpandsStatement (setting w.now t.old graph.old) before.old (plain_stmt s.now) graph.old graph.new (scope_of w.now t.new (graph_of graph.new).nodes)) }
-    ensures needs { Needs w.now t.old.place result }
 {
     match s {
         Stmt::Call(c) => {

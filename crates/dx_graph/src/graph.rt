@@ -2,7 +2,7 @@ ghost use Rattle.std.specs.Prelude.{◌≡◌, ◌<◌, ◌^◌, ◌++◌, ◌�
 ghost use Rattle.dx_macros.specs.Site.{steps_text, Nth, Target};
 ghost use Rattle.dx_macros.specs.Expansion.{spot_of_call};
 ghost use Rattle.dx_graph.specs.Trails.{spot_under, IsTrail};
-ghost use Rattle.dx_graph.specs.Graph.{no_nodes, node_of, node_at, with_node, with_effects, first_nodes, IsNode, IsEffectNode, IsGraph};
+ghost use Rattle.dx_graph.specs.Graph.{no_nodes, node_of, node_at, with_node, with_effects, IsNode, IsEffectNode, IsGraph};
 ghost use Rattle.dx_graph.specs.Shown.{own, graph_with, ArePlaced};
 
 use crate::name::name_of;
@@ -165,14 +165,5 @@ impl Graph {
         ensures spots { spots_in self.new ≡ spots_in self.old }
     {
         self.effects.truncate(count);
-    }
-
-    /// The nodes behind the first `count` go, and all effects. The trails stay.
-    pub(crate) fn cut(&mut self, count: usize)
-        ensures graph { graph_of self.new ≡ first_nodes count (graph_of self.old) }
-        ensures spots { spots_in self.new ≡ spots_in self.old }
-    {
-        self.nodes.truncate(count);
-        self.effects.clear();
     }
 }

@@ -17,7 +17,7 @@ mod text;
 mod trail;
 mod trails;
 
-pub use driver::expand;
+pub use driver::{check_and_expand, expand};
 pub use graph::Graph;
 pub use law::nodes_unfold_by_inputs;
 pub use node::{Input, Inputs, Node};

@@ -1,8 +1,10 @@
-ghost use Rattle.std.specs.Prelude.{◌≡◌, List, Some, All, map, IfOk, OnOk};
+ghost use Rattle.std.specs.Prelude.{◌≡◌, ◌++◌, ℕ, List, Some, All, map, IfOk, OnOk};
 ghost use Rattle.dx_base.specs.NameTable.{under_name, changed_at};
 ghost use Rattle.dx_ast.specs.Lawful.{IsLawfulParam};
 ghost use Rattle.dx_macros.specs.Expansion as plain;
 ghost use Rattle.dx_graph.specs.Graph.{Node};
+ghost use Rattle.dx_macros.specs.Dictionary.{param_names};
+ghost use Rattle.dx_graph.specs.Marks.{Holds};
 ghost use Rattle.dx_graph.specs.Operands.{results_trees, ResultsFit, given_of, GivenFits, scope_with, OwnFits};
 
 use crate::given::{Given, param_operand};
@@ -34,6 +36,7 @@ pub fn assign<'a>(
     ensures scope { OnOk result ((nodes : List Node) (top : plain.Scope) →
         scope_with nodes (under_name own.new) top ≡ plain.assigned targets.now 0 (results_trees nodes results.now) (scope_with nodes (under_name own.old) top)) }
     ensures fits { OnOk result ((nodes : List Node) → ResultsFit nodes results.now → OwnFits nodes (under_name own.old) → OwnFits nodes (under_name own.new)) }
+    ensures own { OnOk result ((names : List (List ℕ)) → Holds (under_name own.old) names → Holds (under_name own.new) (names ++ targets.now)) }
 {
     for (i, t) in targets.iter().enumerate() {
         put(alloc, own, t.bytes(), results.at(i))?;
@@ -50,6 +53,7 @@ pub fn bind_params<'a>(
     ensures scope { IfOk result (λ own. (nodes : List Node) (top : plain.Scope) →
         scope_with nodes (under_name own) top ≡ plain.with_params params.now 0 (map (given_of nodes) given.now) top) }
     ensures fits { IfOk result (λ own. (nodes : List Node) → All (GivenFits nodes) given.now → ∥ All IsLawfulParam params.now ∥₁ → OwnFits nodes (under_name own)) }
+    ensures own { IfOk result (λ own. Holds (under_name own) (param_names params.now)) }
 {
     let mut own = IndexMap::new(alloc);
     for (i, p) in params.iter().enumerate() {

@@ -1,15 +1,16 @@
-ghost use Rattle.std.specs.Prelude.{◌≡◌, List, IfOk};
+ghost use Rattle.std.specs.Prelude.{◌≡◌, List};
 ghost use Rattle.dx_base.specs.NameTable.{under_name};
 ghost use Rattle.dx_graph.specs.Graph.{Node};
 ghost use Rattle.dx_graph.specs.Operands.{Means, OwnFits};
-ghost use Rattle.dx_graph.specs.Expanding.{Remembers, Needs, top_scope, scope_of, last_target};
+ghost use Rattle.dx_graph.specs.Expanding.{Remembers, top_scope, scope_of, last_target};
+ghost use Rattle.dx_graph.specs.Marks.{IsWalked, NameWalked, top_reader};
 
 use crate::operand::{Operand, Results};
 use crate::own::Own;
 use dx_ast::Frames;
 use dx_base::Bytes;
 use dx_macros::{Dictionary, Sparse};
-use std::alloc::{AllocError, Global};
+use std::alloc::Global;
 
 /// What an expansion stands on, and what it came to so far.
 #[derive(Drop)]
@@ -34,25 +35,6 @@ pub struct Text<'a> {
     pub own: Own<'a>,
 }
 
-/// Why the expansion of a text stops.
-#[derive(Drop)]
-pub enum Stop {
-    /// The text reads the definition at this place, which wasn't expanded yet.
-    Need(usize),
-    Memory,
-}
-
-impl From<AllocError> for Stop {
-    ghost use Rattle.std.specs.Prelude.{◌≡◌};
-    ghost use Rattle.dx_graph.specs.declared.text.Stop.TheVariants.{Memory};
-
-    ghost from_gives = { λ _ r. r ≡ Memory };
-
-    fn from(_: AllocError) -> Stop {
-        Stop::Memory
-    }
-}
-
 /// The place of the last target with this name; 0 where no target has it.
 fn last_target(targets: &[Bytes], name: &[u8]) -> usize
     ensures { result ≡ last_target targets.now 0 0 name.now }
@@ -67,29 +49,29 @@ fn last_target(targets: &[Bytes], name: &[u8]) -> usize
 }
 
 /// What a name means at a place of the top level.
-fn top_meaning<'a>(w: &World<'a>, place: usize, name: &[u8]) -> Result<Operand<'a>, Stop>
-    ensures means { (nodes : List Node) → Remembers nodes w.now → IfOk result (λ o. Means nodes o (top_scope w.now place name.now)) }
-    ensures needs { Needs w.now place result }
+fn top_meaning<'a>(w: &World<'a>, place: usize, name: &[u8]) -> Operand<'a>
+    requires walked { IsWalked w.now.memo place (top_reader w.now place name.now) }
+    ensures { (nodes : List Node) → Remembers nodes w.now → Means nodes result (top_scope w.now place name.now) }
 {
     match w.dictionary.last_before(place, name) {
-        None => Ok(Operand::Null),
+        None => Operand::Null,
         Some(i) => match w.memo.get(i) {
-            None => Err(Stop::Need(i)),
+            None => unreachable!(),
             Some(r) => {
                 let targets = w.dictionary.definition(i).targets.as_slice();
-                Ok(r.at(last_target(targets, name)))
+                r.at(last_target(targets, name))
             }
         },
     }
 }
 
-/// What a name means in a text.
-pub fn meaning<'a>(w: &World<'a>, t: &Text<'a>, name: &[u8]) -> Result<Operand<'a>, Stop>
-    ensures means { (nodes : List Node) → Remembers nodes w.now → OwnFits nodes (under_name t.now.own) → IfOk result (λ o. Means nodes o (scope_of w.now t.now nodes name.now)) }
-    ensures needs { Needs w.now t.now.place result }
+/// What a name means in a text that was walked.
+pub fn meaning<'a>(w: &World<'a>, t: &Text<'a>, name: &[u8]) -> Operand<'a>
+    requires walked { NameWalked w.now t.now name.now }
+    ensures { (nodes : List Node) → Remembers nodes w.now → OwnFits nodes (under_name t.now.own) → Means nodes result (scope_of w.now t.now nodes name.now) }
 {
     match t.own.get(name) {
-        Some(o) => Ok(*o),
+        Some(o) => *o,
         None => top_meaning(w, t.place, name),
     }
 }

@@ -7,6 +7,3 @@ mod loaded;
 
 pub use fail::LoadFail;
 pub use including::{load, one_loading};
-
-#[cfg(test)]
-mod tests;

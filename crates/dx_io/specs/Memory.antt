@@ -1,5 +1,6 @@
 -- What the devices in memory hold.
 use Rattle.std.specs.Prelude.{ℕ, List}
+use Rattle.dx_io.specs.declared.mem_exports.MemExports.{MemExports}
 use Rattle.dx_io.specs.declared.mem_files.MemFiles.{MemFiles}
 use Rattle.dx_io.specs.declared.mem_sink.MemSink.{MemSink}
 
@@ -29,3 +30,19 @@ write_calls m = m.calls
 
 abbrev pub write_faults : MemSink → ℕ
 write_faults m = m.faults
+
+-- the most bytes that a write takes
+abbrev pub sink_limit : MemSink → ℕ
+sink_limit m = m.limit
+
+abbrev pub completed_puts : MemExports → List (List ℕ × List ℕ)
+completed_puts m = m.puts.items
+
+abbrev pub failing_puts : MemExports → List ℕ
+failing_puts m = m.fail
+
+abbrev pub put_calls : MemExports → ℕ
+put_calls m = m.calls
+
+abbrev pub put_faults : MemExports → ℕ
+put_faults m = m.faults

@@ -1,3 +1,5 @@
+//! Why a call of a device fails.
+
 use std::alloc::{AllocError, AllocFailed};
 use thiserror::Error;
 
@@ -14,6 +16,15 @@ pub enum FileFail {
 #[derive(Clone, Copy, Debug, Error, PartialEq, Eq)]
 pub enum SinkFail {
     #[error("the output can't be written")]
+    Fault,
+    #[error("out of memory")]
+    Memory,
+}
+
+/// Why a put didn't complete.
+#[derive(Clone, Copy, Debug, Error, PartialEq, Eq)]
+pub enum ExportFail {
+    #[error("a file can't be written")]
     Fault,
     #[error("out of memory")]
     Memory,
@@ -49,5 +60,27 @@ impl From<AllocError> for SinkFail {
 
     fn from(_: AllocError) -> Self {
         SinkFail::Memory
+    }
+}
+
+impl From<AllocError> for ExportFail {
+    ghost use Rattle.std.specs.Prelude.{◌≡◌};
+    ghost use Rattle.dx_io.specs.declared.fails.ExportFail.TheVariants.{Memory};
+
+    ghost from_gives = { λ _ e. e ≡ Memory };
+
+    fn from(_: AllocError) -> Self {
+        ExportFail::Memory
+    }
+}
+
+impl<T: Drop> From<AllocFailed<T>> for ExportFail {
+    ghost use Rattle.std.specs.Prelude.{◌≡◌};
+    ghost use Rattle.dx_io.specs.declared.fails.ExportFail.TheVariants.{Memory};
+
+    ghost from_gives = { λ _ e. e ≡ Memory };
+
+    fn from(_: AllocFailed<T>) -> Self {
+        ExportFail::Memory
     }
 }

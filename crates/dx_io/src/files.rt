@@ -1,3 +1,4 @@
+//! Input files as a trait.
 ghost use Rattle.std.specs.Prelude.{◌≡◌, List, ℕ, Option, Some, IfOk};
 ghost use Rattle.dx_io.specs.Devices.{FileMap, Asks, ReadCause};
 

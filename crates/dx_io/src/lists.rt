@@ -1,3 +1,4 @@
+//! Lists of calls, and of files in memory.
 ghost use Rattle.std.specs.Prelude.{◌≡◌, ◌↔◌, Contains, IfOk, IsTrue};
 ghost use Rattle.dx_io.specs.Named.{map_of};
 

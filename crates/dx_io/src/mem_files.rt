@@ -1,3 +1,4 @@
+//! Input files in memory.
 ghost use Rattle.std.specs.Prelude.{◌≡◌, []};
 
 use crate::{CallNumbers, FileFail, Files, NamedBytes};

@@ -1,5 +1,6 @@
-ghost use Rattle.std.specs.Prelude.{◌<◌, ◌≤◌, List, ℕ, Option, length, IfOk};
-ghost use Rattle.dx_io.specs.Devices.{Takes, Writes, WriteCause};
+//! The output as a trait, and writing all of a text to it.
+ghost use Rattle.std.specs.Prelude.{◌<◌, ◌≤◌, List, ℕ, Option, length, IfOk, OnErr};
+ghost use Rattle.dx_io.specs.Devices.{LeavesSome, Takes, Writes, WriteCause};
 
 use crate::SinkFail;
 
@@ -20,9 +21,11 @@ pub trait Sink {
         ensures cause { WriteCause (faults self.old) (faults self.new) result };
 }
 
-/// Writes all of the bytes, or a front of them where it fails. It fails only where a write of the sink does.
+/// Writes all of the bytes, or a front of them where it fails. It fails only where a write of the sink does, and so with
+/// bytes left.
 pub fn write_all<O: Sink>(out: &mut O, b: &[u8]) -> Result<(), SinkFail>
     ensures writes { Writes (O.written out.old) (O.written out.new) b.now result }
+    ensures left { OnErr result (LeavesSome (O.written out.old) (O.written out.new) b.now) }
     ensures cause { WriteCause (O.faults out.old) (O.faults out.new) result }
 {
     let mut rest = b;

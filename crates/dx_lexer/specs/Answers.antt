@@ -2,22 +2,23 @@
 use Rattle.std.specs.Prelude.{◌≡◌, ℕ, ◌≤◌, List, Result, Ok, Err}
 use Rattle.dx_base.specs.declared.token.Place.{Place}
 use Rattle.dx_base.specs.declared.token.Lexeme.{Lexeme}
-use Rattle.dx_base.specs.declared.token.LexKind.{LexKind}
 use Rattle.dx_base.specs.declared.token.SyntaxError.{SyntaxError}
 use Rattle.dx_base.specs.Tokens.Standing.{IsOnlyLexeme, IsOnlyError, HasPlaces, HasPlace}
 use Rattle.dx_base.specs.Tokens.Reading.{Front}
+use Rattle.dx_lexer.specs.declared.borrowed.TokenKind.{TokenKind}
 use Rattle.dx_lexer.specs.declared.fail.LexFail.{LexFail}
 use Rattle.dx_lexer.specs.declared.fail.LexFail.TheVariants as fail
 use Rattle.dx_lexer.specs.declared.fail.Fault.{Fault}
 use Rattle.dx_lexer.specs.declared.fail.Fault.TheVariants as fault
+use Rattle.dx_lexer.specs.Lexemes.{kind_of}
 
 abbrev pub Misses : Front → Fault → Type 0
 Misses front (fault.Wrong kind before) = front ≡ Err (kind, before)
 Misses front fault.Memory = Unit {0}
 
 -- for what a text begins with
-abbrev pub Finds : Front → Result (LexKind × ℕ) Fault → Type 0
-Finds front (Ok found) = front ≡ Ok found
+abbrev pub Finds : Front → Result (TokenKind × ℕ) Fault → Type 0
+Finds front (Ok found) = front ≡ Ok (kind_of found.0, found.1)
 Finds front (Err f) = Misses front f
 
 abbrev pub IsFaultWithin : ℕ → Fault → Type 0
@@ -25,7 +26,7 @@ IsFaultWithin n (fault.Wrong kind before) = before ≤ n
 IsFaultWithin n fault.Memory = Unit {0}
 
 -- the bytes that it counts are among these many
-abbrev pub IsAmong : ℕ → Result (LexKind × ℕ) Fault → Type 0
+abbrev pub IsAmong : ℕ → Result (TokenKind × ℕ) Fault → Type 0
 IsAmong n (Ok found) = found.1 ≤ n
 IsAmong n (Err f) = IsFaultWithin n f
 

@@ -1,3 +1,5 @@
+//! Why there is no token.
+
 use dx_base::{SyntaxError, SyntaxKind};
 use std::alloc::{AllocError, AllocFailed};
 use thiserror::Error;
@@ -10,6 +12,17 @@ pub enum LexFail {
     Refused(SyntaxError),
     #[error("out of memory")]
     Memory,
+}
+
+impl From<AllocError> for LexFail {
+    ghost use Rattle.std.specs.Prelude.{◌≡◌};
+    ghost use Rattle.dx_lexer.specs.declared.fail.LexFail.TheVariants.{Memory};
+
+    ghost from_gives = { λ _ f. f ≡ Memory };
+
+    fn from(_: AllocError) -> LexFail {
+        LexFail::Memory
+    }
 }
 
 /// Why a text begins with no token: what is wrong and how many bytes are before it, or want of memory.

@@ -1,3 +1,5 @@
+//! Gaps: white space, comments and skipped lines.
+
 ghost use Rattle.std.specs.Prelude.{◌≡◌, length, ◌==◌, false};
 ghost use Rattle.dx_base.specs.Tokens.Places.{behind, IsWithin};
 ghost use Rattle.dx_base.specs.Tokens.Reading as reading;

@@ -1,15 +1,18 @@
+//! Integers.
+
 ghost use Rattle.std.specs.Prelude.{◌≡◌, ◌≤◌, ◌+◌, ◌<◌, ◌^◌, length, min};
 ghost use Rattle.dx_base.specs.Tokens.Spelling.{value_of};
 ghost use Rattle.dx_base.specs.Tokens.Reading as reading;
 ghost use Rattle.dx_lexer.specs.Answers.{Finds, IsAmong};
 
+use crate::borrowed::TokenKind;
 use crate::bytes::{begins, begins_float, begins_two, digit_len, zero_len};
 use crate::fail::Fault;
-use dx_base::{LexKind, SyntaxKind};
+use dx_base::SyntaxKind;
 
 /// The integer whose digits a text begins with, and how many bytes it has with the sign that stood before them.
 #[tactic(auto, unfolding(dx_base::specs::Tokens::Reading::number_front))]
-pub fn number(negative: bool, before: usize, text: &[u8]) -> Result<(LexKind, usize), Fault>
+pub fn number(negative: bool, before: usize, text: &[u8]) -> Result<(TokenKind<'_>, usize), Fault>
     requires { before + length text.now < 2 ^ 63 }
     ensures found { Finds (reading.number_front negative before text.now) result }
     ensures within { IsAmong (before + length text.now) result }
@@ -20,7 +23,7 @@ pub fn number(negative: bool, before: usize, text: &[u8]) -> Result<(LexKind, us
         return Err(Fault::Wrong(SyntaxKind::FloatNumber, 0));
     }
     match int_value(negative, digits) {
-        Some(value) => Ok((LexKind::Int(value), before + digits.len() + fraction)),
+        Some(value) => Ok((TokenKind::Int(value), before + digits.len() + fraction)),
         None => Err(Fault::Wrong(SyntaxKind::NumberRange, 0)),
     }
 }

@@ -1,16 +1,19 @@
+//! Strings.
+
 ghost use Rattle.std.specs.Prelude.{◌≡◌, ◌≤◌, ◌+◌, ◌<◌, length, IfSome, [], false};
 ghost use Rattle.dx_base.specs.Tokens.Classes as class;
 ghost use Rattle.dx_base.specs.Tokens.Spelling.{unescaped};
 ghost use Rattle.dx_base.specs.Tokens.Reading as reading;
 ghost use Rattle.dx_lexer.specs.Answers.{Finds, IsAmong};
 
+use crate::borrowed::TokenKind;
 use crate::fail::Fault;
-use dx_base::{Bytes, LexKind, SyntaxKind};
+use dx_base::{Bytes, SyntaxKind};
 use std::alloc::Global;
 
 /// The string behind its opening quote, and how many bytes it has with both quotes.
 #[tactic(auto, unfolding(dx_base::specs::Tokens::Reading::string_front))]
-pub fn quoted(alloc: Global, text: &[u8]) -> Result<(LexKind, usize), Fault>
+pub fn quoted(alloc: Global, text: &[u8]) -> Result<(TokenKind<'_>, usize), Fault>
     ensures found { Finds (reading.string_front text.now) result }
     ensures within { IsAmong (1 + length text.now) result }
 {
@@ -46,7 +49,7 @@ fn closed_at(text: &[u8]) -> Option<usize>
 
 /// The string with this inside.
 #[tactic(auto, unfolding(dx_base::specs::Tokens::Reading::text_from))]
-fn inside(alloc: Global, text: &[u8]) -> Result<(LexKind, usize), Fault>
+fn inside(alloc: Global, text: &[u8]) -> Result<(TokenKind<'_>, usize), Fault>
     ensures found { Finds (reading.string_of (length text.now) (reading.text_from [] 0 false text.now)) result }
     ensures within { IsAmong (length text.now + 2) result }
 {
@@ -74,7 +77,7 @@ fn inside(alloc: Global, text: &[u8]) -> Result<(LexKind, usize), Fault>
     if escape {
         return Err(Fault::Wrong(SyntaxKind::Syntax, 1 + before));
     }
-    Ok((LexKind::Text(Bytes::from_vec(found)), text.len() + 2))
+    Ok((TokenKind::Text(Bytes::from_vec(found)), text.len() + 2))
 }
 
 fn is_escape(b: u8) -> bool

@@ -20,11 +20,11 @@ use Rattle.dx_macros.specs.Budget.{more, BudgetSuffices}
 fun_eq : {A B : Type 0} (f g : A → B) → ((a : A) → f a ≡ g a) → f ≡ g
 fun_eq f g h = λ i. λ a. h a i
 
-goes_inv : (a : Walked) (g : Walk → Walked) (w' : Walk) → and_then a g ≡ Goes w' → (w : Walk) × (a ≡ Goes w) × (g w ≡ Goes w')
+pub goes_inv : (a : Walked) (g : Walk → Walked) (w' : Walk) → and_then a g ≡ Goes w' → (w : Walk) × (a ≡ Goes w) × (g w ≡ Goes w')
 goes_inv (Goes w) g w' e = (w, refl, e)
 goes_inv (Faulty s f) g w' e = cc
 
-walked_inv : (o : Option StaticFault) (site : List Step) (w w1 : Walk) → walked_by o site w ≡ Goes w1 → (o ≡ None) × (w1.read ≡ w.read)
+pub walked_inv : (o : Option StaticFault) (site : List Step) (w w1 : Walk) → walked_by o site w ≡ Goes w1 → (o ≡ None) × (w1.read ≡ w.read)
 walked_inv (Some f) site w w1 e = cc
 walked_inv None site w w1 e =
     let x : Walk = record { calls = suc w.calls; read = w.read } in
@@ -65,7 +65,7 @@ assigned_has (t ∷ ts) i f σ τ n e = has_by (bytes_eq t n) refl e (λ h. assi
     has_by true h e go = assigned_same ts (suc i) f _ _ n (ap (λ b. if b then f i else σ n) h ∙ sym (ap (λ b. if b then f i else τ n) h))
     has_by false h e go = go e
 
-has-append : (xs ys : List Text) (n : Text) → has (xs ++ ys) n ≡ (has xs n || has ys n)
+pub has-append : (xs ys : List Text) (n : Text) → has (xs ++ ys) n ≡ (has xs n || has ys n)
 has-append [] ys n = refl
 has-append (x ∷ xs) ys n = ap (λ b. bytes_eq x n || b) (has-append xs ys n) ∙ sym (or_assoc (bytes_eq x n) (has xs n) (has ys n))
   where
@@ -110,14 +110,14 @@ covers_after (Sets v e) own s t σ τ c f g same = c
 covers_after (Says x) own s t σ τ c f g same = c
 covers_after (Sequences x) own s t σ τ c f g same = c
 
-marked : (xs : List Bool) (i j : ℕ) → slice_index_or (slice_set xs i true) j false ≡ true → (j ≡ i) ⊎ (slice_index_or xs j false ≡ true)
+pub marked : (xs : List Bool) (i j : ℕ) → slice_index_or (slice_set xs i true) j false ≡ true → (j ≡ i) ⊎ (slice_index_or xs j false ≡ true)
 marked [] i j e = inr e
 marked (x ∷ xs) zero zero e = inl refl
 marked (x ∷ xs) zero (suc j) e = inr e
 marked (x ∷ xs) (suc i) zero e = inr e
 marked (x ∷ xs) (suc i) (suc j) e = ⊎_elim (λ h. inl (ap suc h)) inr (marked xs i j e)
 
-none_marked : (k j : ℕ) → slice_index_or (replicate k false) j false ≡ true → ⊥
+pub none_marked : (k j : ℕ) → slice_index_or (replicate k false) j false ≡ true → ⊥
 none_marked zero j e = cc
 none_marked (suc k) zero e = cc
 none_marked (suc k) (suc j) e = none_marked k j e
@@ -297,7 +297,7 @@ module _ (macros : Macros) (frames : Frames) (defs : List TopText) (n : ℕ) whe
   begins_ready : (p k : ℕ) (w : Walk) → w.read ≡ replicate k false → Ready p w
   begins_ready p k w e j lt h = absurd (none_marked k j (ap (λ xs. slice_index_or xs j false) (sym e) ∙ h))
 
-goes_of : (a : Walked) → fault_in a ≡ None → (w : Walk) × (a ≡ Goes w)
+pub goes_of : (a : Walked) → fault_in a ≡ None → (w : Walk) × (a ≡ Goes w)
 goes_of (Goes w) e = (w, refl)
 goes_of (Faulty s f) e = cc
 

@@ -7,3 +7,4 @@ pub mod Kinds
 pub mod Makes
 pub mod With
 pub mod Values
+pub mod Runs

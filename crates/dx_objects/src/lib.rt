@@ -4,9 +4,11 @@
 
 mod kinds;
 mod laws;
+mod library;
 mod lookup;
 mod makers;
 mod names;
+mod numbers;
 mod object;
 mod outs;
 mod run_fail;
@@ -14,10 +16,12 @@ mod sums;
 mod with;
 
 pub use dx_arrays::{Array, ArrayClass, ArrayError, ElemType, Shape, in_range};
-pub use dx_base::{Code, NativeKind};
+pub use dx_base::{Code, Module, NativeKind};
 pub use kinds::Kind;
 pub use laws::component_law;
+pub use library::{Library, Recorder, Run};
 pub use makers::ObjectError;
+pub use numbers::number;
 pub use object::{Object, Part, Parts};
 pub use outs::{Outs, Value};
 pub use run_fail::RunFail;

@@ -8,6 +8,7 @@ ghost use Rattle.dx_parser.specs.Answers.{Reads};
 use crate::constants::constant;
 use crate::cursor::{Cursor, fault};
 use crate::fail::ParseFail;
+use crate::lists::{one, text_const};
 use crate::words::is_word;
 use dx_ast::{Arg, Args, Call, Const, Expr};
 use dx_base::{Bytes, Items, Place, SyntaxKind};
@@ -51,7 +52,8 @@ fn attribute_value(alloc: Global, cursor: &mut Cursor<'_>) -> Result<(Place, Con
         Ok((place, Const::Int(n)))
     } else {
         let (place, text) = cursor.text(alloc)?;
-        Ok((place, Const::Text(text)))
+        let value = text_const(alloc, text)?;
+        Ok((place, value))
     }
 }
 
@@ -191,8 +193,7 @@ fn more_args(
     ensures { Reads (reading.more_args (reading.expression calls) (reading.primary calls) (first ∷ []) cursor.old) result cursor.new }
 {
     let mut named = first.name.is_some();
-    let mut found = Items::new(alloc);
-    found.push(first)?;
+    let mut found = one(alloc, first)?;
     'each: while cursor.sees(b",") {
         let next = next_arg(alloc, cursor, calls, named)?;
         named = next.name.is_some();

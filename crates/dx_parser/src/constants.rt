@@ -8,8 +8,11 @@ ghost use Rattle.dx_parser.specs.Lists.{IsShort};
 
 use crate::cursor::{Cursor, fault};
 use crate::fail::ParseFail;
-use crate::lists::{agrees, join, list_of, range, range_count};
-use dx_ast::{Const, Ints};
+use crate::lists::{
+    Element, Growing, Numbers, agrees, into_const, ints_const, join, list_of, one, range,
+    range_count, text_const, vector_const,
+};
+use dx_ast::Const;
 use dx_base::{Items, Place, SyntaxKind};
 use std::alloc::Global;
 
@@ -20,7 +23,7 @@ const MAX_NUMBERS: usize = 256;
 const MAX_ELEMENTS: usize = 65536;
 
 #[tactic(auto, unfolding(dx_script_grammar::specs::Reading::number))]
-fn number(alloc: Global, cursor: &mut Cursor<'_>, found: &Ints) -> Result<i32, ParseFail>
+fn number(alloc: Global, cursor: &mut Cursor<'_>, found: &Numbers) -> Result<i32, ParseFail>
     requires { length found.now ≤ 256 }
     ensures reads { Reads (reading.number found.now cursor.old) result cursor.new }
     ensures room { OnOk result (length found.now < 256) }
@@ -33,12 +36,11 @@ fn number(alloc: Global, cursor: &mut Cursor<'_>, found: &Ints) -> Result<i32, P
     Ok(n)
 }
 
-fn numbers(alloc: Global, cursor: &mut Cursor<'_>, first: i32) -> Result<Ints, ParseFail>
+fn numbers(alloc: Global, cursor: &mut Cursor<'_>, first: i32) -> Result<Numbers, ParseFail>
     ensures reads { Reads (reading.numbers (first ∷ []) cursor.old) result cursor.new }
     ensures short { IfOk result (λ numbers. length numbers ≤ 256) }
 {
-    let mut found = Items::new(alloc);
-    found.push(first)?;
+    let mut found = one(alloc, first)?;
     'each: while !cursor.sees(b"]") {
         let n = number(alloc, cursor, &found)?;
         found.push(n)?;
@@ -47,7 +49,7 @@ fn numbers(alloc: Global, cursor: &mut Cursor<'_>, first: i32) -> Result<Ints, P
 }
 
 #[tactic(auto, unfolding(dx_script_grammar::specs::Reading::vector))]
-fn vector(alloc: Global, cursor: &mut Cursor<'_>) -> Result<(Place, Ints), ParseFail>
+fn vector(alloc: Global, cursor: &mut Cursor<'_>) -> Result<(Place, Numbers), ParseFail>
     ensures reads { Reads (reading.vector cursor.old) result cursor.new }
     ensures short { IfOk result (λ found. length found.1 ≤ 256) }
 {
@@ -59,27 +61,27 @@ fn vector(alloc: Global, cursor: &mut Cursor<'_>) -> Result<(Place, Ints), Parse
 }
 
 #[tactic(auto, unfolding(dx_script_grammar::specs::Reading::other_element))]
-fn other_element(alloc: Global, cursor: &mut Cursor<'_>) -> Result<(Place, Const), ParseFail>
+fn other_element(alloc: Global, cursor: &mut Cursor<'_>) -> Result<(Place, Element), ParseFail>
     ensures reads { Reads (reading.other_element cursor.old) result cursor.new }
     ensures short { IfOk result (λ found. IsShort found.1) }
 {
     if cursor.sees_text() {
         let (place, text) = cursor.text(alloc)?;
-        Ok((place, Const::Text(text)))
+        Ok((place, Element::text(text)))
     } else {
         let (place, numbers) = vector(alloc, cursor)?;
-        Ok((place, Const::Vector(numbers)))
+        Ok((place, Element::vector(numbers)))
     }
 }
 
 #[tactic(auto, unfolding(dx_script_grammar::specs::Reading::element))]
-fn element(alloc: Global, cursor: &mut Cursor<'_>) -> Result<(Place, Const), ParseFail>
+fn element(alloc: Global, cursor: &mut Cursor<'_>) -> Result<(Place, Element), ParseFail>
     ensures reads { Reads (reading.element cursor.old) result cursor.new }
     ensures short { IfOk result (λ found. IsShort found.1) }
 {
     if cursor.sees_int() {
         let (place, n) = cursor.int(alloc)?;
-        Ok((place, Const::Int(n)))
+        Ok((place, Element::int(n)))
     } else {
         other_element(alloc, cursor)
     }
@@ -91,8 +93,8 @@ fn next_element(
     alloc: Global,
     cursor: &mut Cursor<'_>,
     count: usize,
-    list: &Const,
-) -> Result<Const, ParseFail>
+    list: &Growing,
+) -> Result<Element, ParseFail>
     requires { count ≤ 65536 }
     ensures reads { Reads (reading.next_element (count, list.now) cursor.old) result cursor.new }
     ensures room { OnOk result (count < 65536) }
@@ -112,8 +114,8 @@ fn next_element(
 fn elements(
     alloc: Global,
     cursor: &mut Cursor<'_>,
-    first: Const,
-) -> Result<(usize, Const), ParseFail>
+    first: Element,
+) -> Result<(usize, Growing), ParseFail>
     requires { IsShort first }
     ensures { Reads (reading.more_elements (1, values.list_of first) cursor.old) result cursor.new }
 {
@@ -128,12 +130,17 @@ fn elements(
 }
 
 #[tactic(auto, unfolding(dx_script_grammar::specs::Reading::elements_after))]
-fn elements_after(alloc: Global, cursor: &mut Cursor<'_>, first: Const) -> Result<Const, ParseFail>
+fn elements_after(
+    alloc: Global,
+    cursor: &mut Cursor<'_>,
+    first: Element,
+) -> Result<Const, ParseFail>
     requires { IsShort first }
     ensures { Reads (reading.elements_after first cursor.old) result cursor.new }
 {
     let (_, list) = elements(alloc, cursor, first)?;
     cursor.sign(alloc, b"}")?;
+    let list = into_const(alloc, list)?;
     Ok(list)
 }
 
@@ -165,7 +172,8 @@ fn range_after(alloc: Global, cursor: &mut Cursor<'_>, a: i32) -> Result<Const, 
         return Err(ParseFail::Refused(fault(SyntaxKind::ListTooLong, place)));
     }
     let numbers = range(alloc, a, b, d)?;
-    Ok(Const::Ints(numbers))
+    let list = ints_const(alloc, numbers)?;
+    Ok(list)
 }
 
 #[tactic(auto, unfolding(dx_script_grammar::specs::Reading::after_int))]
@@ -175,7 +183,7 @@ fn after_int(alloc: Global, cursor: &mut Cursor<'_>, n: i32) -> Result<Const, Pa
     if cursor.sees(b"..") {
         range_after(alloc, cursor, n)
     } else {
-        elements_after(alloc, cursor, Const::Int(n))
+        elements_after(alloc, cursor, Element::int(n))
     }
 }
 
@@ -186,7 +194,8 @@ fn list(alloc: Global, cursor: &mut Cursor<'_>) -> Result<Const, ParseFail>
     cursor.sign(alloc, b"{")?;
     if cursor.sees(b"}") {
         cursor.sign(alloc, b"}")?;
-        Ok(Const::Ints(Items::new(alloc)))
+        let empty = ints_const(alloc, Items::new(alloc))?;
+        Ok(empty)
     } else if cursor.sees_int() {
         let (_, n) = cursor.int(alloc)?;
         after_int(alloc, cursor, n)
@@ -208,10 +217,12 @@ pub fn constant(alloc: Global, cursor: &mut Cursor<'_>) -> Result<Const, ParseFa
         Ok(Const::Int(n))
     } else if cursor.sees_text() {
         let (_, text) = cursor.text(alloc)?;
-        Ok(Const::Text(text))
+        let c = text_const(alloc, text)?;
+        Ok(c)
     } else if cursor.sees(b"[") {
         let (_, numbers) = vector(alloc, cursor)?;
-        Ok(Const::Vector(numbers))
+        let c = vector_const(alloc, numbers)?;
+        Ok(c)
     } else {
         list(alloc, cursor)
     }

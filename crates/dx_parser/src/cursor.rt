@@ -12,8 +12,8 @@ ghost use Rattle.dx_parser.specs.Cursor.{Given, refusal_of};
 use crate::fail::ParseFail;
 use crate::words::{frame_named, is_reserved, is_word, state_named};
 use dx_ast::{FrameVar, Word};
-use dx_base::{Bytes, LexKind, Lexeme, Place, SyntaxError, SyntaxKind};
-use dx_lexer::{LexFail, next};
+use dx_base::{Bytes, Place, SyntaxError, SyntaxKind};
+use dx_lexer::{LexFail, Token, TokenKind, next_token};
 use std::alloc::Global;
 use std::marker::Model;
 use std::mem;
@@ -23,7 +23,7 @@ use std::mem;
 pub struct Cursor<'a> {
     text: &'a [u8],
     /// The token in hand, or the error that stands in its place.
-    current: Result<Lexeme, SyntaxError>,
+    current: Result<Token<'a>, SyntaxError>,
 }
 
 impl<'a> Model for Cursor<'a> {
@@ -49,11 +49,15 @@ pub fn fault(kind: SyntaxKind, place: Place) -> SyntaxError
 }
 
 /// The token at a place, or its error.
-fn read(alloc: Global, text: &[u8], at: Place) -> Result<Result<Lexeme, SyntaxError>, ParseFail>
+fn read<'a>(
+    alloc: Global,
+    text: &'a [u8],
+    at: Place,
+) -> Result<Result<Token<'a>, SyntaxError>, ParseFail>
     requires { IsReached text.now at }
     ensures { Given text.now at result }
 {
-    match next(alloc, text, at) {
+    match next_token(alloc, text, at) {
         Ok(found) => Ok(Ok(found)),
         Err(LexFail::Refused(e)) => Ok(Err(e)),
         Err(LexFail::Memory) => Err(ParseFail::Memory),
@@ -61,7 +65,7 @@ fn read(alloc: Global, text: &[u8], at: Place) -> Result<Result<Lexeme, SyntaxEr
 }
 
 /// What is wrong with a token that doesn't fit.
-fn refusal(current: &Result<Lexeme, SyntaxError>) -> ParseFail
+fn refusal(current: &Result<Token<'_>, SyntaxError>) -> ParseFail
     ensures { result ≡ ParseFail.Refused (refusal_of current.now) }
 {
     match current {
@@ -92,11 +96,11 @@ impl<'a> Cursor<'a> {
     {
         match &self.current {
             Ok(
-                Lexeme {
-                    kind: LexKind::Sign(found),
+                Token {
+                    kind: TokenKind::Sign(found),
                     ..
                 },
-            ) => is_word(found.bytes(), sign),
+            ) => is_word(found, sign),
             _ => false,
         }
     }
@@ -108,11 +112,11 @@ impl<'a> Cursor<'a> {
     {
         match &self.current {
             Ok(
-                Lexeme {
-                    kind: LexKind::Name(found),
+                Token {
+                    kind: TokenKind::Name(found),
                     ..
                 },
-            ) => is_word(found.bytes(), word),
+            ) => is_word(found, word),
             _ => false,
         }
     }
@@ -124,11 +128,11 @@ impl<'a> Cursor<'a> {
     {
         match &self.current {
             Ok(
-                Lexeme {
-                    kind: LexKind::Name(found),
+                Token {
+                    kind: TokenKind::Name(found),
                     ..
                 },
-            ) => !is_reserved(found.bytes()),
+            ) => !is_reserved(found),
             _ => false,
         }
     }
@@ -140,8 +144,8 @@ impl<'a> Cursor<'a> {
     {
         match &self.current {
             Ok(
-                Lexeme {
-                    kind: LexKind::Int(_),
+                Token {
+                    kind: TokenKind::Int(_),
                     ..
                 },
             ) => true,
@@ -156,8 +160,8 @@ impl<'a> Cursor<'a> {
     {
         match &self.current {
             Ok(
-                Lexeme {
-                    kind: LexKind::Text(_),
+                Token {
+                    kind: TokenKind::Text(_),
                     ..
                 },
             ) => true,
@@ -172,11 +176,11 @@ impl<'a> Cursor<'a> {
     {
         match &self.current {
             Ok(
-                Lexeme {
-                    kind: LexKind::Frame(found),
+                Token {
+                    kind: TokenKind::Frame(found),
                     ..
                 },
-            ) => frame_named(found.bytes()).is_some(),
+            ) => frame_named(found).is_some(),
             _ => false,
         }
     }
@@ -188,8 +192,8 @@ impl<'a> Cursor<'a> {
     {
         match &self.current {
             Ok(
-                Lexeme {
-                    kind: LexKind::End,
+                Token {
+                    kind: TokenKind::End,
                     ..
                 },
             ) => true,
@@ -203,26 +207,19 @@ impl<'a> Cursor<'a> {
     pub fn name(&mut self, alloc: Global) -> Result<(Place, Bytes), ParseFail>
         ensures { Reads (reading.name self.old) result self.new }
     {
-        match mem::replace(&mut self.current, Err(NOWHERE)) {
-            Ok(Lexeme { kind, from, to }) => match kind {
-                LexKind::Name(name) => {
-                    if is_reserved(name.bytes()) {
-                        let kind = LexKind::Name(name);
-                        self.current = Ok(Lexeme { kind, from, to });
-                        return Err(refusal(&self.current));
-                    }
-                    self.current = read(alloc, self.text, to)?;
-                    Ok((from, name))
-                }
-                kind => {
-                    self.current = Ok(Lexeme { kind, from, to });
-                    Err(refusal(&self.current))
-                }
-            },
-            Err(error) => {
-                self.current = Err(error);
-                Err(ParseFail::Refused(error))
+        match &self.current {
+            Ok(
+                Token {
+                    kind: TokenKind::Name(name),
+                    from,
+                    to,
+                },
+            ) if !is_reserved(name) => {
+                let found = (*from, Bytes::copy_of(alloc, name)?);
+                self.current = read(alloc, self.text, *to)?;
+                Ok(found)
             }
+            _ => Err(refusal(&self.current)),
         }
     }
 
@@ -232,13 +229,13 @@ impl<'a> Cursor<'a> {
         ensures { Reads (reading.text self.old) result self.new }
     {
         match mem::replace(&mut self.current, Err(NOWHERE)) {
-            Ok(Lexeme { kind, from, to }) => match kind {
-                LexKind::Text(text) => {
+            Ok(Token { kind, from, to }) => match kind {
+                TokenKind::Text(text) => {
                     self.current = read(alloc, self.text, to)?;
                     Ok((from, text))
                 }
                 kind => {
-                    self.current = Ok(Lexeme { kind, from, to });
+                    self.current = Ok(Token { kind, from, to });
                     Err(refusal(&self.current))
                 }
             },
@@ -256,8 +253,8 @@ impl<'a> Cursor<'a> {
     {
         match &self.current {
             Ok(
-                Lexeme {
-                    kind: LexKind::Int(n),
+                Token {
+                    kind: TokenKind::Int(n),
                     from,
                     to,
                 },
@@ -277,12 +274,12 @@ impl<'a> Cursor<'a> {
     {
         match &self.current {
             Ok(
-                Lexeme {
-                    kind: LexKind::Frame(word),
+                Token {
+                    kind: TokenKind::Frame(word),
                     from,
                     to,
                 },
-            ) => match frame_named(word.bytes()) {
+            ) => match frame_named(word) {
                 Some(frame) => {
                     let found = (*from, frame);
                     self.current = read(alloc, self.text, *to)?;
@@ -301,12 +298,12 @@ impl<'a> Cursor<'a> {
     {
         match &self.current {
             Ok(
-                Lexeme {
-                    kind: LexKind::Sign(found),
+                Token {
+                    kind: TokenKind::Sign(found),
                     from,
                     to,
                 },
-            ) if is_word(found.bytes(), sign) => {
+            ) if is_word(found, sign) => {
                 let place = *from;
                 self.current = read(alloc, self.text, *to)?;
                 Ok(place)
@@ -322,12 +319,12 @@ impl<'a> Cursor<'a> {
     {
         match &self.current {
             Ok(
-                Lexeme {
-                    kind: LexKind::Name(found),
+                Token {
+                    kind: TokenKind::Name(found),
                     from,
                     to,
                 },
-            ) if is_word(found.bytes(), word) => {
+            ) if is_word(found, word) => {
                 let place = *from;
                 self.current = read(alloc, self.text, *to)?;
                 Ok(place)
@@ -343,12 +340,12 @@ impl<'a> Cursor<'a> {
     {
         match &self.current {
             Ok(
-                Lexeme {
-                    kind: LexKind::Name(word),
+                Token {
+                    kind: TokenKind::Name(word),
                     from,
                     to,
                 },
-            ) => match state_named(switch, word.bytes()) {
+            ) => match state_named(switch, word) {
                 Some(state) => {
                     let found = (*from, state);
                     self.current = read(alloc, self.text, *to)?;
@@ -377,8 +374,8 @@ impl<'a> Cursor<'a> {
     {
         match &self.current {
             Ok(
-                Lexeme {
-                    kind: LexKind::End,
+                Token {
+                    kind: TokenKind::End,
                     ..
                 },
             ) => Ok(()),

@@ -9,8 +9,6 @@ mod lists;
 mod macros;
 mod script;
 mod statements;
-#[cfg(test)]
-mod tests;
 mod words;
 
 pub use fail::ParseFail;

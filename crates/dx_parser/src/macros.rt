@@ -8,6 +8,7 @@ ghost use Rattle.dx_parser.specs.Answers.{Reads};
 use crate::constants::constant;
 use crate::cursor::{Cursor, fault};
 use crate::fail::ParseFail;
+use crate::lists::one;
 use crate::statements::statement;
 use crate::words::is_word;
 use dx_ast::{MacroDef, Param, Params, Stmt, Stmts, TextList};
@@ -78,8 +79,7 @@ fn next_param(alloc: Global, cursor: &mut Cursor<'_>, found: &Params) -> Result<
 fn more_params(alloc: Global, cursor: &mut Cursor<'_>, first: Param) -> Result<Params, ParseFail>
     ensures { Reads (reading.more_params (first ∷ []) cursor.old) result cursor.new }
 {
-    let mut found = Items::new(alloc);
-    found.push(first)?;
+    let mut found = one(alloc, first)?;
     'each: while cursor.sees(b",") {
         let next = next_param(alloc, cursor, &found)?;
         found.push(next)?;
@@ -121,8 +121,7 @@ fn next_result(alloc: Global, cursor: &mut Cursor<'_>, found: &TextList) -> Resu
 fn more_results(alloc: Global, cursor: &mut Cursor<'_>, first: Bytes) -> Result<TextList, ParseFail>
     ensures { Reads (reading.more_results (first ∷ []) cursor.old) result cursor.new }
 {
-    let mut found = Items::new(alloc);
-    found.push(first)?;
+    let mut found = one(alloc, first)?;
     'each: while cursor.sees(b",") {
         let next = next_result(alloc, cursor, &found)?;
         found.push(next)?;

@@ -7,6 +7,7 @@ ghost use Rattle.dx_parser.specs.Answers.{Reads};
 use crate::calls::{call_after, expression};
 use crate::cursor::Cursor;
 use crate::fail::ParseFail;
+use crate::lists::one;
 use crate::words::{is_word, switch_named, word_named};
 use dx_ast::{Assign, Expr, Stmt, TextList, Word};
 use dx_base::{Bytes, Items};
@@ -32,8 +33,7 @@ fn targets(
 ) -> Result<TextList, ParseFail>
     ensures { Reads (reading.targets (first ∷ second ∷ []) cursor.old) result cursor.new }
 {
-    let mut found = Items::new(alloc);
-    found.push(first)?;
+    let mut found = one(alloc, first)?;
     found.push(second)?;
     'each: while cursor.sees(b",") {
         let name = target(alloc, cursor)?;
@@ -64,8 +64,7 @@ fn single(alloc: Global, cursor: &mut Cursor<'_>, name: Bytes) -> Result<Option<
     cursor.sign(alloc, b"=")?;
     let value = expression(alloc, cursor, MAX_DEPTH)?;
     cursor.sign(alloc, b";")?;
-    let mut targets = Items::new(alloc);
-    targets.push(name)?;
+    let targets = one(alloc, name)?;
     Ok(Some(Stmt::Assign(Assign { targets, value })))
 }
 

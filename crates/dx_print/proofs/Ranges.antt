@@ -3,7 +3,7 @@ use Rattle.std.proofs.Common.{◌≡◌, ◌<◌, ◌≤◌, ◌+◌, ◌-◌, �
 use Rattle.std.specs.List.{range_with_len}
 use Rattle.std.specs.Fmt.{signed_decimal}
 use Rattle.dx_base.specs.Array.{ArrayData, width, value}
-use Rattle.dx_print.specs.Words.{behind}
+use Rattle.dx_base.specs.Words.{behind}
 use Rattle.dx_print.specs.ItemLines.{item_text, lines_of}
 
 range_begin : (n : ℕ) → 0 < n → range_with_len 0 n ≡ 0 ∷ range_with_len 1 (n - 1)

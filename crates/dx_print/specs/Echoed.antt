@@ -3,8 +3,8 @@ use Rattle.std.specs.Prelude.{ℕ, Bool, List, [], ◌∷◌, ◌++◌, ◌==◌
 use Rattle.std.specs.Fmt.{signed_decimal}
 use Rattle.dx_base.specs.Tokens.Ascii as ascii
 use Rattle.dx_base.specs.Array.{ArrayData, items, value}
-use Rattle.dx_base.specs.Object.{Tree, array, text, field, group, series}
-use Rattle.dx_print.specs.Words.{spaced}
+use Rattle.dx_base.specs.Object.{Tree, array, text, field, group, series, composite}
+use Rattle.dx_base.specs.Words.{spaced}
 use Rattle.dx_print.specs.Header.{header, array_header, object_header}
 
 -- a number is an array of rank 0 with one item, whatever its class and type
@@ -21,6 +21,7 @@ object_word (array a xs) = array_word a
 object_word (text b xs) = b
 object_word (field ps xs) = object_header (field ps xs)
 object_word (group ps xs) = object_header (group ps xs)
+object_word (composite ps xs) = object_header (composite ps xs)
 object_word (series ps xs) = object_header (series ps xs)
 
 abbrev pub value_word : Option Tree → List ℕ

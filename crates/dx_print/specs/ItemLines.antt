@@ -3,7 +3,7 @@ use Rattle.std.specs.Prelude.{ℕ, zero, suc, ◌+◌, ◌-◌, List, [], ◌∷
 use Rattle.std.specs.Fmt.{signed_decimal}
 use Rattle.dx_base.specs.Tokens.Ascii as ascii
 use Rattle.dx_base.specs.Array.{ArrayData, items, item}
-use Rattle.dx_print.specs.Words.{spaced}
+use Rattle.dx_base.specs.Words.{spaced}
 
 abbrev pub at_indent : ℕ → List ℕ → List ℕ
 at_indent indent line = replicate indent ascii.space ++ line ++ ascii.newline ∷ []

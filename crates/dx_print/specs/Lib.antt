@@ -1,4 +1,3 @@
-pub mod Words
 pub mod Header
 pub mod ItemLines
 pub mod Printed

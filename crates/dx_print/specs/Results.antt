@@ -1,5 +1,5 @@
 -- What the calls answer: the text or the code of the definition, or that memory ran out.
-use Rattle.std.specs.Prelude.{◌≡◌, ℕ, List, Result, Ok, Err}
+use Rattle.std.specs.Prelude.{◌≡◌, ℕ, List, Result, Ok, Err, IsOk}
 use Rattle.dx_base.specs.declared.code.Code.{Code}
 use Rattle.dx_objects.specs.declared.run_fail.RunFail.{RunFail}
 use Rattle.dx_objects.specs.declared.run_fail.RunFail.TheVariants as fail
@@ -8,6 +8,12 @@ abbrev pub Prints : Result (List ℕ) Code → Result (List ℕ) RunFail → Typ
 Prints r (Ok text) = r ≡ Ok text
 Prints r (Err (fail.Code code)) = r ≡ Err code
 Prints r (Err fail.Memory) = Unit {0}
+
+-- the checks take no memory: where it ran out there is a text to print
+abbrev pub LacksRoomForText : Result (List ℕ) Code → Result (List ℕ) RunFail → Type 0
+LacksRoomForText r (Ok text) = Unit {0}
+LacksRoomForText r (Err (fail.Code code)) = Unit {0}
+LacksRoomForText r (Err fail.Memory) = IsOk r
 
 -- Echo has no refusal
 abbrev pub Echoes : List ℕ → Result (List ℕ) RunFail → Type 0

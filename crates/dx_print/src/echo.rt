@@ -1,7 +1,7 @@
 // The line that Echo prints.
 ghost use Rattle.std.specs.Prelude.{◌≡◌, ◌++◌, OnOk, map};
 ghost use Rattle.dx_objects.specs.Values.{value_of, values_of};
-ghost use Rattle.dx_print.specs.Words.{behind, spaced};
+ghost use Rattle.dx_base.specs.Words.{behind, spaced};
 ghost use Rattle.dx_print.specs.Echoed.{echo_of, array_word, is_number as spec_is_number, object_word, value_word};
 ghost use Rattle.dx_print.specs.Results.{Echoes};
 

@@ -1,13 +1,12 @@
 // Headers of values.
-ghost use Rattle.std.specs.Prelude.{◌≡◌, ◌++◌, OnOk, map};
+ghost use Rattle.std.specs.Prelude.{◌≡◌, ◌++◌, OnOk};
 ghost use Rattle.std.specs.Fmt.{decimal};
 ghost use Rattle.dx_base.specs.Object.{part_count, parts};
 ghost use Rattle.dx_objects.specs.Values.{value_of};
-ghost use Rattle.dx_print.specs.Words.{behind};
 ghost use Rattle.dx_print.specs.Header as spec;
 
-use crate::words::{push_count, push_quoted};
-use dx_arrays::{Array, ArrayClass, ElemType};
+use dx_arrays::{Array, ArrayClass};
+use dx_base::{push_count, push_counts_behind, push_quoted};
 use dx_objects::{Kind, Object, Value};
 use std::alloc::AllocError;
 
@@ -69,7 +68,7 @@ pub(crate) fn push_array_header(out: &mut Vec<u8>, array: &Array) -> Result<(), 
     out.extend_from_slice(b"array ")?;
     out.extend_from_slice(class_word(array.class()))?;
     out.push(b' ')?;
-    out.extend_from_slice(type_word(array.elem()))?;
+    out.extend_from_slice(array.elem().word())?;
     out.extend_from_slice(b" rank ")?;
     push_count(out, array.extents().len() as u64)?;
     push_shape(out, array.extents())?;
@@ -85,17 +84,7 @@ fn push_shape(out: &mut Vec<u8>, extents: &[u32]) -> Result<(), AllocError>
         return Ok(());
     }
     out.extend_from_slice(b" shape")?;
-    push_extents(out, extents)
-}
-
-fn push_extents(out: &mut Vec<u8>, extents: &[u32]) -> Result<(), AllocError>
-    ensures { OnOk result (out.new.items ≡ out.old.items ++ behind (map decimal extents.now)) }
-{
-    for extent in extents {
-        out.push(b' ')?;
-        push_count(out, u64::from(*extent))?;
-    }
-    Ok(())
+    push_counts_behind(out, extents)
 }
 
 fn class_word(class: ArrayClass) -> &'static [u8]
@@ -107,18 +96,5 @@ fn class_word(class: ArrayClass) -> &'static [u8]
         ArrayClass::Regular => b"regular",
         ArrayClass::GridPositions => b"gridpositions",
         ArrayClass::GridConnections => b"gridconnections",
-    }
-}
-
-fn type_word(elem: ElemType) -> &'static [u8]
-    ensures { result.now ≡ spec.type_word elem }
-{
-    match elem {
-        ElemType::Byte => b"signed byte",
-        ElemType::UByte => b"unsigned byte",
-        ElemType::Short => b"short",
-        ElemType::UShort => b"unsigned short",
-        ElemType::Int => b"int",
-        ElemType::UInt => b"unsigned int",
     }
 }

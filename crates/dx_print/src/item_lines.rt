@@ -4,8 +4,8 @@ ghost use Rattle.std.specs.Fmt.{signed_decimal};
 ghost use Rattle.dx_base.specs.Array.{items, value, width};
 ghost use Rattle.dx_print.specs.ItemLines as spec;
 
-use crate::words::push_number;
 use dx_arrays::Array;
+use dx_base::push_number;
 use std::alloc::AllocError;
 
 /// The most items that are all shown.

@@ -6,12 +6,8 @@ mod echo;
 mod header;
 mod item_lines;
 mod print;
-mod words;
 
 pub use dx_base::{Bytes, Code};
 pub use dx_objects::{Outs, RunFail};
 pub use echo::echo_text;
 pub use print::print_text;
-
-#[cfg(test)]
-mod tests;

@@ -2,7 +2,7 @@
 ghost use Rattle.std.specs.Prelude.{◌≡◌, ◌++◌, length, OnOk, MatchResult, Ok, Err};
 ghost use Rattle.dx_objects.specs.Values.{value_of};
 ghost use Rattle.dx_print.specs.Printed.{array_in, chosen as spec_chosen, items_shown, print_of, text_at};
-ghost use Rattle.dx_print.specs.Results.{Prints};
+ghost use Rattle.dx_print.specs.Results.{Prints, LacksRoomForText};
 
 use crate::detail::{Detail, detail_of};
 use crate::header::push_header;
@@ -16,10 +16,11 @@ use std::alloc::{AllocError, Global};
 /// line `...` and the last 25. Each line ends with a newline.
 ///
 /// Options of another kind are BadArgument; then any other text of options, and then a component that isn't NULL, is
-/// Unsupported (User's Reference, Print).
+/// Unsupported (User's Reference, Print). A code comes also where there is no memory.
 pub fn print_text(alloc: Global, inputs: &Outs) -> Result<Bytes, RunFail>
     requires { length inputs.now ≡ 3 }
-    ensures { Prints (print_of inputs.now) result }
+    ensures prints { Prints (print_of inputs.now) result }
+    ensures code_without_memory { LacksRoomForText (print_of inputs.now) result }
 {
     let [object, options, component] = inputs.as_slice() else {
         unreachable!()

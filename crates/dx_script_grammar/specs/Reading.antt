@@ -8,6 +8,7 @@ use Rattle.dx_base.specs.declared.token.SyntaxKind.TheVariants as kind
 use Rattle.dx_grammar.specs.Stream as stream
 use Rattle.dx_grammar.specs.Stream.{◌>>=◌, ◌>>◌, pure, fail, passes, choose, while, looks}
 use Rattle.dx_grammar.specs.Rule.{snoc}
+use Rattle.dx_ast.specs.Limits.{max_numbers, max_nested_calls}
 use Rattle.dx_ast.specs.declared.constants.Const.{Const}
 use Rattle.dx_ast.specs.declared.constants.Const.TheVariants as const
 use Rattle.dx_ast.specs.declared.expressions.Expr.{Expr}
@@ -91,7 +92,7 @@ unfoldable pub number : List ℤ → Parser ℤ
 number found = do
   comma
   n ← int
-  passes (fault_if (length found == 256) kind.Syntax n.0) n.1
+  passes (fault_if (length found == max_numbers) kind.Syntax n.0) n.1
 
 abbrev pub numbers : List ℤ → Parser (List ℤ)
 numbers found = while (lacks (codes "]")) number snoc found
@@ -254,14 +255,14 @@ targets found = while (sees (codes ",")) (λ found. target) snoc found
 
 unfoldable pub called : Text → Parser (Option Stmt)
 called n = do
-  c ← call_after 64 n
+  c ← call_after max_nested_calls n
   sign (codes ";")
   pure (call_statement n c)
 
 unfoldable pub single : Text → Parser (Option Stmt)
 single n = do
   sign (codes "=")
-  e ← expression 64
+  e ← expression max_nested_calls
   sign (codes ";")
   pure (Some (stmt.Assign (record { targets = n ∷ []; value = e })))
 
@@ -271,7 +272,7 @@ several n = do
   ns ← targets (n ∷ second ∷ [])
   sign (codes "=")
   f ← name
-  c ← call_after 64 f.1
+  c ← call_after max_nested_calls f.1
   sign (codes ";")
   pure (Some (stmt.Assign (record { targets = ns; value = expr.Call c })))
 
@@ -383,7 +384,7 @@ switched s = do
 unfoldable pub sequenced : Parser (Option Stmt)
 sequenced = do
   n ← name
-  c ← call_after 64 n.1
+  c ← call_after max_nested_calls n.1
   sign (codes ";")
   pure (Some (stmt.Sequence c))
 

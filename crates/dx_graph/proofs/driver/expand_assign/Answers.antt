@@ -13,6 +13,9 @@ expand_expr-requires-clause-ready c =
     let w = c.args.w.now in
     c.text_at_top-text.ensures.ready c.first_trail.new.graph (subst (λ (g : Graph). Remembers g.nodes w) (sym c.first_trail.ensures.graph) c.requires.memo) c.in_ok-trail.ensures.trail
 
+pub expand_expr-requires-clause-walked : goal.expand_expr-requires-clause-walked
+expand_expr-requires-clause-walked c = c.text_at_top-text.ensures.walked (text_of c.args.a.now) c.requires.walked
+
 pub returns-clause-grows : goal.returns-clause-grows
 returns-clause-grows c = grows_on c.args.graph.now c.first_trail.new.graph c.expand_expr.new.graph c.first_trail.ensures.grows c.expand_expr.ensures.grows
 

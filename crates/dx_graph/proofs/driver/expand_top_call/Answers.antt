@@ -3,10 +3,15 @@ use Rattle.dx_ast.specs.Plain.{plain_call}
 use Rattle.dx_macros.specs.Dictionary.{of_call}
 use Rattle.dx_graph.proofs.Growing.{if_ok}
 use Rattle.dx_graph.proofs.Driving.{at_top}
+use Rattle.dx_graph.proofs.Parts.{expr_call}
+use Rattle.dx_ast.specs.Syntax.{CallOf}
 use Rattle.dx_graph.proofs.driver.expand_top_call.Goals as goal
 
 pub expand_call-requires-clause-ready : goal.expand_call-requires-clause-ready
 expand_call-requires-clause-ready c = c.text_at_top-text.ensures.ready c.args.graph.now c.requires.memo (omega arith)
+
+pub expand_call-requires-clause-walked : goal.expand_call-requires-clause-walked
+expand_call-requires-clause-walked c = expr_call c.args.w.now c.text_at_top-text.result (CallOf (plain_call c.args.c.now)) (plain_call c.args.c.now) refl (c.text_at_top-text.ensures.walked (of_call (plain_call c.args.c.now)) c.requires.walked)
 
 pub returns-clause-expands : goal.returns-clause-expands
 returns-clause-expands c =

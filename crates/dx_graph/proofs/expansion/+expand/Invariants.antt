@@ -1,9 +1,11 @@
-use Rattle.std.proofs.Common.{◌+◌, ◌*◌, [], drop}
+use Rattle.std.proofs.Common.{List, ◌+◌, ◌*◌, [], drop}
 use Rattle.dx_ast.specs.Plain.{plain_expr, plain_call, plain_args, plain_stmt, plain_stmts}
 use Rattle.dx_macros.specs.Weight.{expr_weight, call_weight, args_weight, statement_weight, body_weight}
 use Rattle.dx_graph.specs.Expanding.{Ready, Grows, SameText, setting}
 use Rattle.dx_graph.proofs.Expansions.{ArgsSoFar, BodySoFar}
 use Rattle.dx_graph.proofs.Measures.{cap}
+use Rattle.dx_ast.specs.Classes.{Text as Name}
+use Rattle.dx_graph.specs.Marks.{ArgsWalked, BodyWalked}
 use Rattle.dx_graph.proofs.expansion.+expand.Given as goal
 
 abbrev pub decreases-expand_expr : goal.decreases-expand_expr
@@ -30,6 +32,7 @@ decreases-expand_statement l = l.t.now.left * cap l.w.now + (3 * statement_weigh
 abbrev pub invariant-expand_args-loop-arg : goal.invariant-expand_args-loop-arg
 invariant-expand_args-loop-arg l = record {
   grows : Grows l.initial.graph l.graph;
+  walked : ArgsWalked l.w l.t (plain_args (drop l.arg-index l.args));
   so_far : ArgsSoFar (setting l.w l.t l.initial.graph) l.initial.before l.args l.initial.graph l.graph l.before l.given.items (drop l.arg-index l.args);
 }
 
@@ -38,5 +41,6 @@ invariant-expand_body-loop-s l = record {
   grows : Grows l.initial.graph l.graph;
   same : SameText l.initial.t l.t;
   ready : Ready l.w l.t l.graph;
+  walked : (results : List Name) → BodyWalked l.w l.initial.t results (plain_stmts l.body) → BodyWalked l.w l.t results (plain_stmts (drop l.s-index l.body));
   so_far : BodySoFar l.w (setting l.w l.initial.t l.initial.graph) l.body l.initial.graph l.graph l.t l.before (drop l.s-index l.body);
 }

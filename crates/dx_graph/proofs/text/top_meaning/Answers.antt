@@ -3,14 +3,15 @@ use Rattle.dx_ast.specs.Classes.{Text}
 use Rattle.dx_macros.specs.Dictionary.{TopText}
 use Rattle.dx_graph.specs.Expanding.{dictionary_in, top_results, last_target}
 use Rattle.dx_graph.specs.Operands.{Gives}
-use Rattle.dx_graph.proofs.TopLevel.{unbound, bound_at, named_below}
+use Rattle.dx_graph.proofs.TopLevel.{unbound, bound_at}
+use Rattle.dx_graph.proofs.Parts.{result_known}
 use Rattle.dx_graph.proofs.text.top_meaning.Goals as goal
 
-pub returns-in-None-clause-means : goal.returns-in-None-clause-means
-returns-in-None-clause-means c = λ nodes memo. record { fits = tt; tree = sym (unbound c.args.w.now c.args.place c.args.name.now (sym c.last_before.ensures.last ∙ c.in-None.is)) }
+pub returns-in-None : goal.returns-in-None
+returns-in-None c = λ nodes memo. record { fits = tt; tree = sym (unbound c.args.w.now c.args.place c.args.name.now (sym c.last_before.ensures.last ∙ c.in-None.is)) }
 
-pub returns-in-Some-get-clause-means : goal.returns-in-Some-get-clause-means
-returns-in-Some-get-clause-means c = λ nodes memo.
+pub returns-in-Some-get : goal.returns-in-Some-get
+returns-in-Some-get c = λ nodes memo.
     let w = c.args.w.now in
     let i = c.in-Some.i in
     let name = c.args.name.now in
@@ -25,9 +26,7 @@ returns-in-Some-get-clause-means c = λ nodes memo.
           ∙ sym here;
     }
 
-pub returns-in-None-get-clause-needs : goal.returns-in-None-get-clause-needs
-returns-in-None-get-clause-needs c =
-    let i = c.in-Some.i in (
-      named_below c.args.place i (dictionary_in c.args.w.now).definitions c.args.name.now (sym c.last_before.ensures.last ∙ c.in-Some.is),
-      sym c.in-None-get.ensures,
-    )
+pub unreachable-requires : goal.unreachable-requires
+unreachable-requires c =
+    let w = c.args.w.now in
+    result_known w c.args.place c.in-Some.i c.args.name.now c.requires.walked (sym c.last_before.ensures.last ∙ c.in-Some.is) (sym c.in-None-get.ensures)

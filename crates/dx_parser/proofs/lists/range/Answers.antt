@@ -4,7 +4,7 @@ use Rattle.dx_ast.specs.Values.{is_passed}
 use Rattle.dx_parser.proofs.Ranging.{IsStep, is_step, moved_on, ended}
 use Rattle.dx_parser.proofs.lists.range.Goals as goal
 
-step : (c : goal.After-from-next-in-each) → IsStep c.args.a c.args.b c.args.d (to_z w64 c.each.next-bits)
+step : (c : goal.After-from) → IsStep c.args.a c.args.b c.args.d (to_z w64 c.each.next-bits)
 step c =
     let a = to_z-of_z w32 c.args.a c.ranges.a in
     let b = to_z-of_z w32 c.args.b c.ranges.b in
@@ -13,14 +13,14 @@ step c =
     is_step c.args.a c.args.b c.args.d (to_z w64 c.each.next-bits) c.requires here (rw (a, d) at c.each.invariant.behind) c.ranges.a c.ranges.b c.ranges.d
 
 -- the step that is added
-added : (c : goal.After-from-next-in-each) → to_z w64 (of_z w64 c.from-next-in-each.result) ≡ c.args.d
+added : (c : goal.After-from) → to_z w64 (of_z w64 c.from.result) ≡ c.args.d
 added c =
-    let e : c.from-next-in-each.result ≡ c.args.d = c.from-next-in-each.ensures ∙ to_z-of_z w32 c.args.d c.ranges.d in
+    let e : c.from.result ≡ c.args.d = c.from.ensures ∙ to_z-of_z w32 c.args.d c.ranges.d in
     let f = c.ranges.d in
     rw e (to_z-of_z w64 c.args.d (omega (arith, ints)))
 
 -- the number that is next
-next : (c : goal.After-from-next-in-each) → to_z w64 (of_z w64 (to_z w64 c.each.next-bits +ℤ to_z w64 (of_z w64 c.from-next-in-each.result))) ≡ to_z w64 c.each.next-bits +ℤ c.args.d
+next : (c : goal.After-from) → to_z w64 (of_z w64 (to_z w64 c.each.next-bits +ℤ to_z w64 (of_z w64 c.from.result))) ≡ to_z w64 c.each.next-bits +ℤ c.args.d
 next c = rw (added c) (to_z-of_z w64 (to_z w64 c.each.next-bits +ℤ c.args.d) (step c).sum)
 
 pub overflow_add-next : goal.overflow_add-next

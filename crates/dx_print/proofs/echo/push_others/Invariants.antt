@@ -1,6 +1,6 @@
 use Rattle.std.proofs.Common.{◌≡◌, ◌++◌, drop, map}
 use Rattle.dx_objects.specs.Values.{values_of}
-use Rattle.dx_print.specs.Words.{behind}
+use Rattle.dx_base.specs.Words.{behind}
 use Rattle.dx_print.specs.Echoed.{value_word}
 use Rattle.dx_print.proofs.echo.push_others.Given as goal
 

@@ -1,0 +1,11 @@
+//! Tests of the devices: those in memory, and one for each real edge.
+#![tactic(auto)]
+
+#[cfg(test)]
+mod folder;
+#[cfg(test)]
+mod made;
+#[cfg(test)]
+mod memory;
+#[cfg(test)]
+mod writer;

@@ -1,5 +1,0 @@
-use Rattle.dx_base.specs.Tokens.Reading.{start}
-use Rattle.dx_lexer.proofs.tests.shown.Goals as goal
-
-pub tokens-init : goal.tokens-init
-tokens-init c = start

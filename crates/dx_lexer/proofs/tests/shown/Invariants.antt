@@ -1,5 +1,0 @@
-use Rattle.dx_base.specs.Tokens.Reading.{IsReached}
-use Rattle.dx_lexer.proofs.tests.shown.Given as goal
-
-abbrev pub invariant-tokens : goal.invariant-tokens
-invariant-tokens l = IsReached l.text l.at
