@@ -1,13 +1,12 @@
 -- The definitions that are noted in the index, and those that aren't yet.
-use Rattle.std.proofs.Common.{◌≡◌, ℕ, zero, suc, ◌<◌, ◌≤◌, List, [], ◌∷◌, ◌++◌, length, take, get_or, map, Option, Some, refl, sym, ap, ap₂, subst, ◌∙◌, arith}
-use Rattle.std.specs.Prelude.{if◌then◌else◌, Bool, true, false, None}
+use Rattle.std.proofs.Common.{◌≡◌, ℕ, zero, suc, ◌<◌, ◌≤◌, List, [], ◌∷◌, ◌++◌, length, take, map, Option, Some, refl, sym, ap, ap₂, subst, ◌∙◌, arith}
+use Rattle.std.specs.Prelude.{if◌then◌else◌, Bool, true, false}
 use Rattle.std.proofs.lemmas.List.{length-map, map-append}
-use Rattle.std.specs.List.{take-map}
 use Rattle.dx_ast.specs.declared.statements.Assign.{Assign}
 use Rattle.dx_ast.specs.Classes.{Text}
 use Rattle.dx_base.specs.NameLists.{has}
 use Rattle.dx_macros.specs.Dictionary.{TopText, definition, last_named}
-use Rattle.dx_macros.specs.Shown.{Index, text_of, noted, ArePlaces, Indexes, IsIndexed}
+use Rattle.dx_macros.specs.Shown.{Index, text_of, noted, Indexes, IsIndexed}
 use Rattle.dx_macros.proofs.Noting.{joins}
 
 take_definition : (defs : List TopText) (k i : ℕ) → i < k → definition (take k defs) i ≡ definition defs i

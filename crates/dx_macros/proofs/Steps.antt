@@ -1,5 +1,5 @@
 -- One step of the walk.
-use Rattle.std.proofs.Common.{◌≡◌, ℕ, zero, suc, List, [], ◌∷◌, ◌++◌, length, Option, Some, None, Bool, true, false, refl, sym, ap, ◌∙◌, append-nil, append_assoc}
+use Rattle.std.proofs.Common.{◌≡◌, ℕ, zero, suc, List, [], ◌∷◌, ◌++◌, length, Option, Some, None, Bool, true, false, refl, sym, ap, ◌∙◌, append_assoc}
 use Rattle.std.specs.Prelude.{slice_index_or, slice_set, if◌then◌else◌}
 use Rattle.dx_base.specs.declared.function.Function.{Function}
 use Rattle.dx_ast.specs.Classes.{Text}
@@ -11,7 +11,7 @@ use Rattle.dx_base.specs.NameLists.{has}
 use Rattle.dx_macros.specs.Names.{calls_in, calls_in_args}
 use Rattle.dx_macros.specs.Dictionary.{Dictionary, TopText, Macros, definition, last_named, param_names, CallsMacro, CallsFunction, callee}
 use Rattle.dx_macros.specs.Walk.{Walk, Walked, Goes, Faulty, and_then, reader_at, walk_macro, walk_call, walk_expr, walk_args, pick, read_definition, fault_of_call, arg_names}
-use Rattle.dx_macros.specs.Machine.{Stack, Job, ExprJob, CallJob, ArgsJob, EnterJob, BodyJob, OwnJob, NamesJob, LeaveJob, top_reader, reads, under, met, meeting, with_active, entered, Rest, do_job, jobs_above, in_macro, at_top}
+use Rattle.dx_macros.specs.Machine.{Stack, Job, ExprJob, CallJob, ArgsJob, EnterJob, BodyJob, OwnJob, NamesJob, LeaveJob, top_reader, reads, under, met, with_active, entered, Rest, do_job, jobs_above, in_macro, at_top}
 
 pub jobs_push : (d : Dictionary) (k : Rest) (js : List Job) (j : Job) → jobs_above d k (js ++ j ∷ []) ≡ do_job d j (jobs_above d k js)
 jobs_push d k [] j = refl

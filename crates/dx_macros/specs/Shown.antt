@@ -1,5 +1,5 @@
 -- What the code's lists and tables stand for.
-use Rattle.std.specs.Prelude.{◌≡◌, ◌≤◌, ℕ, true, List, [], ◌∷◌, ◌++◌, length, take, map, Option, Some, None, Vec, All, if◌then◌else◌}
+use Rattle.std.specs.Prelude.{◌≡◌, ◌≤◌, ℕ, true, List, [], ◌∷◌, ◌++◌, length, take, Option, Some, None, Vec, All, if◌then◌else◌}
 use Rattle.std.specs.List.{Contains}
 use Rattle.std.specs.List.Sorted.{IsNonDecreasing}
 use Rattle.std.specs.Str.{bytes_eq}
@@ -11,7 +11,7 @@ use Rattle.dx_ast.specs.declared.statements.MacroDef.{MacroDef}
 use Rattle.dx_ast.specs.Classes.{Text}
 use Rattle.dx_ast.specs.Plain.{plain_expr, plain_macro}
 use Rattle.dx_ast.specs.Lawful.{IsLawfulAssign, IsLawfulMacro}
-use Rattle.dx_base.specs.NameLists.{has, count}
+use Rattle.dx_base.specs.NameLists.{has}
 use Rattle.dx_macros.specs.Dictionary.{TopText, definition, last_named}
 
 -- ---- definitions and macros

@@ -1,3 +1,4 @@
+//! The law that the bound on macro steps is no part of what a statement without a fault means.
 ghost use Rattle.dx_ast.specs.Syntax.{Stmt};
 ghost use Rattle.dx_ast.specs.declared.sequencing.Frames.{Frames};
 ghost use Rattle.dx_macros.specs.Dictionary.{Dictionary};

@@ -1,3 +1,4 @@
+//! What the name of a call means.
 ghost use Rattle.std.specs.Prelude.{◌≡◌};
 ghost use Rattle.dx_macros.specs.Dictionary.{callee};
 ghost use Rattle.dx_macros.specs.DictionaryView.{dictionary_of};

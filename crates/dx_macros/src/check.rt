@@ -1,5 +1,5 @@
 //! The walk of a statement before its execution: its first static fault, or which definitions it reads.
-ghost use Rattle.std.specs.Prelude.{◌≡◌, [], None, IfOk};
+ghost use Rattle.std.specs.Prelude.{◌≡◌, [], IfOk};
 ghost use Rattle.dx_ast.specs.Lawful.{IsLawful};
 ghost use Rattle.dx_ast.specs.Plain.{plain_call, plain_stmt};
 ghost use Rattle.dx_macros.specs.Dictionary.{of_call};
@@ -120,20 +120,6 @@ impl Dictionary {
         match self.walk(alloc, s) {
             Ok(_) => Ok(()),
             Err(fail) => Err(fail),
-        }
-    }
-
-    /// Which definitions the walk of a statement reads that has no static fault: those at the marked places, in the order
-    /// in which the definitions joined.
-    pub fn reads(&self, alloc: Global, s: &Stmt) -> Result<Sparse<()>, AllocError>
-        requires lawful { IsLawful (plain_stmt s.now) }
-        requires no_fault { first_fault (dictionary_of self.now) (plain_stmt s.now) ≡ None }
-        ensures { IfOk result (λ read. flags read ≡ definitions_read (dictionary_of self.now) (plain_stmt s.now)) }
-    {
-        match self.walk(alloc, s) {
-            Ok(read) => Ok(read),
-            Err(CheckFail::Memory) => Err(AllocError),
-            Err(CheckFail::Fault(_, _)) => unreachable!(),
         }
     }
 }

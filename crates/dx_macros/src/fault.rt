@@ -1,3 +1,4 @@
+//! What can be wrong with a statement before its execution.
 use dx_base::Bytes;
 use std::alloc::AllocError;
 use thiserror::Error;

@@ -10,8 +10,6 @@ mod fault_tests;
 #[cfg(test)]
 mod faults;
 #[cfg(test)]
-mod macro_sparse_tests;
-#[cfg(test)]
 mod session;
 #[cfg(test)]
 mod shown;

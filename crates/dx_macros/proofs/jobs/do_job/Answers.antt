@@ -4,7 +4,7 @@ use Rattle.dx_macros.specs.MachineView.{plain_job, job_first}
 use Rattle.dx_macros.specs.Weight.{job_weight}
 use Rattle.dx_macros.specs.declared.machine.Job.{Job}
 use Rattle.dx_macros.proofs.Pushes.{left}
-use Rattle.dx_macros.proofs.Weights.{wider, left_falls}
+use Rattle.dx_macros.proofs.Weights.{wider}
 use Rattle.dx_macros.proofs.jobs.do_job.Goals as goal
 
 pub returns-in-Enter-clause-falls : goal.returns-in-Enter-clause-falls

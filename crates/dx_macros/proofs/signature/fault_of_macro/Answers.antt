@@ -1,4 +1,4 @@
-use Rattle.std.proofs.Common.{◌∙◌, ◌≡◌, sym, ap, ap₂, refl, None, ℕ, Option, arith}
+use Rattle.std.proofs.Common.{◌∙◌, ◌≡◌, sym, ap, ap₂, refl, ℕ, Option, arith}
 use Rattle.dx_macros.specs.declared.fault.StaticFault.{StaticFault}
 use Rattle.dx_macros.specs.Walk.{or_nesting}
 use Rattle.dx_macros.proofs.Fits.{macro_fault, nested_some, nested_none}
