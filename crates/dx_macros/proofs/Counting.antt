@@ -1,16 +1,18 @@
 -- How often names stand in lists.
-use Rattle.std.proofs.Common.{◌≡◌, ℕ, ◌+◌, List, [], ◌∷◌, ◌++◌, Option, Some, Bool, true, false, Vec, refl, sym, ap, ◌∙◌, arith, map}
+use Rattle.std.proofs.Common.{◌≡◌, ℕ, ◌+◌, List, [], ◌∷◌, ◌++◌, Option, Some, Bool, true, false, Vec, refl, sym, ap, ◌∙◌, arith, map, Bor, take, drop, length, ◌<◌, ◌≤◌}
 use Rattle.std.specs.Prelude.{cond, nat_lt, ◌||◌, if◌then◌else◌}
 use Rattle.std.specs.List.{count_by}
 use Rattle.std.specs.Str.{bytes_eq}
 use Rattle.std.specs.declared.alloc.Global.{Global}
+use Rattle.std.proofs.lemmas.List.{length-map, take-append-drop, drop_all, length-append, drop-append-le}
+use Rattle.std.specs.List.{take-map}
 use Rattle.std.specs.HashMap.{HashMap}
 use Rattle.std.proofs.lemmas.List.Sums.{sum_by-append, sum_by-cons}
 use Rattle.std.proofs.lemmas.Slice.Eq.{bytes_eq-Decides}
 use Rattle.dx_base.specs.NameTable.{under_name, changed_at}
 use Rattle.dx_ast.specs.Classes.{Text}
 use Rattle.dx_macros.specs.Names.{has, count}
-use Rattle.dx_macros.specs.Shown.{or_zero, IsCounted}
+use Rattle.dx_macros.specs.Shown.{texts, or_zero, IsCounted}
 
 count_snoc : (p : Text → Bool) (xs : List Text) (x : Text) → count_by p (xs ++ x ∷ []) ≡ count_by p xs + cond (p x) 1 0
 count_snoc p xs x =
@@ -47,3 +49,25 @@ has_counted (n ∷ rest) name =
 pub map-snoc : {A B : Type 0} (f : A → B) (xs : List A) (x : A) → map f (xs ++ x ∷ []) ≡ map f xs ++ f x ∷ []
 map-snoc f [] x = refl
 map-snoc f (y ∷ ys) x = ap (λ rest. f y ∷ rest) (map-snoc f ys x)
+
+-- the first eight, and those behind them
+pub counted_split : (xs : List (Bor (List ℕ))) (names : List Text) (n : Text) (a b : ℕ) → texts xs ≡ names → a ≡ count n (texts (take 8 xs)) → b ≡ count n (drop 8 names) → a + b ≡ count n names
+counted_split xs names n a b v e h =
+    let first : count n (texts (take 8 xs)) ≡ count n (take 8 names) = ap (count n) (sym (take-map (λ (x : Bor (List ℕ)). x.now) 8 xs) ∙ ap (take 8) v) in
+    let both : count n (take 8 names ++ drop 8 names) ≡ count n (take 8 names) + count n (drop 8 names) = sum_by-append (λ (y : Text). cond (bytes_eq y n) 1 0) (take 8 names) (drop 8 names) in
+    let whole : count n (take 8 names ++ drop 8 names) ≡ count n names = ap (count n) (take-append-drop 8 names) in
+    omega (arith, e, h, first, both, whole)
+
+pub few_snoc : {A : Type 0} (xs : List A) (x : A) → length xs < 8 → drop 8 (xs ++ x ∷ []) ≡ drop 8 xs
+few_snoc xs x h =
+    let l : length (xs ++ x ∷ []) ≤ 8 = omega (arith, h, length-append xs (x ∷ [])) in
+    drop_all 8 (xs ++ x ∷ []) l ∙ sym (drop_all 8 xs (omega (arith, h)))
+
+-- one name more behind the first eight
+pub later_push : {S : Type 0} (later new : HashMap (Vec ℕ Global) ℕ S) (xs ys : List (Bor (List ℕ))) (x : Bor (List ℕ)) (key : Text) (k : ℕ) → IsCounted later (drop 8 (texts xs)) → k ≡ count x.now (drop 8 (texts xs)) → key ≡ x.now →
+    under_name new ≡ changed_at (under_name later) key (Some (k + 1)) → ys ≡ xs ++ x ∷ [] → 8 ≤ length xs → IsCounted new (drop 8 (texts ys))
+later_push later new xs ys x key k h e name u grown many n =
+    let now : Bor (List ℕ) → List ℕ = λ y. y.now in
+    let enough : 8 ≤ length (texts xs) = omega (arith, many, length-map xs now) in
+    counted_push later new (drop 8 (texts xs)) x.now k h e (u ∙ ap (λ (m : Text). changed_at (under_name later) m (Some (k + 1))) name) n
+    ∙ ap (count n) (sym (ap (λ (zs : List (Bor (List ℕ))). drop 8 (texts zs)) grown ∙ ap (drop 8) (map-snoc now xs x) ∙ drop-append-le 8 (texts xs) (x.now ∷ []) enough))

@@ -22,7 +22,7 @@ use Rattle.dx_ast.specs.declared.statements.Stmt.TheVariants as stmt
 use denote.Hole.Carrier
 use Rattle.dx_ast.specs.Plain.{plain_expr, plain_call, plain_args, plain_macro, plain_stmt, plain_stmts}
 use Rattle.dx_ast.specs.declared.statements.MacroDef.{MacroDef, out-MacroDef}
-use Rattle.dx_macros.specs.declared.machine.Frame.{Frame}
+use Rattle.dx_macros.specs.declared.machine.Activation.{Activation}
 use Rattle.dx_ast.proofs.PlainLaws.{plain_call_out, stmt_layer, plain_stmt_out, plain_macro_out}
 use Rattle.dx_macros.specs.Places.{Marks, flags}
 use Rattle.dx_macros.specs.Shown.{text_of}
@@ -31,7 +31,7 @@ use Rattle.dx_macros.specs.declared.machine.Job.{Job}
 use Rattle.dx_macros.specs.declared.machine.Machine.{Machine}
 use Rattle.dx_macros.specs.declared.machine.Stop.{Stop}
 use Rattle.dx_macros.specs.declared.machine.Stop.TheVariants as stop
-use Rattle.dx_macros.specs.MachineView.{plain_frame, plain_job, walk_now, rest, means, job_first, Continues, accepted, FaultIs, IsPushed, IsCounted, CountsCall, IsEntered, definition_first, Stops, Ends, Finds}
+use Rattle.dx_macros.specs.MachineView.{plain_activation, stack_now, plain_job, walk_now, rest, means, job_first, Continues, accepted, FaultIs, IsPushed, IsCounted, CountsCall, IsEntered, definition_first, Stops, Ends, Finds}
 use Rattle.dx_macros.proofs.Steps.{enter_step, args_step, body_call_step, body_assign_step, names_step, call_fault_step, call_macro_step, call_function_step}
 use Rattle.dx_macros.proofs.Pushes.{rest_push, pushed, pushed_twice, entered}
 
@@ -51,10 +51,10 @@ unfolding views.out-Stmt denote.Hole.Carrier.out
 stmt_assign a = plain_stmt_out (stmt.Assign a)
 
 module _ (d : Dictionary) (old : Machine) where
-  pub args_first : (args others : List Arg) (a : Arg) → args ≡ a ∷ others → job_first d (m.ArgsJob (plain_args args)) old ≡ m.do_job d (m.ExprJob 0 (plain_expr a.value)) (m.do_job d (m.ArgsJob (plain_args others)) (rest d old)) (plain_frame old.frame) (walk_now old)
+  pub args_first : (args others : List Arg) (a : Arg) → args ≡ a ∷ others → job_first d (m.ArgsJob (plain_args args)) old ≡ m.do_job d (m.ExprJob 0 (plain_expr a.value)) (m.do_job d (m.ArgsJob (plain_args others)) (rest d old)) (stack_now old) (walk_now old)
   args_first args others a e =
       ap (λ xs. job_first d (m.ArgsJob (plain_args xs)) old) e
-      ∙ args_step d (rest d old) (plain_frame old.frame) (walk_now old) a.name (plain_expr a.value) (plain_args others)
+      ∙ args_step d (rest d old) (stack_now old) (walk_now old) a.name (plain_expr a.value) (plain_args others)
 
   pub body_none : (results : List Text) (ss : List Stmt) → length ss ≡ 0 → job_first d (m.BodyJob results (plain_stmts ss)) old ≡ job_first d (m.NamesJob results) old
   body_none results [] e = refl
@@ -65,16 +65,16 @@ module _ (d : Dictionary) (old : Machine) where
       ap (λ xs. job_first d (m.BodyJob results (plain_stmts xs)) old) e
       ∙ ap (λ y. job_first d (m.BodyJob results (plain.AndStmt y (plain_stmts others))) old) h
 
-  pub body_call : (results : List Text) (ss others : List Stmt) (s : Stmt) (c : Call) → ss ≡ s ∷ others → s ≡ stmt.Call c → job_first d (m.BodyJob results (plain_stmts ss)) old ≡ m.do_job d (m.CallJob 0 (plain_call c)) (m.do_job d (m.BodyJob results (plain_stmts others)) (rest d old)) (plain_frame old.frame) (walk_now old)
+  pub body_call : (results : List Text) (ss others : List Stmt) (s : Stmt) (c : Call) → ss ≡ s ∷ others → s ≡ stmt.Call c → job_first d (m.BodyJob results (plain_stmts ss)) old ≡ m.do_job d (m.CallJob 0 (plain_call c)) (m.do_job d (m.BodyJob results (plain_stmts others)) (rest d old)) (stack_now old) (walk_now old)
   body_call results ss others s c e h =
       body_one results ss others s (plain.Calls (plain_call c)) e (ap plain_stmt h ∙ stmt_call c)
-      ∙ body_call_step d (rest d old) (plain_frame old.frame) (walk_now old) results (plain_call c) (plain_stmts others)
+      ∙ body_call_step d (rest d old) (stack_now old) (walk_now old) results (plain_call c) (plain_stmts others)
 
-  pub body_assign : (results : List Text) (ss others : List Stmt) (s : Stmt) (a : Assign) (ts : List Text) (n : ℕ) → ss ≡ s ∷ others → s ≡ stmt.Assign a → ts ≡ a.targets → n ≡ length a.targets → job_first d (m.BodyJob results (plain_stmts ss)) old ≡ m.do_job d (m.ExprJob n (plain_expr a.value)) (m.do_job d (m.OwnJob ts) (m.do_job d (m.BodyJob results (plain_stmts others)) (rest d old))) (plain_frame old.frame) (walk_now old)
+  pub body_assign : (results : List Text) (ss others : List Stmt) (s : Stmt) (a : Assign) (ts : List Text) (n : ℕ) → ss ≡ s ∷ others → s ≡ stmt.Assign a → ts ≡ a.targets → n ≡ length a.targets → job_first d (m.BodyJob results (plain_stmts ss)) old ≡ m.do_job d (m.ExprJob n (plain_expr a.value)) (m.do_job d (m.OwnJob ts) (m.do_job d (m.BodyJob results (plain_stmts others)) (rest d old))) (stack_now old) (walk_now old)
   body_assign results ss others s a ts n e h t l =
       body_one results ss others s (plain.Assigns a.targets (plain_expr a.value)) e (ap plain_stmt h ∙ stmt_assign a)
-      ∙ body_assign_step d (rest d old) (plain_frame old.frame) (walk_now old) results a.targets (plain_expr a.value) (plain_stmts others)
-      ∙ sym (ap₂ (λ (k : ℕ) (us : List Text). m.do_job d (m.ExprJob k (plain_expr a.value)) (m.do_job d (m.OwnJob us) (m.do_job d (m.BodyJob results (plain_stmts others)) (rest d old))) (plain_frame old.frame) (walk_now old)) l t)
+      ∙ body_assign_step d (rest d old) (stack_now old) (walk_now old) results a.targets (plain_expr a.value) (plain_stmts others)
+      ∙ sym (ap₂ (λ (k : ℕ) (us : List Text). m.do_job d (m.ExprJob k (plain_expr a.value)) (m.do_job d (m.OwnJob us) (m.do_job d (m.BodyJob results (plain_stmts others)) (rest d old))) (stack_now old) (walk_now old)) l t)
 
   -- any other statement of a body gives nothing
   abbrev IsOther : plain.Stmt → Type 0
@@ -105,11 +105,11 @@ module _ (d : Dictionary) (old : Machine) where
       body_one results ss others s (stmt_layer (out-Stmt s)) e (plain_stmt_out s)
       ∙ other_step results (plain_stmts others) (stmt_layer (out-Stmt s)) (other_by s (out-Stmt s) (roll-out-Stmt s) no_call no_assign)
 
-  pub names_first : (ns others : List Text) (n n' : Text) → ns ≡ n ∷ others → n' ≡ n → job_first d (m.NamesJob ns) old ≡ and_then (m.reads d (plain_frame old.frame) n' (walk_now old)) (m.do_job d (m.NamesJob others) (rest d old) (plain_frame old.frame))
+  pub names_first : (ns others : List Text) (n n' : Text) → ns ≡ n ∷ others → n' ≡ n → job_first d (m.NamesJob ns) old ≡ and_then (m.reads d (stack_now old).active n' (walk_now old)) (m.do_job d (m.NamesJob others) (rest d old) (stack_now old))
   names_first ns others n n' e h =
       ap (λ xs. job_first d (m.NamesJob xs) old) e
-      ∙ names_step d (rest d old) (plain_frame old.frame) (walk_now old) n others
-      ∙ ap (λ x. and_then (m.reads d (plain_frame old.frame) x (walk_now old)) (m.do_job d (m.NamesJob others) (rest d old) (plain_frame old.frame))) (sym h)
+      ∙ names_step d (rest d old) (stack_now old) (walk_now old) n others
+      ∙ ap (λ x. and_then (m.reads d (stack_now old).active x (walk_now old)) (m.do_job d (m.NamesJob others) (rest d old) (stack_now old))) (sym h)
 
   -- a call whose name and arguments are these
   pub call_out : (targets : ℕ) (c : Call) → job_first d (m.CallJob targets (plain_call c)) old ≡ job_first d (m.CallJob targets (MakeCall (out-Call c).name (out-Call c).cache (plain_args (out-Call c).args))) old
@@ -117,31 +117,31 @@ module _ (d : Dictionary) (old : Machine) where
 
   -- the fault of a call
   pub call_faulty : (targets : ℕ) (c : Call) (name : Text) (args : List Arg) (cl : Callee) (k : ℕ) (f : Option StaticFault) (x : StaticFault) →
-      name ≡ (out-Call c).name → args ≡ (out-Call c).args → cl ≡ callee d.macros name → k ≡ suc (count name (plain_frame old.frame).before) →
-      f ≡ fault_of_call old.calls cl old.frame.left (arg_names (plain_args args)) targets → f ≡ Some x →
-      job_first d (m.CallJob targets (plain_call c)) old ≡ Faulty ((plain_frame old.frame).base ++ Nth name k ∷ []) x
+      name ≡ (out-Call c).name → args ≡ (out-Call c).args → cl ≡ callee d.macros name → k ≡ suc (count name (stack_now old).active.before) →
+      f ≡ fault_of_call old.calls cl old.active.left (arg_names (plain_args args)) targets → f ≡ Some x →
+      job_first d (m.CallJob targets (plain_call c)) old ≡ Faulty ((stack_now old).active.base ++ Nth name k ∷ []) x
   call_faulty targets c name args cl k f x n a e l g h =
       call_out targets c
       ∙ ap₂ (λ u v. job_first d (m.CallJob targets (MakeCall u (out-Call c).cache (plain_args v))) old) (sym n) (sym a)
-      ∙ call_fault_step d (rest d old) (plain_frame old.frame) (walk_now old) targets name (out-Call c).cache (plain_args args) x
-      (ap (λ y. fault_of_call old.calls y old.frame.left (arg_names (plain_args args)) targets) (sym e) ∙ sym g ∙ h)
-      ∙ ap (λ j. Faulty ((plain_frame old.frame).base ++ Nth name j ∷ []) x) (sym l)
+      ∙ call_fault_step d (rest d old) (stack_now old) (walk_now old) targets name (out-Call c).cache (plain_args args) x
+      (ap (λ y. fault_of_call old.calls y old.active.left (arg_names (plain_args args)) targets) (sym e) ∙ sym g ∙ h)
+      ∙ ap (λ j. Faulty ((stack_now old).active.base ++ Nth name j ∷ []) x) (sym l)
 
   -- a call with no fault
   accepted_by : (targets : ℕ) (name : Text) (cache : ℕ) (args : Args) (cl : Callee) (s : Step) →
-      callee d.macros name ≡ cl → s ≡ next_step name (plain_frame old.frame).before →
-      fault_of_call old.calls cl old.frame.left (arg_names args) targets ≡ None →
+      callee d.macros name ≡ cl → s ≡ next_step name (stack_now old).active.before →
+      fault_of_call old.calls cl old.active.left (arg_names args) targets ≡ None →
       job_first d (m.CallJob targets (MakeCall name cache args)) old ≡ accepted d cl s name args old
-  accepted_by targets name cache args Unknown s e l f = unknown_faulty old.calls old.frame.left (arg_names args) targets f
+  accepted_by targets name cache args Unknown s e l f = unknown_faulty old.calls old.active.left (arg_names args) targets f
   accepted_by targets name cache args (CallsMacro x) s e l f =
-      call_macro_step d (rest d old) (plain_frame old.frame) (walk_now old) targets name cache args x (ap (λ y. fault_of_call old.calls y old.frame.left (arg_names args) targets) e ∙ f) e
+      call_macro_step d (rest d old) (stack_now old) (walk_now old) targets name cache args x (ap (λ y. fault_of_call old.calls y old.active.left (arg_names args) targets) e ∙ f) e
       ∙ ap (λ t. accepted d (CallsMacro x) t name args old) (sym l)
   accepted_by targets name cache args (CallsFunction h) s e l f =
-      call_function_step d (rest d old) (plain_frame old.frame) (walk_now old) targets name cache args h (ap (λ y. fault_of_call old.calls y old.frame.left (arg_names args) targets) e ∙ f) e
+      call_function_step d (rest d old) (stack_now old) (walk_now old) targets name cache args h (ap (λ y. fault_of_call old.calls y old.active.left (arg_names args) targets) e ∙ f) e
 
   pub call_accepted : (targets : ℕ) (c : Call) (name : Text) (args : List Arg) (cl : Callee) (k : ℕ) (f : Option StaticFault) →
-      name ≡ (out-Call c).name → args ≡ (out-Call c).args → cl ≡ callee d.macros name → k ≡ suc (count name (plain_frame old.frame).before) →
-      f ≡ fault_of_call old.calls cl old.frame.left (arg_names (plain_args args)) targets → f ≡ None →
+      name ≡ (out-Call c).name → args ≡ (out-Call c).args → cl ≡ callee d.macros name → k ≡ suc (count name (stack_now old).active.before) →
+      f ≡ fault_of_call old.calls cl old.active.left (arg_names (plain_args args)) targets → f ≡ None →
       job_first d (m.CallJob targets (plain_call c)) old ≡ accepted d cl (Nth name k) (out-Call c).name (plain_args (out-Call c).args) old
   call_accepted targets c name args cl k f n a e l g h =
       call_out targets c
@@ -167,54 +167,56 @@ module _ (d : Dictionary) (old : Machine) (name : Text) (mid : Machine) (p : IsC
   pub accepted_macro : (mid1 new : Machine) (x : plain.Macro) (s : Step) (args : Args) (j i : Job) → IsPushed mid j mid1 → IsPushed mid1 i new → plain_job j ≡ m.EnterJob x s → plain_job i ≡ m.ArgsJob args → accepted d (CallsMacro x) s name args old ≡ means d new
   accepted_macro mid1 new x s args j i q r e f =
       sym (pushed_twice d mid mid1 new j i q r
-      ∙ ap₂ (λ a b. m.do_job d a (m.do_job d b (rest d mid)) (plain_frame mid.frame) (walk_now mid)) f e
-      ∙ ap₂ (λ k g. m.do_job d (m.ArgsJob args) (m.do_job d (m.EnterJob x s) k) g (walk_now mid)) counted_rest p.frame
-      ∙ ap (m.do_job d (m.ArgsJob args) (m.do_job d (m.EnterJob x s) (rest d old)) (m.met (name ∷ []) (plain_frame old.frame))) counted_walk)
+      ∙ ap₂ (λ a b. m.do_job d a (m.do_job d b (rest d mid)) (stack_now mid) (walk_now mid)) f e
+      ∙ ap₂ (λ k g. m.do_job d (m.ArgsJob args) (m.do_job d (m.EnterJob x s) k) g (walk_now mid)) counted_rest p.stack
+      ∙ ap (m.do_job d (m.ArgsJob args) (m.do_job d (m.EnterJob x s) (rest d old)) (m.met (name ∷ []) (stack_now old))) counted_walk)
 
-  pub accepted_plain : (new : Machine) (args : Args) (i : Job) → IsPushed mid i new → plain_job i ≡ m.ArgsJob args → m.do_job d (m.ArgsJob args) (rest d old) (m.met (name ∷ []) (plain_frame old.frame)) (record { calls = suc old.calls; read = flags old.read }) ≡ means d new
+  pub accepted_plain : (new : Machine) (args : Args) (i : Job) → IsPushed mid i new → plain_job i ≡ m.ArgsJob args → m.do_job d (m.ArgsJob args) (rest d old) (m.met (name ∷ []) (stack_now old)) (record { calls = suc old.calls; read = flags old.read }) ≡ means d new
   accepted_plain new args i r f =
       sym (pushed d mid new i r
-      ∙ ap (λ a. m.do_job d a (rest d mid) (plain_frame mid.frame) (walk_now mid)) f
-      ∙ ap₂ (λ k g. m.do_job d (m.ArgsJob args) k g (walk_now mid)) counted_rest p.frame
-      ∙ ap (m.do_job d (m.ArgsJob args) (rest d old) (m.met (name ∷ []) (plain_frame old.frame))) counted_walk)
+      ∙ ap (λ a. m.do_job d a (rest d mid) (stack_now mid) (walk_now mid)) f
+      ∙ ap₂ (λ k g. m.do_job d (m.ArgsJob args) k g (walk_now mid)) counted_rest p.stack
+      ∙ ap (m.do_job d (m.ArgsJob args) (rest d old) (m.met (name ∷ []) (stack_now old))) counted_walk)
 
 pub ok_counted : {A : Type 0} (old new : Machine) (name : Text) (r : Result A Stop) (a : A) → r ≡ Ok a → CountsCall old name r new → IsCounted old name new
 ok_counted {A = A} old new name r a e p = let P : Result A Stop → Type 0 = λ r. CountsCall old name r new in subst P e p
 
--- a definition is walked in a frame of its own
-pub defined : (d : Dictionary) (i : ℕ) (old mid new : Machine) (read : Marks) (f : Frame) (n : ℕ) (j : Job) (a : Assign) →
+-- a definition is walked in an activation of its own
+pub defined : (d : Dictionary) (i : ℕ) (old mid new : Machine) (read : Marks) (f : Activation) (n : ℕ) (j : Job) (a : Assign) →
     flags read ≡ slice_set (flags old.read) i true →
-    IsEntered (record { jobs = old.jobs; frame = old.frame; calls = old.calls; read = read }) f mid → IsPushed mid j new →
-    plain_job j ≡ m.ExprJob n (plain_expr a.value) → n ≡ length a.targets → plain_frame f ≡ m.frame_at_top (first_target a.targets) i →
+    IsEntered (record { jobs = old.jobs; active = old.active; waiting = old.waiting; calls = old.calls; read = read }) f mid → IsPushed mid j new →
+    plain_job j ≡ m.ExprJob n (plain_expr a.value) → n ≡ length a.targets → ((waiting : List m.Activation) → plain_activation waiting f ≡ m.at_top (first_target a.targets) i) →
     definition d.definitions i ≡ text_of a → definition_first d i old ≡ means d new
 defined d i old mid new read f n j a r p q e l g h =
-    let k : m.Rest = m.do_job d (m.LeaveJob (plain_frame old.frame)) (rest d old) in
+    let k : m.Rest = m.do_job d m.LeaveJob (rest d old) in
+    let s = stack_now old in
     let w : List Bool → Walk = λ bs. record { calls = old.calls; read = bs } in
-    ap (λ (x : TopText). m.do_job d (m.ExprJob (length x.targets) x.value) k (m.frame_at_top (first_target x.targets) i) (w (slice_set (flags old.read) i true))) h
-    ∙ sym (entered d (record { jobs = old.jobs; frame = old.frame; calls = old.calls; read = read }) mid new f j p q
-    ∙ ap₂ (λ x y. m.do_job d x k y (w (flags read))) e g
-    ∙ ap₂ (λ (c : ℕ) (bs : List Bool). m.do_job d (m.ExprJob c (plain_expr a.value)) k (m.frame_at_top (first_target a.targets) i) (w bs)) l r)
+    ap (λ (x : TopText). m.do_job d (m.ExprJob (length x.targets) x.value) k (m.entered (m.at_top (first_target x.targets) i) s) (w (slice_set (flags old.read) i true))) h
+    ∙ sym (entered d (record { jobs = old.jobs; active = old.active; waiting = old.waiting; calls = old.calls; read = read }) mid new f j p q
+    ∙ ap₂ (λ x y. m.do_job d x k (m.entered y s) (w (flags read))) e (g (s.active ∷ s.waiting))
+    ∙ ap₂ (λ (c : ℕ) (bs : List Bool). m.do_job d (m.ExprJob c (plain_expr a.value)) k (m.entered (m.at_top (first_target a.targets) i) s) (w bs)) l r)
 
--- a macro is walked in a frame of its own
-pub entered_macro : (d : Dictionary) (old mid new : Machine) (f : Frame) (j : Job) (x : MacroDef) (s : Step) (ps : List Param) (rs : List Text) (ss : List Stmt) (left : ℕ) →
+-- a macro is walked in an activation of its own
+pub entered_macro : (d : Dictionary) (old mid new : Machine) (f : Activation) (j : Job) (x : MacroDef) (t : Step) (ps : List Param) (rs : List Text) (ss : List Stmt) (left : ℕ) →
     IsEntered old f mid → IsPushed mid j new → plain_job j ≡ m.BodyJob rs (plain_stmts ss) → ps ≡ (out-MacroDef x).params → rs ≡ (out-MacroDef x).results → ss ≡ (out-MacroDef x).body →
-    old.frame.left ≡ suc left → plain_frame f ≡ m.frame_in_macro (plain_frame old.frame) left (param_names ps) s →
-    job_first d (m.EnterJob (plain_macro x) s) old ≡ means d new
-entered_macro d old mid new f j x s ps rs ss left p q e a r b l g =
-    let k : m.Rest = m.do_job d (m.LeaveJob (plain_frame old.frame)) (rest d old) in
-    ap (λ y. job_first d (m.EnterJob y s) old) (plain_macro_out x)
-    ∙ enter_step d (rest d old) (plain_frame old.frame) (walk_now old) left (out-MacroDef x).name (out-MacroDef x).params (out-MacroDef x).results (plain_stmts (out-MacroDef x).body) s l
+    old.active.left ≡ suc left → ((waiting : List m.Activation) → let a = plain_activation waiting old.active in plain_activation (a ∷ waiting) f ≡ m.in_macro a left (param_names ps) t) →
+    job_first d (m.EnterJob (plain_macro x) t) old ≡ means d new
+entered_macro d old mid new f j x t ps rs ss left p q e a r b l g =
+    let k : m.Rest = m.do_job d m.LeaveJob (rest d old) in
+    let s = stack_now old in
+    ap (λ y. job_first d (m.EnterJob y t) old) (plain_macro_out x)
+    ∙ enter_step d (rest d old) s (walk_now old) left (out-MacroDef x).name (out-MacroDef x).params (out-MacroDef x).results (plain_stmts (out-MacroDef x).body) t l
     ∙ sym (entered d old mid new f j p q
-    ∙ ap₂ (λ y z. m.do_job d y k z (walk_now old)) e g
-    ∙ ap (λ (us : List Param). m.do_job d (m.BodyJob rs (plain_stmts ss)) k (m.frame_in_macro (plain_frame old.frame) left (param_names us) s) (walk_now old)) a
-    ∙ ap₂ (λ (us : List Text) (vs : List Stmt). m.do_job d (m.BodyJob us (plain_stmts vs)) k (m.frame_in_macro (plain_frame old.frame) left (param_names (out-MacroDef x).params) s) (walk_now old)) r b)
+    ∙ ap₂ (λ y z. m.do_job d y k (m.entered z s) (walk_now old)) e (g s.waiting)
+    ∙ ap (λ (us : List Param). m.do_job d (m.BodyJob rs (plain_stmts ss)) k (m.entered (m.in_macro s.active left (param_names us) t) s) (walk_now old)) a
+    ∙ ap₂ (λ (us : List Text) (vs : List Stmt). m.do_job d (m.BodyJob us (plain_stmts vs)) k (m.entered (m.in_macro s.active left (param_names (out-MacroDef x).params) t) s) (walk_now old)) r b)
 
 -- a job popped
-pub popped : (d : Dictionary) (old : Machine) (jobs : Vec Job Global) (j : Job) → old.jobs.items ≡ jobs.items ++ j ∷ [] → means d old ≡ job_first d (plain_job j) (record { jobs = jobs; frame = old.frame; calls = old.calls; read = old.read })
-popped d old jobs j e = ap (λ k. k (plain_frame old.frame) (walk_now old)) (rest_push d jobs.items old.jobs.items j e)
+pub popped : (d : Dictionary) (old : Machine) (jobs : Vec Job Global) (j : Job) → old.jobs.items ≡ jobs.items ++ j ∷ [] → means d old ≡ job_first d (plain_job j) (record { jobs = jobs; active = old.active; waiting = old.waiting; calls = old.calls; read = old.read })
+popped d old jobs j e = ap (λ k. k (stack_now old) (walk_now old)) (rest_push d jobs.items old.jobs.items j e)
 
 pub none_left : (d : Dictionary) (old : Machine) → old.jobs.items ≡ [] → means d old ≡ Goes (walk_now old)
-none_left d old e = ap (λ js. m.rest_of d (map plain_job js) (plain_frame old.frame) (walk_now old)) e
+none_left d old e = ap (λ js. m.rest_of d (map plain_job js) (stack_now old) (walk_now old)) e
 
 -- ---- a statement that isn't executed
 
@@ -245,10 +247,10 @@ reads (Ok read) a b e h = sym h.2 ∙ ap read_in (sym h.1 ∙ e)
 reads (Err why) a b e h = tt
 
 -- the walk of a text of the top level, whose first job is this
-pub started : (d : Dictionary) (f : Frame) (place n : ℕ) (ts : List Text) (t : TopText) → plain_frame f ≡ m.frame_at_top (first_target ts) place → place ≡ length d.definitions → ts ≡ t.targets → n ≡ length t.targets →
-    m.do_job d (m.ExprJob n t.value) m.at_end (plain_frame f) (walk_begins d) ≡ walk_of d t
+pub started : (d : Dictionary) (f : Activation) (place n : ℕ) (ts : List Text) (t : TopText) → ((waiting : List m.Activation) → plain_activation waiting f ≡ m.at_top (first_target ts) place) → place ≡ length d.definitions → ts ≡ t.targets → n ≡ length t.targets →
+    m.do_job d (m.ExprJob n t.value) m.at_end (m.alone (plain_activation [] f)) (walk_begins d) ≡ walk_of d t
 started d f place n ts t e h a l =
-    ap₂ (λ k g. m.do_job d (m.ExprJob k t.value) m.at_end g (walk_begins d)) l (e ∙ ap₂ (λ us p. m.frame_at_top (first_target us) p) a h) ∙ then_goes (walk_of d t)
+    ap₂ (λ k g. m.do_job d (m.ExprJob k t.value) m.at_end (m.alone g) (walk_begins d)) l (e [] ∙ ap₂ (λ us p. m.at_top (first_target us) p) a h) ∙ then_goes (walk_of d t)
 
 stopped : (A : Type 0) (e : Stop) (a before after : Walked) → a ≡ before → Continues {A = A} before (Err e) after → Stops a e
 stopped A (stop.Fault s x) a before after h c = h ∙ c

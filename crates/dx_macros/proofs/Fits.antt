@@ -1,17 +1,23 @@
 -- Arguments and parameters.
 use Rattle.std.proofs.Common.{◌≡◌, ℕ, zero, suc, ◌+◌, ◌<◌, List, [], ◌∷◌, ◌++◌, map, length, Option, Some, None, Bool, true, false, refl, ap, ap₂, ◌∙◌, sym, arith, option_map, take, drop}
-use Rattle.std.specs.Prelude.{nat_lt, ◌&&◌, ◌||◌, if◌then◌else◌}
-use Rattle.std.specs.List.{remove}
+use Rattle.std.specs.Prelude.{nat_lt, ◌&&◌, ◌||◌, if◌then◌else◌, is_some}
+use Rattle.std.specs.List.{remove, list_any}
 use Rattle.std.proofs.lemmas.List.{length-map}
 use Rattle.std.specs.Str.{bytes_eq}
 use Rattle.dx_ast.specs.Classes.{Text}
 use Rattle.dx_macros.specs.Names.{has}
 use Rattle.dx_macros.specs.declared.fault.StaticFault.TheVariants.{TooManyArguments, NoSuchParameter, TooManyResults}
-use Rattle.dx_macros.specs.Walk.{names_fit, without, fault_of_signature, arg_names}
-use Rattle.dx_macros.specs.Dictionary.{Signature}
+use Rattle.dx_macros.specs.Walk.{names_fit, without, fault_of_signature, fault_of_callee, or_nesting, arg_names}
+use Rattle.dx_macros.specs.Dictionary.{Signature, CallsMacro, param_names}
 use Rattle.dx_ast.specs.declared.expressions.Arg.{Arg}
-use Rattle.dx_ast.specs.Plain.{plain_args}
-use Rattle.dx_macros.specs.CalleeView.{place_of, UsesOne}
+use Rattle.dx_ast.specs.Plain.{plain_args, plain_macro}
+use Rattle.dx_ast.specs.Syntax.{Macro}
+use Rattle.dx_ast.specs.Values.{param_name}
+use Rattle.dx_ast.specs.declared.statements.Param.{Param}
+use Rattle.dx_ast.specs.declared.statements.MacroDef.{MacroDef, out-MacroDef}
+use Rattle.dx_ast.proofs.PlainLaws.{plain_macro_out}
+use Rattle.dx_macros.specs.declared.fault.StaticFault.{StaticFault}
+use Rattle.dx_macros.specs.CalleeView.{place_of, UsesOne, FaultOfCounts}
 
 none_by : (ns : List Text) (n : Text) (b : Bool) (o : Option ℕ) → (o ≡ None → has ns n ≡ false) → (if b then Some 0 else option_map suc o) ≡ None → (b || has ns n) ≡ false
 none_by ns n true o go e = cc
@@ -87,6 +93,43 @@ many_results s args targets h e r = rw (h, e, r) refl
 pub fits_signature : (s : Signature) (args : List (Option Text)) (targets : ℕ) → nat_lt (length s.named + s.more) (length args) ≡ false → names_fit s.named args ≡ true → nat_lt s.results targets ≡ false → fault_of_signature s args targets ≡ None
 fits_signature s args targets h e r = rw (h, e, r) refl
 
-pub beyond_is : {A : Type 0} (f : A → Text) (xs : List A) (args : List Arg) (n more : ℕ) (r b : Bool) → n ≡ length xs → r ≡ nat_lt (n + more) (length args) → r ≡ b → nat_lt (length (map f xs) + more) (length (arg_names (plain_args args))) ≡ b
-beyond_is f xs args n more r b e h p =
-    ap₂ (λ k l. nat_lt (k + more) l) (length-map xs f ∙ sym e) (length-args args) ∙ sym h ∙ p
+pub beyond_by : (s : Signature) (args : List (Option Text)) (named more n : ℕ) (b : Bool) → length s.named ≡ named → s.more ≡ more → length args ≡ n → nat_lt (named + more) n ≡ b → nat_lt (length s.named + s.more) (length args) ≡ b
+beyond_by s args named more n b h m l e = ap₂ (λ (k : ℕ) (j : ℕ). nat_lt k j) (ap₂ (λ (k : ℕ) (j : ℕ). k + j) h m) l ∙ e
+
+-- arguments without names fit all parameters
+unnamed_by : (p : Option Text) (rest : List (Option Text)) → ((free : List Text) → names_fit free rest ≡ true) → is_some p ≡ false → (free : List Text) → names_fit free (p ∷ rest) ≡ true
+unnamed_by None rest go e [] = go []
+unnamed_by None rest go e (x ∷ free) = go free
+unnamed_by (Some n) rest go e free = cc
+
+pub unnamed_fit : (args : List (Option Text)) → list_any is_some args ≡ false → (free : List Text) → names_fit free args ≡ true
+unnamed_fit [] e free = ends free
+  where
+    ends : (free : List Text) → names_fit free [] ≡ true
+    ends [] = refl
+    ends (x ∷ free) = refl
+unnamed_fit (p ∷ rest) e free =
+    let parts = neither (is_some p) (list_any is_some rest) e in
+    unnamed_by p rest (unnamed_fit rest parts.1) parts.0 free
+  where
+    neither : (a b : Bool) → (a || b) ≡ false → (a ≡ false) × (b ≡ false)
+    neither false b e = (refl, e)
+    neither true b e = cc
+
+-- what counts tell of a call of a macro, where so many macro steps are left
+pub macro_fault : (x : MacroDef) (ps : List Param) (n r k : ℕ) (fit : Bool) (args : List Arg) (left targets : ℕ) (f : Option StaticFault) → ps ≡ (out-MacroDef x).params → n ≡ length ps → r ≡ length (out-MacroDef x).results → k ≡ length args →
+    fit ≡ names_fit (param_names ps) (arg_names (plain_args args)) → FaultOfCounts n 0 r fit k targets f →
+    fault_of_callee (CallsMacro (plain_macro x)) left (arg_names (plain_args args)) targets ≡ or_nesting left f
+macro_fault x ps n r k fit args left targets f a b c l e h =
+    let s : Signature = record { named = param_names ps; more = 0; results = length (out-MacroDef x).results } in
+    ap (λ (y : Macro). fault_of_callee (CallsMacro y) left (arg_names (plain_args args)) targets) (plain_macro_out x)
+    ∙ sym (ap (or_nesting left) (h s (arg_names (plain_args args)) (length-map ps param_name ∙ sym b) refl (sym c) (length-args args ∙ sym l) (sym e)
+    ∙ ap (λ (us : List Param). let t : Signature = record { named = param_names us; more = 0; results = length (out-MacroDef x).results } in fault_of_signature t (arg_names (plain_args args)) targets) a))
+
+pub nested_some : (left : ℕ) (f : StaticFault) → or_nesting left (Some f) ≡ Some f
+nested_some zero f = refl
+nested_some (suc left) f = refl
+
+pub nested_none : (left : ℕ) → 0 < left → or_nesting left None ≡ None
+nested_none zero h = absurd (omega arith)
+nested_none (suc left) h = refl

@@ -17,11 +17,11 @@ use Rattle.dx_macros.specs.DictionaryView.{dictionary_of}
 use Rattle.dx_macros.specs.Shown.{text_of}
 use Rattle.dx_macros.specs.Places.{Marks, flags}
 use Rattle.dx_macros.specs.Machine as m
-use Rattle.dx_macros.specs.MachineView.{plain_job, IsPushed, PushesJob, IsEntered, IsCounted}
+use Rattle.dx_macros.specs.MachineView.{plain_job, IsPushed, PushesJob, IsEntered, IsCounted, IsLeft}
 use Rattle.dx_macros.specs.Weight.{expr_weight, call_weight, macro_weight, callee_weight, job_weight, jobs_weight, unread, chances, weight, Bounds, IsFit, FallsTo, Falls, Pays}
 use Rattle.dx_macros.specs.Bound.{macros_weight, definitions_weight, bound_of}
 use Rattle.dx_macros.specs.declared.dictionary.Dictionary.{Dictionary as CodeDictionary}
-use Rattle.dx_macros.specs.declared.machine.Frame.{Frame}
+use Rattle.dx_macros.specs.declared.machine.Activation.{Activation}
 use Rattle.dx_macros.specs.declared.machine.Job.{Job}
 use Rattle.dx_macros.specs.declared.machine.Job.TheVariants as job
 use Rattle.dx_macros.specs.declared.machine.Machine.{Machine}
@@ -62,6 +62,15 @@ weight_pushed b old new j p = grown b old new (job_weight (plain_job j)) p.calls
 pub still : (d : Dictionary) (w : ℕ) (old : Machine) → 0 < w → FallsTo d w old old
 still d w old h b bounds fit = (omega arith, fit)
 
+-- a text left behind
+pub left_falls : (d : Dictionary) (w : ℕ) (old new : Machine) → IsLeft old new → 0 < w → FallsTo d w old new
+left_falls d w old new p h b bounds fit =
+    let same = grown b old new 0 p.calls p.read (ap (λ (v : Vec Job Global). jobs_weight (map plain_job v.items)) p.jobs ∙ sym (add-zero (jobs_weight (map plain_job old.jobs.items)))) in
+    (omega (arith, same), fit_same d old new p.read fit)
+  where
+    add-zero : (n : ℕ) → n + 0 ≡ n
+    add-zero n = omega arith
+
 pub push_falls : {A : Type 0} (d : Dictionary) (w : ℕ) (old new : Machine) (j : Job) (r : Result A Stop) → PushesJob old j r new → job_weight (plain_job j) < w → Falls d w old r new
 push_falls d w old new j (Ok a) p h = λ b bounds fit. (let e = weight_pushed b old new j p in omega (arith, e), fit_same d old new p.read fit)
 push_falls d w old new j (Err s) p h = tt
@@ -78,10 +87,10 @@ pushed_falls d w old mid new j (Ok a) p f = λ b bounds fit.
     (let x = g.0 in omega (arith, e, x), g.1)
 pushed_falls d w old mid new j (Err s) p f = tt
 
--- a frame entered before
-pub entered_falls : {A : Type 0} (d : Dictionary) (w : ℕ) (old mid new : Machine) (g : Frame) (r : Result A Stop) → IsEntered old g mid → Falls d w mid r new → Falls d (w + 1) old r new
+-- a text entered before
+pub entered_falls : {A : Type 0} (d : Dictionary) (w : ℕ) (old mid new : Machine) (g : Activation) (r : Result A Stop) → IsEntered old g mid → Falls d w mid r new → Falls d (w + 1) old r new
 entered_falls d w old mid new g (Ok a) p f = λ b bounds fit.
-    let e = grown b old mid 1 p.calls p.read (jobs_pushed old.jobs.items mid.jobs.items (job.Leave old.frame) p.jobs) in
+    let e = grown b old mid 1 p.calls p.read (jobs_pushed old.jobs.items mid.jobs.items job.Leave p.jobs) in
     let h = f b bounds (fit_same d old mid p.read fit) in
     (let x = h.0 in omega (arith, e, x), h.1)
 entered_falls d w old mid new g (Err s) p f = tt
@@ -106,17 +115,17 @@ length_marked (x ∷ rest) zero = refl
 length_marked (x ∷ rest) (suc i) = ap suc (length_marked rest i)
 
 -- a definition is read for the first time
-pub defines_falls : {A : Type 0} (d : Dictionary) (i : ℕ) (old mid new : Machine) (read : Marks) (g : Frame) (j : Job) (r : Result A Stop) → i < length d.definitions →
+pub defines_falls : {A : Type 0} (d : Dictionary) (i : ℕ) (old mid new : Machine) (read : Marks) (g : Activation) (j : Job) (r : Result A Stop) → i < length d.definitions →
     flags read ≡ slice_set (flags old.read) i true → slice_index_or (flags old.read) i false ≡ false →
-    IsEntered (record { jobs = old.jobs; frame = old.frame; calls = old.calls; read = read }) g mid → PushesJob mid j r new →
+    IsEntered (record { jobs = old.jobs; active = old.active; waiting = old.waiting; calls = old.calls; read = read }) g mid → PushesJob mid j r new →
     job_weight (plain_job j) ≡ expr_weight (definition d.definitions i).value → Falls d 1 old r new
 defines_falls d i old mid new read g j (Ok a) h s e p q l = λ b bounds fit.
-    let x : Machine = record { jobs = old.jobs; frame = old.frame; calls = old.calls; read = read } in
+    let x : Machine = record { jobs = old.jobs; active = old.active; waiting = old.waiting; calls = old.calls; read = read } in
     let here : i < length (flags old.read) = omega (arith, fit) in
     let less = unread_marked (flags old.read) i here e in
     let marked = ap unread s in
     let paid = spent b (chances old.calls (flags old.read)) (chances x.calls (flags x.read)) (omega (arith, less, marked)) in
-    let entered = grown b x mid 1 p.calls p.read (jobs_pushed x.jobs.items mid.jobs.items (job.Leave x.frame) p.jobs) in
+    let entered = grown b x mid 1 p.calls p.read (jobs_pushed x.jobs.items mid.jobs.items job.Leave p.jobs) in
     let pushed = weight_pushed b mid new j q in
     let small = bounds.definitions i h in
     let kept : length (flags read) ≡ length (flags old.read) = ap length s ∙ length_marked (flags old.read) i in
@@ -188,5 +197,5 @@ bounded d = record {
 -- ---- a job popped
 
 pub popped_weight : (b : ℕ) (old : Machine) (jobs : Vec Job Global) (j : Job) → old.jobs.items ≡ jobs.items ++ j ∷ [] →
-    weight b old ≡ weight b (record { jobs = jobs; frame = old.frame; calls = old.calls; read = old.read }) + job_weight (plain_job j)
+    weight b old ≡ weight b (record { jobs = jobs; active = old.active; waiting = old.waiting; calls = old.calls; read = old.read }) + job_weight (plain_job j)
 popped_weight b old jobs j e = let h = jobs_pushed jobs.items old.jobs.items j e in omega (arith, h)

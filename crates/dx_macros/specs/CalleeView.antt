@@ -1,10 +1,11 @@
 -- What the code finds under the name of a call.
-use Rattle.std.specs.Prelude.{List, [], ◌∷◌, Option, Some, None, option_map, if◌then◌else◌, Bool, ◌&&◌, ◌≡◌, ℕ, suc}
+use Rattle.std.specs.Prelude.{List, [], ◌∷◌, Option, Some, None, option_map, if◌then◌else◌, Bool, ◌&&◌, ◌≡◌, ℕ, suc, length}
 use Rattle.std.specs.Str.{bytes_eq}
 use Rattle.dx_ast.specs.Classes.{Text}
 use Rattle.dx_ast.specs.Plain.{plain_macro}
 use Rattle.dx_macros.specs.Dictionary as plain
-use Rattle.dx_macros.specs.Walk.{names_fit}
+use Rattle.dx_macros.specs.Walk.{names_fit, fault_of_signature}
+use Rattle.dx_macros.specs.declared.fault.StaticFault.{StaticFault}
 use Rattle.dx_macros.specs.declared.callee.Callee.{Callee}
 use Rattle.dx_macros.specs.declared.callee.Callee.TheVariants as callee
 
@@ -21,3 +22,9 @@ place_of (n ∷ rest) name = if bytes_eq n name then Some 0 else option_map suc 
 -- an argument takes a parameter that is free, unless the result is false
 abbrev pub UsesOne : List Text → Option Text → List Text → Bool → Type 0
 UsesOne old name new result = (others : List (Option Text)) → names_fit old (name ∷ others) ≡ (result && names_fit new others)
+
+-- the fault of a call with so many arguments and targets, where there may be so many, and where the named arguments fit
+abbrev pub FaultOfCounts : (named more results : ℕ) → (fit : Bool) → (args targets : ℕ) → Option StaticFault → Type 0
+FaultOfCounts named more results fit args targets fault =
+    (s : plain.Signature) (names : List (Option Text)) → length s.named ≡ named → s.more ≡ more → s.results ≡ results → length names ≡ args →
+    names_fit s.named names ≡ fit → fault ≡ fault_of_signature s names targets

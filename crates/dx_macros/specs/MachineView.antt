@@ -5,20 +5,59 @@ use Rattle.dx_ast.specs.Plain.{plain_expr, plain_call, plain_args, plain_macro, 
 use Rattle.dx_ast.specs.Syntax.{Args}
 use Rattle.dx_macros.specs.declared.fault.StaticFault.{StaticFault}
 use Rattle.dx_macros.specs.Site as site
-use Rattle.dx_macros.specs.Dictionary.{Dictionary, Callee, CallsMacro, definition}
+use Rattle.dx_macros.specs.Dictionary.{Dictionary, Callee, CallsMacro, definition, param_names}
 use Rattle.dx_macros.specs.Walk.{Walk, Walked, Goes, Faulty, and_then, Fault}
 use Rattle.dx_macros.specs.Places.{Marks, flags}
 use Rattle.dx_macros.specs.Machine as m
 use Rattle.dx_macros.specs.Steps.{plain_step, plain_steps}
-use Rattle.dx_macros.specs.declared.machine.Frame.{Frame}
+use Rattle.dx_macros.specs.declared.machine.Activation.{Activation}
+use Rattle.dx_macros.specs.declared.machine.Reached.{Reached}
+use Rattle.dx_macros.specs.declared.machine.Reached.TheVariants as reached
 use Rattle.dx_macros.specs.declared.machine.Job.{Job}
 use Rattle.dx_macros.specs.declared.machine.Job.TheVariants as job
 use Rattle.dx_macros.specs.declared.machine.Machine.{Machine}
 use Rattle.dx_macros.specs.declared.machine.Stop.{Stop}
 use Rattle.dx_macros.specs.declared.machine.Stop.TheVariants as stop
 
-abbrev pub plain_frame : Frame → m.Frame
-plain_frame f = record { base = plain_steps f.base.items; left = f.left; place = f.place; own = f.own; before = f.before }
+-- the steps that lead to a text that is reached so, behind those of the text that waits for it
+abbrev pub steps_to : List site.Step → Reached → List site.Step
+steps_to base (reached.Top targets) = site.first_target targets.now
+steps_to base (reached.Call s) = base ++ plain_step s ∷ []
+
+abbrev pub base_of : List m.Activation → List site.Step
+base_of [] = []
+base_of (a ∷ waiting) = a.base
+
+-- an activation, where these wait
+abbrev pub plain_activation : List m.Activation → Activation → m.Activation
+plain_activation waiting a = record {
+  base = steps_to (base_of waiting) a.reached;
+  left = a.left;
+  place = a.place;
+  own = param_names a.params.now ++ a.assigned;
+  before = a.before;
+}
+
+-- the code's activations above these; the last waits for the least
+abbrev pub waiting_above : List m.Activation → List Activation → List m.Activation
+waiting_above waiting [] = waiting
+waiting_above waiting (a ∷ rest) = waiting_above (plain_activation waiting a ∷ waiting) rest
+
+abbrev pub stacked : List Activation → Activation → m.Stack
+stacked waiting active = record { active = plain_activation (waiting_above [] waiting) active; waiting = waiting_above [] waiting }
+
+-- the steps that lead to the last of the texts that are reached so, one from the other
+abbrev pub steps_behind : List site.Step → List Activation → List site.Step
+steps_behind base [] = base
+steps_behind base (a ∷ rest) = steps_behind (steps_to base a.reached) rest
+
+-- a text of the top level begins, or the body of a macro that is called in another text, whatever waits
+abbrev pub BeginsAtTop : List Text → ℕ → Activation → Type 0
+BeginsAtTop targets place a = (waiting : List m.Activation) → plain_activation waiting a ≡ m.at_top (site.first_target targets) place
+
+abbrev pub BeginsIn : Activation → ℕ → List Text → site.Step → Activation → Type 0
+BeginsIn caller left params step a =
+    (waiting : List m.Activation) → let from = plain_activation waiting caller in plain_activation (from ∷ waiting) a ≡ m.in_macro from left params step
 
 abbrev pub plain_job : Job → m.Job
 plain_job (job.Expr targets e) = m.ExprJob targets (plain_expr e.now)
@@ -28,7 +67,10 @@ plain_job (job.Enter x s) = m.EnterJob (plain_macro x.now) (plain_step s)
 plain_job (job.Body results ss) = m.BodyJob results.now (plain_stmts ss.now)
 plain_job (job.Own names) = m.OwnJob names.now
 plain_job (job.Names names) = m.NamesJob names.now
-plain_job (job.Leave f) = m.LeaveJob (plain_frame f)
+plain_job job.Leave = m.LeaveJob
+
+abbrev pub stack_now : Machine → m.Stack
+stack_now x = stacked x.waiting.items x.active
 
 abbrev pub walk_now : Machine → Walk
 walk_now x = record { calls = x.calls; read = flags x.read }
@@ -38,7 +80,7 @@ abbrev pub rest : Dictionary → Machine → m.Rest
 rest d x = m.rest_of d (map plain_job x.jobs.items)
 
 abbrev pub means : Dictionary → Machine → Walked
-means d x = rest d x (plain_frame x.frame) (walk_now x)
+means d x = rest d x (stack_now x) (walk_now x)
 
 -- the machine goes on to the same end, or has come to the fault
 abbrev pub Continues : {A : Type 0} → Walked → Result A Stop → Walked → Type 0
@@ -59,7 +101,8 @@ Ends walked (Err why) = Stops walked why
 -- one more job, and nothing else is changed
 pub record IsPushed (old : Machine) (j : Job) (new : Machine) : Type 0 where
   pub jobs : new.jobs.items ≡ old.jobs.items ++ j ∷ []
-  pub frame : new.frame ≡ old.frame
+  pub active : new.active ≡ old.active
+  pub waiting : new.waiting ≡ old.waiting
   pub calls : new.calls ≡ old.calls
   pub read : new.read ≡ old.read
 
@@ -70,46 +113,54 @@ PushesJob old j (Err stop.Memory) new = Unit {0}
 
 -- a job, before what is left of a machine
 abbrev pub job_first : Dictionary → m.Job → Machine → Walked
-job_first d j x = m.do_job d j (rest d x) (plain_frame x.frame) (walk_now x)
+job_first d j x = m.do_job d j (rest d x) (stack_now x) (walk_now x)
 
 -- the reading of a name, before what is left of a machine
 abbrev pub name_first : Dictionary → Text → Machine → Walked
-name_first d n x = and_then (m.reads d (plain_frame x.frame) n (walk_now x)) (rest d x (plain_frame x.frame))
+name_first d n x = and_then (m.reads d (stack_now x).active n (walk_now x)) (rest d x (stack_now x))
 
--- the walk of definition i in a frame of its own, before what is left of a machine
+-- the walk of definition i in an activation of its own, before what is left of a machine
 abbrev pub definition_first : Dictionary → ℕ → Machine → Walked
 definition_first d i x =
     let t = definition d.definitions i in
-    m.do_job d (m.ExprJob (length t.targets) t.value) (m.do_job d (m.LeaveJob (plain_frame x.frame)) (rest d x))
-    (m.frame_at_top (site.first_target t.targets) i) (record { calls = x.calls; read = slice_set (flags x.read) i true })
+    m.do_job d (m.ExprJob (length t.targets) t.value) (m.do_job d m.LeaveJob (rest d x))
+    (m.entered (m.at_top (site.first_target t.targets) i) (stack_now x)) (record { calls = x.calls; read = slice_set (flags x.read) i true })
 
 -- what comes after a call that has no fault: its arguments, and then its macro
 abbrev pub accepted : Dictionary → Callee → site.Step → Text → Args → Machine → Walked
 accepted d (CallsMacro x) s name args y =
-    m.do_job d (m.ArgsJob args) (m.do_job d (m.EnterJob x s) (rest d y)) (m.met (name ∷ []) (plain_frame y.frame)) (record { calls = suc y.calls; read = flags y.read })
+    m.do_job d (m.ArgsJob args) (m.do_job d (m.EnterJob x s) (rest d y)) (m.met (name ∷ []) (stack_now y)) (record { calls = suc y.calls; read = flags y.read })
 accepted d _ s name args y =
-    m.do_job d (m.ArgsJob args) (rest d y) (m.met (name ∷ []) (plain_frame y.frame)) (record { calls = suc y.calls; read = flags y.read })
+    m.do_job d (m.ArgsJob args) (rest d y) (m.met (name ∷ []) (stack_now y)) (record { calls = suc y.calls; read = flags y.read })
 
 abbrev pub FaultIs : List site.Step → StaticFault → Stop → Type 0
 FaultIs s f (stop.Fault s' f') = (plain_steps s'.items ≡ s) × (f' ≡ f)
 FaultIs s f stop.Memory = Unit {0}
 
--- a frame takes the place of the old one, to which the new last job leads back
-pub record IsEntered (old : Machine) (f : Frame) (new : Machine) : Type 0 where
-  pub jobs : new.jobs.items ≡ old.jobs.items ++ job.Leave old.frame ∷ []
-  pub frame : new.frame ≡ f
+-- the text so far waits for the end of another, to which the new last job leads
+pub record IsEntered (old : Machine) (a : Activation) (new : Machine) : Type 0 where
+  pub jobs : new.jobs.items ≡ old.jobs.items ++ job.Leave ∷ []
+  pub active : new.active ≡ a
+  pub waiting : new.waiting.items ≡ old.waiting.items ++ old.active ∷ []
   pub calls : new.calls ≡ old.calls
   pub read : new.read ≡ old.read
 
-abbrev pub EntersFrame : {A : Type 0} → Machine → Frame → Result A Stop → Machine → Type 0
-EntersFrame old f (Ok a) new = IsEntered old f new
-EntersFrame old f (Err (stop.Fault s x)) new = ⊥
-EntersFrame old f (Err stop.Memory) new = Unit {0}
+abbrev pub Enters : {A : Type 0} → Machine → Activation → Result A Stop → Machine → Type 0
+Enters old a (Ok x) new = IsEntered old a new
+Enters old a (Err (stop.Fault s f)) new = ⊥
+Enters old a (Err stop.Memory) new = Unit {0}
+
+-- the text that waits goes on, and nothing else is changed
+pub record IsLeft (old : Machine) (new : Machine) : Type 0 where
+  pub jobs : new.jobs ≡ old.jobs
+  pub stack : stack_now new ≡ m.left_behind (stack_now old)
+  pub calls : new.calls ≡ old.calls
+  pub read : new.read ≡ old.read
 
 -- a call of this name is counted, and nothing else is changed
 pub record IsCounted (old : Machine) (name : Text) (new : Machine) : Type 0 where
   pub jobs : new.jobs ≡ old.jobs
-  pub frame : plain_frame new.frame ≡ m.met (name ∷ []) (plain_frame old.frame)
+  pub stack : stack_now new ≡ m.met (name ∷ []) (stack_now old)
   pub calls : new.calls ≡ suc old.calls
   pub read : new.read ≡ old.read
 

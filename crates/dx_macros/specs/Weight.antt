@@ -51,7 +51,7 @@ job_weight (EnterJob m step) = macro_weight m
 job_weight (BodyJob results body) = body_weight results body
 job_weight (OwnJob names) = 1
 job_weight (NamesJob names) = suc (length names)
-job_weight (LeaveJob f) = 1
+job_weight LeaveJob = 1
 
 abbrev pub jobs_weight : List Job → ℕ
 jobs_weight [] = 0

@@ -1,10 +1,11 @@
-ghost use Rattle.std.specs.Prelude.{◌≡◌, None, IfOk};
+//! The walk of a statement before its execution: its first static fault, or which definitions it reads.
+ghost use Rattle.std.specs.Prelude.{◌≡◌, [], None, IfOk};
 ghost use Rattle.dx_ast.specs.Lawful.{IsLawful};
 ghost use Rattle.dx_ast.specs.Plain.{plain_call, plain_stmt};
 ghost use Rattle.dx_macros.specs.Dictionary.{of_call};
 ghost use Rattle.dx_macros.specs.DictionaryView.{dictionary_of};
-ghost use Rattle.dx_macros.specs.Machine.{do_job, at_end};
-ghost use Rattle.dx_macros.specs.MachineView.{plain_frame, plain_job, means, Ends, Finds};
+ghost use Rattle.dx_macros.specs.Machine.{do_job, at_end, alone};
+ghost use Rattle.dx_macros.specs.MachineView.{plain_activation, plain_job, means, Ends, Finds};
 ghost use Rattle.dx_macros.specs.Places.{flags};
 ghost use Rattle.dx_macros.specs.Shown.{text_of};
 ghost use Rattle.dx_macros.specs.Walk.{walk_of, walk_begins, fault_in, first_fault, read_in, definitions_read};
@@ -13,8 +14,8 @@ ghost use Rattle.dx_macros.specs.Checking.{Checks};
 
 use crate::dictionary::Dictionary;
 use crate::fault::CheckFail;
-use crate::jobs::{do_job, top_frame};
-use crate::machine::{Frame, Job, Machine, Stop, put};
+use crate::jobs::{do_job, text_at_top};
+use crate::machine::{Activation, Job, Machine, Stop, put};
 use crate::site::site_text;
 use crate::sparse::Sparse;
 use dx_ast::{Assign, Call, Stmt};
@@ -40,17 +41,18 @@ fn run<'a>(alloc: Global, d: &'a Dictionary, m: Machine<'a>) -> Result<Sparse<()
 fn begin<'a>(
     alloc: Global,
     d: &'a Dictionary,
-    frame: Frame<'a>,
+    text: Activation<'a>,
     job: Job<'a>,
 ) -> Result<Machine<'a>, AllocError>
     ensures fit { IfOk result (λ m. IsFit (dictionary_of d.now) m) }
-    ensures means { IfOk result (λ m. means (dictionary_of d.now) m ≡ do_job (dictionary_of d.now) (plain_job job.entry) at_end (plain_frame frame.entry) (walk_begins (dictionary_of d.now))) }
+    ensures means { IfOk result (λ m. means (dictionary_of d.now) m ≡ do_job (dictionary_of d.now) (plain_job job.entry) at_end (alone (plain_activation [] text.entry)) (walk_begins (dictionary_of d.now))) }
 {
     let mut jobs = Vec::new(alloc);
     put(&mut jobs, job)?;
     Ok(Machine {
         jobs,
-        frame,
+        active: text,
+        waiting: Vec::new(alloc),
         calls: 0,
         read: Sparse::new(alloc, d.len()),
     })
@@ -61,8 +63,8 @@ fn walk_call<'a>(alloc: Global, d: &'a Dictionary, c: &'a Call) -> Result<Sparse
     ensures reads { IfOk result (λ read. flags read ≡ read_in (walk_of (dictionary_of d.now) (of_call (plain_call c.now)))) }
 {
     let place = d.len();
-    let frame = top_frame(alloc, &[], place)?;
-    let m = begin(alloc, d, frame, Job::Call(0, c))?;
+    let text = text_at_top(alloc, &[], place);
+    let m = begin(alloc, d, text, Job::Call(0, c))?;
     run(alloc, d, m)
 }
 
@@ -71,8 +73,8 @@ fn walk_assign<'a>(alloc: Global, d: &'a Dictionary, a: &'a Assign) -> Result<Sp
     ensures reads { IfOk result (λ read. flags read ≡ read_in (walk_of (dictionary_of d.now) (text_of a.now))) }
 {
     let place = d.len();
-    let frame = top_frame(alloc, a.targets.as_slice(), place)?;
-    let m = begin(alloc, d, frame, Job::Expr(a.targets.len(), &a.value))?;
+    let text = text_at_top(alloc, a.targets.as_slice(), place);
+    let m = begin(alloc, d, text, Job::Expr(a.targets.len(), &a.value))?;
     run(alloc, d, m)
 }
 

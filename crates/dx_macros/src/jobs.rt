@@ -1,21 +1,24 @@
-ghost use Rattle.std.specs.Prelude.{◌≡◌, ◌∷◌, ◌++◌, ◌<◌, ◌-◌, ◌+◌, [], suc, length, OnOk, IfOk, slice_index_or, false};
+//! The jobs of a walk, one at a time.
+ghost use Rattle.std.specs.Prelude.{◌≡◌, ◌∷◌, ◌++◌, ◌<◌, ◌-◌, ◌+◌, [], suc, length, OnOk, slice_index_or, false};
 ghost use Rattle.dx_ast.specs.Plain.{plain_expr, plain_call, plain_args, plain_macro, plain_stmts};
 ghost use Rattle.dx_ast.specs.declared.expressions.Call.{out-Call};
 ghost use Rattle.dx_ast.specs.declared.statements.MacroDef.{out-MacroDef};
-ghost use Rattle.dx_macros.specs.Site.{first_target};
 ghost use Rattle.dx_macros.specs.Dictionary.{param_names};
 ghost use Rattle.dx_macros.specs.DictionaryView.{dictionary_of};
 ghost use Rattle.dx_macros.specs.CalleeView.{plain_callee};
-ghost use Rattle.dx_macros.specs.Steps.{plain_step, plain_steps};
-ghost use Rattle.dx_macros.specs.Machine.{frame_at_top, frame_in_macro, ExprJob, CallJob, ArgsJob, EnterJob, BodyJob, OwnJob, NamesJob};
-ghost use Rattle.dx_macros.specs.MachineView.{plain_frame, plain_job, means, Continues, job_first, name_first, definition_first, accepted, FaultIs};
+ghost use Rattle.dx_macros.specs.Steps.{plain_step};
+ghost use Rattle.dx_macros.specs.Machine.{ExprJob, CallJob, ArgsJob, EnterJob, BodyJob, OwnJob, NamesJob};
+ghost use Rattle.dx_macros.specs.MachineView.{BeginsAtTop, BeginsIn, stack_now, plain_job, means, Continues, job_first, name_first, definition_first, accepted, FaultIs};
 ghost use Rattle.dx_macros.specs.Places.{flags};
 ghost use Rattle.dx_macros.specs.Weight.{expr_weight, call_weight, args_weight, body_weight, macro_weight, callee_weight, job_weight, Falls, Pays};
 
 use crate::callee::{Callee, called};
 use crate::dictionary::Dictionary;
 use crate::fault::StaticFault;
-use crate::machine::{Frame, Job, Machine, Stop, counted, enter, is_read, mark, push, put};
+use crate::machine::{
+    Activation, Job, Machine, Reached, Stop, base, counted, enter, is_own, is_read, leave, mark,
+    push,
+};
 use crate::names::Names;
 use crate::signature::fault_of_call;
 use crate::site::Step;
@@ -70,68 +73,49 @@ fn put_names<'a>(list: &mut Names<'a>, names: &'a [Bytes]) -> Result<(), AllocEr
     Ok(())
 }
 
-fn put_params<'a>(alloc: Global, params: &'a [Param]) -> Result<Names<'a>, AllocError>
-    ensures { IfOk result (λ names. names ≡ param_names params.now) }
-{
-    let mut names = Names::new(alloc);
-    for p in params {
-        names.push(p.name.bytes())?;
-    }
-    Ok(names)
-}
-
 fn do_own<'a>(d: &'a Dictionary, m: &mut Machine<'a>, names: &'a [Bytes]) -> Result<(), Stop<'a>>
     ensures continues { Continues (job_first (dictionary_of d.now) (OwnJob names.now) m.old) result (means (dictionary_of d.now) m.new) }
     ensures falls { Falls (dictionary_of d.now) (1) m.old result m.new }
 {
-    put_names(&mut m.frame.own, names)?;
+    put_names(&mut m.active.assigned, names)?;
     Ok(())
 }
 
 /// The most macro steps of a site.
 pub const MAX_STEPS: u8 = 64;
 
-/// The frame of a text of the top level at a place.
-pub fn top_frame<'a>(
-    alloc: Global,
-    targets: &'a [Bytes],
-    place: usize,
-) -> Result<Frame<'a>, AllocError>
-    ensures { IfOk result (λ f. plain_frame f ≡ frame_at_top (first_target targets.now) place) }
+/// A text of the top level at a place.
+pub fn text_at_top<'a>(alloc: Global, targets: &'a [Bytes], place: usize) -> Activation<'a>
+    ensures { BeginsAtTop targets.now place result }
 {
-    let mut base = Vec::new(alloc);
-    if let Some(t) = targets.first() {
-        put(&mut base, Step::Target(t.bytes()))?;
-    }
-    Ok(Frame {
-        base,
+    Activation {
+        reached: Reached::Top(targets),
         left: MAX_STEPS,
         place,
-        own: Names::new(alloc),
+        params: &[],
+        assigned: Names::new(alloc),
         before: Names::new(alloc),
-    })
+    }
 }
 
-/// The frame of a macro's body, where a macro step is left.
-fn macro_frame<'a>(
+/// A macro's body, where a macro step is left.
+fn text_of_macro<'a>(
     alloc: Global,
-    f: &Frame<'a>,
+    caller: &Activation<'a>,
     params: &'a [Param],
     step: Step<'a>,
-) -> Result<Frame<'a>, AllocError>
-    requires { 0 < f.now.left }
-    ensures { IfOk result (λ g. plain_frame g ≡ frame_in_macro (plain_frame f.now) (f.now.left - 1) (param_names params.now) (plain_step step.entry)) }
+) -> Activation<'a>
+    requires { 0 < caller.now.left }
+    ensures { BeginsIn caller.now (caller.now.left - 1) (param_names params.now) (plain_step step.entry) result }
 {
-    let mut base = Vec::from_slice(alloc, f.base.as_slice())?;
-    put(&mut base, step)?;
-    let own = put_params(alloc, params)?;
-    Ok(Frame {
-        base,
-        left: f.left - 1,
-        place: f.place,
-        own,
+    Activation {
+        reached: Reached::Call(step),
+        left: caller.left - 1,
+        place: caller.place,
+        params,
+        assigned: Names::new(alloc),
         before: Names::new(alloc),
-    })
+    }
 }
 
 /// A definition is walked at its first reading.
@@ -146,9 +130,9 @@ fn define<'a>(
     ensures falls { slice_index_or (flags m.old.read) i false ≡ false → Falls (dictionary_of d.now) 1 m.old result m.new }
 {
     let a = d.definition(i);
-    let frame = top_frame(alloc, a.targets.as_slice(), i)?;
+    let text = text_at_top(alloc, a.targets.as_slice(), i);
     mark(&mut m.read, i)?;
-    enter(m, frame)?;
+    enter(m, text)?;
     push(m, Job::Expr(a.targets.len(), &a.value))
 }
 
@@ -161,10 +145,10 @@ fn read_name<'a>(
     ensures continues { Continues (name_first (dictionary_of d.now) name.now m.old) result (means (dictionary_of d.now) m.new) }
     ensures falls { Falls (dictionary_of d.now) 1 m.old result m.new }
 {
-    if m.frame.own.has(name) {
+    if is_own(&m.active, name) {
         return Ok(());
     }
-    match d.last_before(m.frame.place, name) {
+    match d.last_before(m.active.place, name) {
         None => Ok(()),
         Some(i) => {
             if is_read(&m.read, i) {
@@ -204,11 +188,11 @@ fn do_enter<'a>(
     ensures continues { Continues (job_first (dictionary_of d.now) (EnterJob (plain_macro x.now) (plain_step step.entry)) m.old) result (means (dictionary_of d.now) m.new) }
     ensures falls { Falls (dictionary_of d.now) (macro_weight (plain_macro x.now)) m.old result m.new }
 {
-    if m.frame.left == 0 {
+    if m.active.left == 0 {
         return Ok(());
     }
-    let frame = macro_frame(alloc, &m.frame, x.params.as_slice(), step)?;
-    enter(m, frame)?;
+    let text = text_of_macro(alloc, &m.active, x.params.as_slice(), step);
+    enter(m, text)?;
     push(m, Job::Body(x.results.as_slice(), x.body.as_slice()))
 }
 
@@ -235,10 +219,10 @@ fn accept<'a>(
     }
 }
 
-fn faulty<'a>(alloc: Global, base: &[Step<'a>], step: Step<'a>, fault: StaticFault) -> Stop<'a>
-    ensures { FaultIs (plain_steps base.now ++ plain_step step.entry ∷ []) fault result }
+fn faulty<'a>(alloc: Global, m: &Machine<'a>, step: Step<'a>, fault: StaticFault) -> Stop<'a>
+    ensures { FaultIs ((stack_now m.now).active.base ++ plain_step step.entry ∷ []) fault result }
 {
-    match Vec::from_slice(alloc, base) {
+    match base(alloc, m.waiting.as_slice(), m.active.reached) {
         Err(_) => Stop::Memory,
         Ok(site) => {
             let mut site = site;
@@ -264,10 +248,10 @@ fn do_call<'a>(
     let name = c.name.bytes();
     let args = c.args.as_slice();
     let callee = called(d, name);
-    let k = m.frame.before.count(name) + 1;
+    let k = m.active.before.count(name) + 1;
     let step = Step::Nth(name, k);
-    match fault_of_call(alloc, m.calls, callee, m.frame.left, args, targets)? {
-        Some(fault) => Err(faulty(alloc, m.frame.base.as_slice(), step, fault)),
+    match fault_of_call(alloc, m.calls, callee, m.active.left, args, targets)? {
+        Some(fault) => Err(faulty(alloc, m, step, fault)),
         None => accept(d, m, callee, step, c),
     }
 }
@@ -308,8 +292,8 @@ pub fn do_job<'a>(
         Job::Body(results, stmts) => do_body(d, m, results, stmts),
         Job::Own(names) => do_own(d, m, names),
         Job::Names(names) => do_names(alloc, d, m, names),
-        Job::Leave(frame) => {
-            m.frame = frame;
+        Job::Leave => {
+            leave(m);
             Ok(())
         }
     }

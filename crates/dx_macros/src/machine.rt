@@ -1,27 +1,40 @@
-ghost use Rattle.std.specs.Prelude.{◌≡◌, ◌<◌, ◌∷◌, ◌++◌, [], OnOk, slice_set, slice_index_or, true, false};
-ghost use Rattle.dx_macros.specs.MachineView.{PushesJob, EntersFrame, CountsCall};
+//! The walk under way: the texts that are walked, the jobs that are left, and what was counted and read so far.
+ghost use Rattle.std.specs.Prelude.{◌≡◌, ◌<◌, ◌∷◌, ◌++◌, [], OnOk, IfOk, slice_set, slice_index_or, true, false};
+ghost use Rattle.dx_macros.specs.Dictionary.{param_names};
+ghost use Rattle.dx_macros.specs.MachineView.{PushesJob, Enters, IsLeft, CountsCall, steps_to, base_of, waiting_above};
+ghost use Rattle.dx_macros.specs.Names.{has};
 ghost use Rattle.dx_macros.specs.Places.{flags};
+ghost use Rattle.dx_macros.specs.Steps.{plain_steps};
 
 use crate::fault::StaticFault;
 use crate::names::Names;
 use crate::site::Step;
 use crate::sparse::Sparse;
-use dx_ast::{Arg, Call, Expr, MacroDef, Stmt};
+use dx_ast::{Arg, Call, Expr, MacroDef, Param, Stmt};
 use dx_base::Bytes;
-use std::alloc::AllocError;
+use std::alloc::{AllocError, Global};
 use std::mem;
 
-/// The text that is walked: a macro's body, or a text of the top level.
+/// How a text is reached.
+#[derive(Clone, Copy)]
+pub enum Reached<'a> {
+    /// It stands at the top level, and has these targets.
+    Top(&'a [Bytes]),
+    /// It is the body of a macro whose call has this step.
+    Call(Step<'a>),
+}
+
+/// A text that is walked: a macro's body, or a text of the top level.
 #[derive(Drop)]
-pub struct Frame<'a> {
-    /// The steps that lead to it.
-    pub base: Vec<Step<'a>>,
+pub struct Activation<'a> {
+    pub reached: Reached<'a>,
     /// How many macro steps are left.
     pub left: u8,
     /// The place of its top-level text.
     pub place: usize,
-    /// Its parameters, and its targets so far.
-    pub own: Names<'a>,
+    pub params: &'a [Param],
+    /// Its targets so far.
+    pub assigned: Names<'a>,
     /// The names of its calls so far.
     pub before: Names<'a>,
 }
@@ -41,8 +54,8 @@ pub enum Job<'a> {
     Own(&'a [Bytes]),
     /// Names that are read.
     Names(&'a [Bytes]),
-    /// The end of a frame, and the one to go on with.
-    Leave(Frame<'a>),
+    /// The text is at its end, and the one that waits goes on.
+    Leave,
 }
 
 /// A walk under way.
@@ -50,7 +63,9 @@ pub enum Job<'a> {
 pub struct Machine<'a> {
     /// What is left to do, the next one last.
     pub jobs: Vec<Job<'a>>,
-    pub frame: Frame<'a>,
+    pub active: Activation<'a>,
+    /// The texts that wait for the end of the active one, the next one last.
+    pub waiting: Vec<Activation<'a>>,
     /// How many calls were counted.
     pub calls: u32,
     /// Which definitions were read.
@@ -92,14 +107,27 @@ pub fn push<'a>(m: &mut Machine<'a>, job: Job<'a>) -> Result<(), Stop<'a>>
     }
 }
 
-/// A frame takes the place of the one that is left, to which a job leads back.
-pub fn enter<'a>(m: &mut Machine<'a>, frame: Frame<'a>) -> Result<(), Stop<'a>>
-    ensures { EntersFrame m.old frame.entry result m.new }
+/// A text is begun, for whose end the one so far waits.
+pub fn enter<'a>(m: &mut Machine<'a>, text: Activation<'a>) -> Result<(), Stop<'a>>
+    ensures { Enters m.old text.entry result m.new }
 {
-    let saved = mem::replace(&mut m.frame, frame);
-    match put(&mut m.jobs, Job::Leave(saved)) {
-        Ok(()) => Ok(()),
+    let so_far = mem::replace(&mut m.active, text);
+    match put(&mut m.waiting, so_far) {
+        Ok(()) => match put(&mut m.jobs, Job::Leave) {
+            Ok(()) => Ok(()),
+            Err(_) => Err(Stop::Memory),
+        },
         Err(_) => Err(Stop::Memory),
+    }
+}
+
+/// The text that waits goes on.
+pub fn leave<'a>(m: &mut Machine<'a>)
+    ensures { IsLeft m.old m.new }
+{
+    match m.waiting.pop() {
+        None => (),
+        Some(text) => m.active = text,
     }
 }
 
@@ -109,10 +137,59 @@ pub fn counted<'a>(m: &mut Machine<'a>, name: &'a [u8]) -> Result<(), Stop<'a>>
     ensures { CountsCall m.old name.now result m.new }
 {
     m.calls += 1;
-    match m.frame.before.push(name) {
+    match m.active.before.push(name) {
         Ok(()) => Ok(()),
         Err(_) => Err(Stop::Memory),
     }
+}
+
+fn has_param(params: &[Param], name: &[u8]) -> bool
+    ensures { result ≡ has (param_names params.now) name.now }
+{
+    for p in params {
+        if p.name.bytes() == name {
+            return true;
+        }
+    }
+    false
+}
+
+/// The name is that of a parameter or of a target so far.
+pub fn is_own<'a>(text: &Activation<'a>, name: &[u8]) -> bool
+    ensures { result ≡ has (param_names text.now.params.now ++ text.now.assigned) name.now }
+{
+    has_param(text.params, name) || text.assigned.has(name)
+}
+
+fn reach<'a>(steps: &mut Vec<Step<'a>>, reached: Reached<'a>) -> Result<(), AllocError>
+    ensures { OnOk result (plain_steps steps.new.items ≡ steps_to (plain_steps steps.old.items) reached.entry) }
+{
+    match reached {
+        Reached::Top(targets) => {
+            steps.clear();
+            match targets.first() {
+                None => Ok(()),
+                Some(t) => put(steps, Step::Target(t.bytes())),
+            }
+        }
+        Reached::Call(step) => put(steps, step),
+    }
+}
+
+/// The steps that lead to the text that is walked, where these wait.
+pub fn base<'a>(
+    alloc: Global,
+    waiting: &[Activation<'a>],
+    reached: Reached<'a>,
+) -> Result<Vec<Step<'a>>, AllocError>
+    ensures { IfOk result (λ steps. plain_steps steps.items ≡ steps_to (base_of (waiting_above [] waiting.now)) reached.entry) }
+{
+    let mut steps = Vec::new(alloc);
+    for text in waiting {
+        reach(&mut steps, text.reached)?;
+    }
+    reach(&mut steps, reached)?;
+    Ok(steps)
 }
 
 /// A definition is read.

@@ -1,14 +1,17 @@
-ghost use Rattle.std.specs.Prelude.{◌≡◌, None, map, length, IfOk, nat_lt, ◌+◌, ◌<◌};
+//! The first fault of a call by itself: its name, its arguments, its targets, and the limits.
+ghost use Rattle.std.specs.Prelude.{◌≡◌, None, map, length, IfOk, nat_lt, ◌+◌, ◌<◌, is_some};
+ghost use Rattle.std.specs.List.{list_any};
+ghost use Rattle.dx_ast.specs.Table.{row_of};
 ghost use Rattle.dx_ast.specs.Plain.{plain_args, plain_macro};
-ghost use Rattle.dx_macros.specs.CalleeView.{plain_callee, place_of, UsesOne};
-ghost use Rattle.dx_macros.specs.Dictionary.{param_names, CallsMacro};
+ghost use Rattle.dx_macros.specs.CalleeView.{plain_callee, place_of, UsesOne, FaultOfCounts};
+ghost use Rattle.dx_macros.specs.Dictionary.{param_names, CallsMacro, signature_of_function};
 ghost use Rattle.dx_macros.specs.Shown.{texts};
 ghost use Rattle.dx_macros.specs.Walk.{names_fit, arg_names, fault_of_signature, fault_of_callee, fault_of_call};
 
 use crate::callee::Callee;
 use crate::fault::StaticFault;
 use dx_ast::{Arg, MacroDef, Param, more, params, results};
-use dx_base::Bytes;
+use dx_base::{Bytes, Function};
 use std::alloc::{AllocError, Global};
 
 fn names_of_params<'a>(alloc: Global, params: &'a [Param]) -> Result<Vec<&'a [u8]>, AllocError>
@@ -74,18 +77,54 @@ fn is_beyond(n: usize, a: usize, b: usize) -> bool
     n > a && n - a > b
 }
 
+/// An argument has a name.
+fn has_named(args: &[Arg]) -> bool
+    ensures { result ≡ list_any is_some (arg_names (plain_args args.now)) }
+{
+    for a in args {
+        if a.name.is_some() {
+            return true;
+        }
+    }
+    false
+}
+
+/// The named arguments fit the parameters of a macro.
+fn fits_macro(alloc: Global, params: &[Param], args: &[Arg]) -> Result<bool, AllocError>
+    ensures { IfOk result (λ fit. fit ≡ names_fit (param_names params.now) (arg_names (plain_args args.now))) }
+{
+    if !has_named(args) {
+        return Ok(true);
+    }
+    let free = names_of_params(alloc, params)?;
+    Ok(names_fit(free, args))
+}
+
+/// The named arguments fit the parameters of a function.
+fn fits_function(alloc: Global, f: Function, args: &[Arg]) -> Result<bool, AllocError>
+    ensures { IfOk result (λ fit. fit ≡ names_fit (row_of f).params (arg_names (plain_args args.now))) }
+{
+    if !has_named(args) {
+        return Ok(true);
+    }
+    let free = Vec::from_slice(alloc, params(f))?;
+    Ok(names_fit(free, args))
+}
+
+/// The first fault of so many arguments and targets, by how many there may be and whether the named arguments fit.
 fn fault_of_signature(
-    named: Vec<&[u8]>,
+    named: usize,
     more: usize,
     results: usize,
-    args: &[Arg],
+    fit: bool,
+    args: usize,
     targets: usize,
 ) -> Option<StaticFault>
-    ensures { result ≡ fault_of_signature (record { named = texts named.entry.items; more = more; results = results }) (arg_names (plain_args args.now)) targets }
+    ensures { FaultOfCounts named more results fit args targets result }
 {
-    if is_beyond(args.len(), named.len(), more) {
+    if is_beyond(args, named, more) {
         Some(StaticFault::TooManyArguments)
-    } else if !names_fit(named, args) {
+    } else if !fit {
         Some(StaticFault::NoSuchParameter)
     } else if targets > results {
         Some(StaticFault::TooManyResults)
@@ -104,8 +143,9 @@ fn fault_of_macro<'a>(
 ) -> Result<Option<StaticFault>, AllocError>
     ensures { IfOk result (λ f. f ≡ fault_of_callee (CallsMacro (plain_macro m.now)) left (arg_names (plain_args args.now)) targets) }
 {
-    let named = names_of_params(alloc, m.params.as_slice())?;
-    match fault_of_signature(named, 0, m.results.len(), args, targets) {
+    let params = m.params.as_slice();
+    let fit = fits_macro(alloc, params, args)?;
+    match fault_of_signature(params.len(), 0, m.results.len(), fit, args.len(), targets) {
         Some(fault) => Ok(Some(fault)),
         None => {
             if left == 0 {
@@ -115,6 +155,27 @@ fn fault_of_macro<'a>(
             }
         }
     }
+}
+
+/// The first fault of a call of a function.
+fn fault_of_function(
+    alloc: Global,
+    f: Function,
+    args: &[Arg],
+    targets: usize,
+) -> Result<Option<StaticFault>, AllocError>
+    ensures { IfOk result (λ fault. fault ≡ fault_of_signature (signature_of_function f) (arg_names (plain_args args.now)) targets) }
+{
+    let fit = fits_function(alloc, f, args)?;
+    let named = params(f).len();
+    Ok(fault_of_signature(
+        named,
+        more(f) as usize,
+        results(f) as usize,
+        fit,
+        args.len(),
+        targets,
+    ))
 }
 
 /// The most calls of a walk.
@@ -138,9 +199,6 @@ pub fn fault_of_call<'a>(
     match callee {
         Callee::Unknown => Ok(Some(StaticFault::UnknownFunction)),
         Callee::Macro(m) => fault_of_macro(alloc, m, left, args, targets),
-        Callee::Function(f) => {
-            let named = Vec::from_slice(alloc, params(f))?;
-            Ok(fault_of_signature(named, more(f) as usize, results(f) as usize, args, targets))
-        }
+        Callee::Function(f) => fault_of_function(alloc, f, args, targets),
     }
 }

@@ -21,13 +21,10 @@ returns-in-Some-clause-continues c =
     let name = c.bytes-name.result.now in
     let kth : c.count-k.result + 1 ≡ suc c.count-k.result = omega arith in
     let k = kth ∙ ap suc c.count-k.ensures.times in
-    let base = ap plain_steps c.as_slice.ensures.value in
-    let site = ap (λ (xs : List site.Step). xs ++ site.Nth name (c.count-k.result + 1) ∷ []) base in
-    let told = subst (λ x. FaultIs x c.in-Some.fault c.faulty.result) site c.faulty.ensures in
     by_fault {A = Unit {0}} (Err c.faulty.result) c.faulty.result _ _ _ c.in-Some.fault refl
     (call_faulty d old c.args.targets c.args.c.now name c.as_slice-args.result.now (plain_callee c.called-callee.result) (c.count-k.result + 1) c.in_ok-fault.field-0 c.in-Some.fault
     c.bytes-name.ensures c.as_slice-args.ensures c.called-callee.ensures k c.in_ok-fault.ensures.fault c.in-Some.is)
-    told
+    c.faulty.ensures
 
 pub returns-in-None-clause-continues : goal.returns-in-None-clause-continues
 returns-in-None-clause-continues c =

@@ -1,32 +1,23 @@
-use Rattle.std.proofs.Common.{◌≡◌, ◌∙◌, sym, map, List, ℕ, Bor, true, false, arith}
+use Rattle.std.proofs.Common.{◌≡◌, ◌∙◌, ◌+◌, ℕ, sym, ap, ap₂, true, false, arith, length}
 use Rattle.std.specs.Prelude.{nat_lt}
 use Rattle.std.proofs.lemmas.Bool.{lt-ltb}
-use Rattle.dx_macros.specs.Walk.{arg_names}
-use Rattle.dx_ast.specs.Plain.{plain_args}
-use Rattle.dx_macros.proofs.Fits.{many_arguments, no_parameter, many_results, fits_signature, beyond_is}
+use Rattle.dx_macros.proofs.Fits.{many_arguments, no_parameter, many_results, fits_signature, beyond_by}
 use Rattle.dx_macros.proofs.signature.fault_of_signature.Goals as goal
 
-abbrev now : Bor (List ℕ) → List ℕ
-now n = n.now
-
 pub returns-then-is_beyond : goal.returns-then-is_beyond
-returns-then-is_beyond c =
-    let beyond = beyond_is now c.args.named.items c.args.args.now c.len.result c.args.more c.is_beyond.result true (omega arith) c.is_beyond.ensures c.if-is_beyond.true in
-    sym (many_arguments (record { named = map now c.args.named.items; more = c.args.more; results = c.args.results }) (arg_names (plain_args c.args.args.now)) c.args.targets beyond)
+returns-then-is_beyond c = λ s names a b r l h.
+    sym (many_arguments s names c.args.targets (beyond_by s names _ _ _ true a b l (sym c.is_beyond.ensures ∙ c.if-is_beyond.true)))
 
-pub returns-then-not-names_fit : goal.returns-then-not-names_fit
-returns-then-not-names_fit c =
-    let beyond = beyond_is now c.args.named.items c.args.args.now c.len.result c.args.more c.is_beyond.result false (omega arith) c.is_beyond.ensures c.if-is_beyond.false in
-    sym (no_parameter (record { named = map now c.args.named.items; more = c.args.more; results = c.args.results }) (arg_names (plain_args c.args.args.now)) c.args.targets beyond (sym c.names_fit.ensures ∙ c.if-not-names_fit.true))
+pub returns-then-not-fit : goal.returns-then-not-fit
+returns-then-not-fit c = λ s names a b r l h.
+    sym (no_parameter s names c.args.targets (beyond_by s names _ _ _ false a b l (sym c.is_beyond.ensures ∙ c.if-is_beyond.false)) (h ∙ c.if-not-fit.true))
 
 pub returns-then-targets-results : goal.returns-then-targets-results
-returns-then-targets-results c =
-    let beyond = beyond_is now c.args.named.items c.args.args.now c.len.result c.args.more c.is_beyond.result false (omega arith) c.is_beyond.ensures c.if-is_beyond.false in
+returns-then-targets-results c = λ s names a b r l h.
     let more : nat_lt c.args.results c.args.targets ≡ true = lt-ltb _ _ (omega arith) in
-    sym (many_results (record { named = map now c.args.named.items; more = c.args.more; results = c.args.results }) (arg_names (plain_args c.args.args.now)) c.args.targets beyond (sym c.names_fit.ensures ∙ c.if-not-names_fit.false) more)
+    sym (many_results s names c.args.targets (beyond_by s names _ _ _ false a b l (sym c.is_beyond.ensures ∙ c.if-is_beyond.false)) (h ∙ c.if-not-fit.false) (ap (λ (n : ℕ). nat_lt n c.args.targets) r ∙ more))
 
 pub returns-else-targets-results : goal.returns-else-targets-results
-returns-else-targets-results c =
-    let beyond = beyond_is now c.args.named.items c.args.args.now c.len.result c.args.more c.is_beyond.result false (omega arith) c.is_beyond.ensures c.if-is_beyond.false in
+returns-else-targets-results c = λ s names a b r l h.
     let more : nat_lt c.args.results c.args.targets ≡ false = grind arith in
-    sym (fits_signature (record { named = map now c.args.named.items; more = c.args.more; results = c.args.results }) (arg_names (plain_args c.args.args.now)) c.args.targets beyond (sym c.names_fit.ensures ∙ c.if-not-names_fit.false) more)
+    sym (fits_signature s names c.args.targets (beyond_by s names _ _ _ false a b l (sym c.is_beyond.ensures ∙ c.if-is_beyond.false)) (h ∙ c.if-not-fit.false) (ap (λ (n : ℕ). nat_lt n c.args.targets) r ∙ more))

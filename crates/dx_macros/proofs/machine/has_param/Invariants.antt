@@ -1,0 +1,7 @@
+use Rattle.std.proofs.Common.{◌≡◌, drop}
+use Rattle.dx_macros.specs.Dictionary.{param_names}
+use Rattle.dx_macros.specs.Names.{has}
+use Rattle.dx_macros.proofs.machine.has_param.Given as goal
+
+abbrev pub invariant-loop-p : goal.invariant-loop-p
+invariant-loop-p l = has (param_names (drop l.p-index l.params)) l.name ≡ has (param_names l.params) l.name
