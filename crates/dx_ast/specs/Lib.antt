@@ -1,8 +1,10 @@
+pub mod Limits
 pub mod Classes
 pub mod Values
 pub mod Grammar
 pub mod Script
 pub mod Table
+pub mod Rows
 pub mod Syntax
 pub mod Plain
 pub mod Value

@@ -1,5 +1,5 @@
--- What a text is: the tokens that it is read as, and the statements that it stands for or its first error.
-use Rattle.std.specs.Prelude.{ℕ, zero, suc, ◌-◌, true, false, List, [], ◌∷◌, length, Result, Ok, Err}
+-- What a text is: the tokens that stand in it, and the statements that it stands for or its first error.
+use Rattle.std.specs.Prelude.{◌≡◌, ℕ, zero, suc, ◌-◌, true, false, List, [], ◌∷◌, length, Result, Ok, Err}
 use Rattle.dx_base.specs.declared.token.Place.{Place}
 use Rattle.dx_base.specs.declared.token.LexKind.{LexKind}
 use Rattle.dx_base.specs.declared.token.LexKind.TheVariants as token
@@ -7,6 +7,7 @@ use Rattle.dx_base.specs.declared.token.Lexeme.{Lexeme}
 use Rattle.dx_base.specs.declared.token.SyntaxError.{SyntaxError}
 use Rattle.dx_base.specs.declared.token.SyntaxKind.TheVariants as kind
 use Rattle.dx_base.specs.Tokens.Places.{first}
+use Rattle.dx_base.specs.Tokens.Standing.{IsLexeme, IsError}
 use Rattle.dx_base.specs.Tokens.Reading.{lexeme_at}
 use Rattle.dx_grammar.specs.Stream.{Stream}
 use Rattle.dx_grammar.specs.FirstError.{IsText, FirstError}
@@ -16,6 +17,27 @@ use Rattle.dx_ast.specs.Grammar.{script}
 
 abbrev pub Tokens : Type 0
 Tokens = Stream Lexeme SyntaxError
+
+-- The tokens from a place on are those that stand one after the other, up to the end of the text, or up to the first
+-- error that stands there.
+pub data AreTokens (text : List ℕ) : Place → Tokens → Type 0 where
+  ends : (at : Place) (t : Lexeme) → IsLexeme text at t → t.kind ≡ token.End → AreTokens text at (record { tokens = []; stop = misfit t; whole = true })
+  goes_on : (at : Place) (t : Lexeme) (behind : Tokens) → IsLexeme text at t → (t.kind ≡ token.End → ⊥) → AreTokens text t.to behind → AreTokens text at (record behind { tokens = t ∷ behind.tokens })
+  breaks_off : (at : Place) (f : SyntaxError) → IsError text at f → AreTokens text at (record { tokens = []; stop = f; whole = false })
+
+-- the text stands for these statements
+pub record IsScript (text : List ℕ) (statements : List Stmt) : Type 0 where
+  pub tokens : Tokens
+  pub stand : AreTokens text first tokens
+  pub says : IsText script tokens statements
+
+-- the text stands for none, and this is its first error
+pub record IsFirstError (text : List ℕ) (f : SyntaxError) : Type 0 where
+  pub tokens : Tokens
+  pub stand : AreTokens text first tokens
+  pub fails : FirstError misfit script tokens f
+
+-- ---- the same tokens by computation, as the code reads them
 
 -- this token and those behind it; at the end of the text they run out
 abbrev pub with_token : Lexeme → LexKind → Tokens → Tokens
@@ -38,11 +60,3 @@ tokens_from text at = tokens_by (suc (length text - at.offset)) text at
 
 abbrev pub tokens_of : List ℕ → Tokens
 tokens_of text = tokens_from text first
-
--- the text stands for these statements
-abbrev pub IsScript : List ℕ → List Stmt → Type 0
-IsScript text statements = IsText script (tokens_of text) statements
-
--- the text stands for none, and this is its first error
-abbrev pub IsFirstError : List ℕ → SyntaxError → Type 0
-IsFirstError text f = FirstError misfit script (tokens_of text) f

@@ -8,6 +8,7 @@ use Rattle.dx_base.specs.declared.function.Effect.{Effect}
 use Rattle.dx_base.specs.declared.function.Effect.TheVariants as effect
 use Rattle.dx_base.specs.declared.function.Function.{Function}
 use Rattle.dx_base.specs.declared.function.Function.TheVariants as function
+use Rattle.dx_base.specs.Modules as count
 
 pub record Row : Type 0 where
   pub name : List ℕ
@@ -19,20 +20,20 @@ abbrev pub row : List ℕ → List (List ℕ) → ℕ → ℕ → Row
 row name params more results = record { name = name; params = params; more = more; results = results }
 
 abbrev pub module_row : Module → Row
-module_row computing.Import = row (codes "Import") (codes "name" ∷ codes "variable" ∷ codes "format" ∷ codes "start" ∷ codes "end" ∷ codes "delta" ∷ []) 0 1
-module_row computing.Select = row (codes "Select") (codes "input" ∷ codes "which" ∷ codes "except" ∷ []) 0 1
-module_row computing.Extract = row (codes "Extract") (codes "input" ∷ codes "name" ∷ []) 0 1
-module_row computing.Replace = row (codes "Replace") (codes "srcfield" ∷ codes "dstfield" ∷ codes "srcname" ∷ codes "dstname" ∷ []) 0 1
-module_row computing.Mark = row (codes "Mark") (codes "input" ∷ codes "name" ∷ []) 0 1
-module_row computing.Unmark = row (codes "Unmark") (codes "input" ∷ codes "name" ∷ []) 0 1
-module_row computing.Slab = row (codes "Slab") (codes "input" ∷ codes "dimension" ∷ codes "position" ∷ codes "thickness" ∷ []) 0 1
-module_row computing.Compute = row (codes "Compute") (codes "expression" ∷ []) 20 1
-module_row computing.Statistics = row (codes "Statistics") (codes "data" ∷ []) 0 5
-module_row computing.Histogram = row (codes "Histogram") (codes "data" ∷ codes "bins" ∷ codes "min" ∷ codes "max" ∷ codes "out" ∷ []) 0 2
-module_row computing.Collect = row (codes "Collect") (codes "object" ∷ []) 63 1
-module_row computing.CollectNamed = row (codes "CollectNamed") (codes "object" ∷ codes "name" ∷ []) 62 1
-module_row computing.CollectSeries = row (codes "CollectSeries") (codes "object" ∷ codes "position" ∷ []) 62 1
-module_row computing.Inquire = row (codes "Inquire") (codes "input" ∷ codes "inquiry" ∷ codes "value" ∷ []) 0 1
+module_row computing.Import = row (codes "Import") (codes "name" ∷ codes "variable" ∷ codes "format" ∷ codes "start" ∷ codes "end" ∷ codes "delta" ∷ []) (count.more computing.Import) 1
+module_row computing.Select = row (codes "Select") (codes "input" ∷ codes "which" ∷ codes "except" ∷ []) (count.more computing.Select) 1
+module_row computing.Extract = row (codes "Extract") (codes "input" ∷ codes "name" ∷ []) (count.more computing.Extract) 1
+module_row computing.Replace = row (codes "Replace") (codes "srcfield" ∷ codes "dstfield" ∷ codes "srcname" ∷ codes "dstname" ∷ []) (count.more computing.Replace) 1
+module_row computing.Mark = row (codes "Mark") (codes "input" ∷ codes "name" ∷ []) (count.more computing.Mark) 1
+module_row computing.Unmark = row (codes "Unmark") (codes "input" ∷ codes "name" ∷ []) (count.more computing.Unmark) 1
+module_row computing.Slab = row (codes "Slab") (codes "input" ∷ codes "dimension" ∷ codes "position" ∷ codes "thickness" ∷ []) (count.more computing.Slab) 1
+module_row computing.Compute = row (codes "Compute") (codes "expression" ∷ []) (count.more computing.Compute) 1
+module_row computing.Statistics = row (codes "Statistics") (codes "data" ∷ []) (count.more computing.Statistics) 5
+module_row computing.Histogram = row (codes "Histogram") (codes "data" ∷ codes "bins" ∷ codes "min" ∷ codes "max" ∷ codes "out" ∷ []) (count.more computing.Histogram) 2
+module_row computing.Collect = row (codes "Collect") (codes "object" ∷ []) (count.more computing.Collect) 1
+module_row computing.CollectNamed = row (codes "CollectNamed") (codes "object" ∷ codes "name" ∷ []) (count.more computing.CollectNamed) 1
+module_row computing.CollectSeries = row (codes "CollectSeries") (codes "object" ∷ codes "position" ∷ []) (count.more computing.CollectSeries) 1
+module_row computing.Inquire = row (codes "Inquire") (codes "input" ∷ codes "inquiry" ∷ codes "value" ∷ []) (count.more computing.Inquire) 1
 
 abbrev pub effect_row : Effect → Row
 effect_row effect.Print = row (codes "Print") (codes "object" ∷ codes "options" ∷ codes "component" ∷ []) 0 0
@@ -49,10 +50,14 @@ row_of function.Route = row (codes "Route") (codes "selector" ∷ codes "input" 
 row_of function.GetLocal = row (codes "GetLocal") (codes "initial" ∷ codes "link" ∷ []) 0 2
 row_of function.GetGlobal = row (codes "GetGlobal") (codes "initial" ∷ codes "link" ∷ []) 0 2
 
--- the functions that are built, which alone a script can name
+-- the functions whose performing is built, which alone a script can name
 abbrev pub functions : List Function
 functions = function.Effect effect.Print ∷ function.Effect effect.Echo ∷ []
 
+-- the one of that name among these
+abbrev pub named_among : List ℕ → List Function → Option Function
+named_among name = find (λ f. bytes_eq (row_of f).name name)
+
 -- the one of that name
 abbrev pub function_named : List ℕ → Option Function
-function_named name = find (λ f. bytes_eq (row_of f).name name) functions
+function_named name = named_among name functions

@@ -3,6 +3,7 @@
 
 mod constants;
 mod expressions;
+mod rows;
 mod sequencing;
 mod statements;
 mod table;
@@ -11,6 +12,7 @@ mod tests;
 
 pub use constants::{Const, Ints, TextList};
 pub use expressions::{Arg, Args, Call, Expr};
+pub use rows::{Row, row_of};
 pub use sequencing::{FrameVar, Frames, Word};
 pub use statements::{Assign, MacroDef, Param, Params, Stmt, Stmts};
-pub use table::{function, more, named, param, params, results};
+pub use table::{function, more, name, named, named_inputs, param, params, results};

@@ -8,7 +8,10 @@ mod elem;
 mod function;
 mod items;
 mod number;
+mod shared;
+mod sign;
 mod token;
+mod words;
 
 pub use bytes::Bytes;
 pub use code::{Code, NativeKind};
@@ -16,4 +19,9 @@ pub use elem::{ElemType, in_range};
 pub use function::{Effect, Function, Module};
 pub use items::Items;
 pub use number::read_int;
+pub use shared::Shared;
+pub use sign::Sign;
 pub use token::{LexKind, Lexeme, Place, SyntaxError, SyntaxKind};
+pub use words::{
+    push_count, push_counts_behind, push_number, push_numbers, push_numbers_behind, push_quoted,
+};

@@ -5,8 +5,8 @@ ghost use Rattle.dx_ast.specs.Lawful.{IsLawfulConst};
 
 use super::*;
 use dx_arrays::Array;
-use dx_ast::{Const, Ints, TextList};
-use dx_base::Bytes;
+use dx_ast::{Const, Ints};
+use dx_base::{Bytes, Shared};
 use dx_objects::{Object, Part};
 use std::alloc::Global;
 use std::test::Fail;
@@ -14,22 +14,22 @@ use std::test::Fail;
 fn ints(alloc: Global, numbers: &[i32]) -> Result<Ints, Fail>
     ensures { IfOk result (λ list. list ≡ numbers.now) }
 {
-    Ok(Ints::from_vec(Vec::from_slice(alloc, numbers)?))
+    Ok(Ints::from_vec(alloc, Vec::from_slice(alloc, numbers)?)?)
 }
 
-fn text(alloc: Global, bytes: &[u8]) -> Result<Bytes, Fail>
+fn text(alloc: Global, bytes: &[u8]) -> Result<Shared<u8>, Fail>
     ensures { IfOk result (λ text. text ≡ bytes.now) }
 {
-    Ok(Bytes::copy_of(alloc, bytes)?)
+    Ok(Shared::from_vec(alloc, Vec::from_slice(alloc, bytes)?)?)
 }
 
-fn texts(alloc: Global, first: &[u8], second: &[u8]) -> Result<TextList, Fail>
+fn texts(alloc: Global, first: &[u8], second: &[u8]) -> Result<Shared<Bytes>, Fail>
     ensures { IfOk result (λ list. list ≡ first.now ∷ second.now ∷ []) }
 {
-    let mut list = TextList::new(alloc);
-    list.push(text(alloc, first)?)?;
-    list.push(text(alloc, second)?)?;
-    Ok(list)
+    let mut list = Vec::new(alloc);
+    list.push(Bytes::copy_of(alloc, first)?)?;
+    list.push(Bytes::copy_of(alloc, second)?)?;
+    Ok(Shared::from_vec(alloc, list)?)
 }
 
 fn shown_array(alloc: Global, array: &Array) -> Result<String, Fail> {

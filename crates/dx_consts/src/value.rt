@@ -22,7 +22,7 @@ pub fn object_of(alloc: Global, c: &Const) -> Result<Value, AllocError>
     let object = match c {
         Const::Null => return Ok(None),
         Const::Int(n) => ints(alloc, Shape::new(alloc), &[*n])?,
-        Const::Text(t) => text(alloc, t.bytes())?,
+        Const::Text(t) => text(alloc, t.as_slice())?,
         Const::Vector(ns) => ints(alloc, shape_of(alloc, ns.len() as u32)?, ns.as_slice())?,
         Const::Ints(ns) => ints(alloc, Shape::new(alloc), ns.as_slice())?,
         Const::Vectors(width, ns) => ints(alloc, shape_of(alloc, *width)?, ns.as_slice())?,

@@ -3,10 +3,11 @@ use Rattle.std.proofs.Common.{◌≡◌, List, ℕ, Result, Ok, Err, refl, ap}
 use Rattle.std.specs.Prelude.{IfOk, IfErr}
 use Rattle.dx_base.specs.declared.token.SyntaxError.{SyntaxError}
 use Rattle.dx_ast.specs.declared.statements.Stmt.{Stmt}
-use Rattle.dx_ast.specs.Script.{Tokens, tokens_of, IsScript, IsFirstError}
+use Rattle.dx_ast.specs.Script.{tokens_of, IsScript, IsFirstError}
 use Rattle.dx_script_grammar.specs.Reading as reading
 use Rattle.dx_script_grammar.specs.Reading.{Outcome}
 use Rattle.dx_script_laws.proofs.Script as laws
+use Rattle.dx_script_laws.proofs.TokensStand.{script_read, is_script, first_error_read, is_first_error}
 use Rattle.dx_parser.specs.declared.fail.ParseFail.{ParseFail}
 use Rattle.dx_parser.specs.declared.fail.ParseFail.TheVariants.{Refused, Memory}
 use Rattle.dx_parser.specs.Answers.{OnRefused}
@@ -15,11 +16,11 @@ use Rattle.dx_include.specs.Answers.{Parses}
 
 pub script_parsed : (text : List ℕ) (statements : List Stmt) → IsScript text statements → parsed text ≡ Ok statements
 unfolding parsed
-script_parsed text statements d = ap answer_of (laws.only (tokens_of text) statements d)
+script_parsed text statements d = ap answer_of (laws.only (tokens_of text) statements (script_read text statements d))
 
 error_answer : (text : List ℕ) (f : SyntaxError) → IsFirstError text f → (r : Outcome (List Stmt)) → reading.script (tokens_of text) ≡ r → answer_of r ≡ Err f
-error_answer text f d (Ok read) e = absurd (d.none read.0 (laws.sound (tokens_of text) read.0 read.1 e))
-error_answer text f d (Err wrong) e = ap Err (laws.determined (tokens_of text) wrong.0 f (laws.exact (tokens_of text) wrong.0 wrong.1 e) d)
+error_answer text f d (Ok read) e = absurd ((first_error_read text f d).none read.0 (laws.sound (tokens_of text) read.0 read.1 e))
+error_answer text f d (Err wrong) e = ap Err (laws.determined (tokens_of text) wrong.0 f (laws.exact (tokens_of text) wrong.0 wrong.1 e) (first_error_read text f d))
 
 pub error_parsed : (text : List ℕ) (f : SyntaxError) → IsFirstError text f → parsed text ≡ Err f
 unfolding parsed
@@ -36,8 +37,8 @@ Means text (Ok statements) = IsScript text statements
 Means text (Err f) = IsFirstError text f
 
 means : (text : List ℕ) (r : Outcome (List Stmt)) → reading.script (tokens_of text) ≡ r → Means text (answer_of r)
-means text (Ok read) e = laws.sound (tokens_of text) read.0 read.1 e
-means text (Err wrong) e = laws.exact (tokens_of text) wrong.0 wrong.1 e
+means text (Ok read) e = is_script text read.0 (laws.sound (tokens_of text) read.0 read.1 e)
+means text (Err wrong) e = is_first_error text wrong.0 (laws.exact (tokens_of text) wrong.0 wrong.1 e)
 
 pub parsed_means : (text : List ℕ) → Means text (parsed text)
 unfolding parsed

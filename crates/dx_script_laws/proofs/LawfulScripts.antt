@@ -20,6 +20,7 @@ use Rattle.dx_ast.specs.Syntax as plain
 use Rattle.dx_ast.specs.Plain.{plain_expr, plain_call, plain_stmt, plain_stmts}
 use Rattle.dx_ast.specs.Lawful.{IsName, IsLawfulExpr, IsLawfulCall, IsCall, IsLawfulParam, IsLawfulDefault, Differ, AreLawfulNames, IsLawfulInBody, IsLawfulBody, IsFrameValue, IsLawful, AreLawful}
 use Rattle.dx_ast.specs.Script.{tokens_of, IsScript}
+use Rattle.dx_script_laws.proofs.TokensStand.{script_read}
 use Rattle.dx_ast.specs.Grammar as grammar
 use Rattle.dx_ast.specs.Grammar.{Rule}
 use Rattle.dx_script_laws.proofs.Sizes.{tokens_small}
@@ -231,4 +232,4 @@ script : Gives grammar.script (λ xs. AreLawful (plain_stmts xs))
 script = repeated {add = with_statement} {Good = λ xs. AreLawful (plain_stmts xs)} (λ found good. item) items_keep [] tt
 
 pub lawful : (text : List ℕ) (statements : List Stmt) → IsScript text statements → length text ≤ 16777216 → AreLawful (plain_stmts statements)
-lawful text statements is short = script.is (tokens_of text).tokens statements is.derived (tokens_small text short)
+lawful text statements is short = script.is (tokens_of text).tokens statements (script_read text statements is).derived (tokens_small text short)

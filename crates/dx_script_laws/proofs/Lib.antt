@@ -5,6 +5,8 @@ pub mod Statements
 pub mod Words
 pub mod Script
 pub mod Texts
+pub mod TokensStand
+pub mod OneScript
 pub mod Loops
 pub mod Ranges
 pub mod Sizes

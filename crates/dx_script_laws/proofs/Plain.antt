@@ -11,7 +11,7 @@ use Rattle.dx_ast.specs.declared.expressions.Call.{Call, roll-Call, out-roll-Cal
 use Rattle.dx_ast.specs.declared.expressions.Arg.{Arg, roll-Arg, out-Arg, out-roll-Arg}
 use Rattle.dx_ast.specs.declared.statements.Assign.{Assign}
 use Rattle.dx_ast.specs.declared.statements.Param.{Param}
-use Rattle.dx_ast.specs.declared.statements.MacroDef.{MacroDef, roll-MacroDef, out-roll-MacroDef}
+use Rattle.dx_ast.specs.declared.statements.MacroDef.{roll-MacroDef, out-roll-MacroDef}
 use Rattle.dx_ast.specs.declared.statements.Stmt.{Stmt}
 use Rattle.dx_ast.specs.declared.statements.Stmt.TheVariants as stmt
 use Rattle.dx_ast.specs.Classes.{Text}
