@@ -171,7 +171,7 @@ corners-le (a ∷ b ∷ c ∷ []) h = omega arith
 corners-le (a ∷ b ∷ c ∷ d ∷ cs) h = absurd (omega arith)
 
 -- the points of a grid that has no more cells than an array has items
-pub points_few : (cs : List ℕ) → length cs ≤ 3 → 0 < product (cells cs) → product (cells cs) ≤ 4194304 → product cs ≤ 33554432
+pub points_few : (cs : List ℕ) → length cs ≤ 3 → 0 < product (cells cs) → product (cells cs) ≤ 16777216 → product cs ≤ 134217728
 points_few cs h some few =
     let a = points-le cs (more_than_one cs some) in
     let b : 2 ^ length cs * product (cells cs) ≤ 8 * product (cells cs) = mul-le-mul_right (product (cells cs)) (corners-le cs h) in

@@ -69,16 +69,16 @@ width-pos (e ∷ f ∷ []) h =
 width-pos (e ∷ f ∷ g ∷ es) h = absurd (grind (arith, nat_tests))
 
 -- the points of a grid whose cells are an array's items
-connections_points_by : (t : ElemType) (es cs : List ℕ) (i : ℕ) → has_shape (record { elem = t; extents = es; class = grid_connections cs }) ≡ true → has_room (record { elem = t; extents = es; class = grid_connections cs }) ≡ true → i < product (cells cs) → product cs ≤ 33554432
+connections_points_by : (t : ElemType) (es cs : List ℕ) (i : ℕ) → has_shape (record { elem = t; extents = es; class = grid_connections cs }) ≡ true → has_room (record { elem = t; extents = es; class = grid_connections cs }) ≡ true → i < product (cells cs) → product cs ≤ 134217728
 connections_points_by t es cs i s r l =
     let shape = and_parts (is_shape es) (is_grid cs) s in
-    let room = and_parts (nat_le (product (cells cs) * product es) (4194304 * product es)) (nat_le (product (cells cs) * product es) 16777216) r in
+    let room = and_parts (nat_le (product (cells cs) * product es) (16777216 * product es)) (nat_le (product (cells cs) * product es) 134217728) r in
     let few : length cs ≤ 3 = let g = shape.1 in grind (arith, nat_tests) in
-    let row : product (cells cs) * product es ≤ 4194304 * product es = let q = room.0 in grind (arith, nat_tests) in
-    let most : product (cells cs) ≤ 4194304 = le_of_mul-le-mul_right row (width-pos es shape.0) in
+    let row : product (cells cs) * product es ≤ 16777216 * product es = let q = room.0 in grind (arith, nat_tests) in
+    let most : product (cells cs) ≤ 16777216 = le_of_mul-le-mul_right row (width-pos es shape.0) in
     points_few cs few (omega arith) most
 
-pub connections_points : (a : ArrayData) (cs : List ℕ) (i : ℕ) → IsLawfulArray a → a.class ≡ grid_connections cs → i < items a → product cs ≤ 33554432
+pub connections_points : (a : ArrayData) (cs : List ℕ) (i : ℕ) → IsLawfulArray a → a.class ≡ grid_connections cs → i < items a → product cs ≤ 134217728
 connections_points a cs i h e l =
     let s : has_shape (record { elem = a.elem; extents = a.extents; class = grid_connections cs }) ≡ true = subst (λ (c : Class). has_shape (record { elem = a.elem; extents = a.extents; class = c }) ≡ true) e h.shape in
     let r : has_room (record { elem = a.elem; extents = a.extents; class = grid_connections cs }) ≡ true = subst (λ (c : Class). has_room (record { elem = a.elem; extents = a.extents; class = c }) ≡ true) e h.room in

@@ -106,7 +106,7 @@ int_of_small : (n : ℕ) → n < 2147483648 → in_range Int (pos n) ≡ true
 int_of_small n h = grind (arith, ints)
 
 -- the numbers of the corners are ints
-pub connections_in_type : (cs : List ℕ) → length cs ≤ 3 → product (cells cs) ≤ 4194304 → is_in_type (record { elem = Int; extents = 2 ^ length cs ∷ []; class = grid_connections cs }) ≡ true
+pub connections_in_type : (cs : List ℕ) → length cs ≤ 3 → product (cells cs) ≤ 16777216 → is_in_type (record { elem = Int; extents = 2 ^ length cs ∷ []; class = grid_connections cs }) ≡ true
 connections_in_type cs h few =
     let q = 2 ^ length cs in
     values-of (in_range Int) (λ i p. pos (slice_index (corner_numbers cs (indices_of (cells cs) i)) p)) (product (cells cs)) (q * 1) (λ i p l k.

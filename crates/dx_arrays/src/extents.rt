@@ -16,10 +16,10 @@ pub(crate) const MAX_EXTENT: u32 = 256;
 pub(crate) const MAX_DIMENSIONS: usize = 3;
 
 /// How many items an array may have.
-pub(crate) const MAX_ITEMS: u64 = 4_194_304;
+pub(crate) const MAX_ITEMS: u64 = 16_777_216;
 
 /// How many values the items of an array may have in all.
-pub(crate) const MAX_VALUES: u64 = 16_777_216;
+pub(crate) const MAX_VALUES: u64 = 134_217_728;
 
 /// The extents of an item, which are kept in place, and their product.
 #[derive(Debug, Drop)]

@@ -13,5 +13,3 @@ pub use array::{Array, ArrayClass, ArrayError, Shape};
 pub use dx_base::{ElemType, in_range};
 pub use laws::{cell_law, point_law, reach_law};
 
-#[cfg(test)]
-mod tests;

@@ -1,2 +1,4 @@
 pub mod NameTables
 pub mod Tokens
+pub mod AtPlaces
+pub mod NameCounts

@@ -16,10 +16,10 @@ abbrev pub max_dimensions : ℕ
 max_dimensions = 3
 
 abbrev pub max_items : ℕ
-max_items = 4194304
+max_items = 16777216
 
 abbrev pub max_values : ℕ
-max_values = 16777216
+max_values = 134217728
 
 -- a list of extents that is a shape, and a list of counts that is a grid's
 abbrev pub is_shape : List ℕ → Bool

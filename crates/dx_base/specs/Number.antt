@@ -27,10 +27,20 @@ unfoldable pub number_of : List ℕ → Option ℤ
 number_of [] = None
 number_of (b ∷ rest) = if is_plus_or_minus b then number_behind (b == 45) rest else number_behind false (b ∷ rest)
 
+abbrev pub least_i64 : ℤ
+least_i64 = neg_ℤ (pos 9223372036854775808)
+
+abbrev pub greatest_i64 : ℤ
+greatest_i64 = pos 9223372036854775807
+
 abbrev pub is_i64 : ℤ → Bool
-is_i64 z = int_le (neg_ℤ (pos 9223372036854775808)) z && int_le z (pos 9223372036854775807)
+is_i64 z = int_le least_i64 z && int_le z greatest_i64
 
 -- the number, if an i64 holds it
 abbrev pub as_i64 : Option ℤ → Option ℤ
 as_i64 None = None
 as_i64 (Some z) = if is_i64 z then Some z else None
+
+-- the number, or the end of the i64 on its side
+abbrev pub nearest_i64 : ℤ → ℤ
+nearest_i64 z = if int_le z least_i64 then least_i64 else if int_le greatest_i64 z then greatest_i64 else z

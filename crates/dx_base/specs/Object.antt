@@ -9,6 +9,8 @@ mutual
     text : List ℕ → PartList → Tree
     field : PartList → PartList → Tree
     group : PartList → PartList → Tree
+    -- a composite group: each member is a field
+    composite : PartList → PartList → Tree
     series : PartList → PartList → Tree
 
   -- a list of parts: a name or none, a position, and an object
@@ -22,6 +24,7 @@ parts (array a xs) = no_parts
 parts (text b xs) = no_parts
 parts (field ps xs) = ps
 parts (group ps xs) = ps
+parts (composite ps xs) = ps
 parts (series ps xs) = ps
 
 abbrev pub attributes : Tree → PartList
@@ -29,6 +32,7 @@ attributes (array a xs) = xs
 attributes (text b xs) = xs
 attributes (field ps xs) = xs
 attributes (group ps xs) = xs
+attributes (composite ps xs) = xs
 attributes (series ps xs) = xs
 
 -- one list of parts behind another
@@ -47,6 +51,7 @@ abbrev mutual
   levels (text b xs) = suc (deepest xs)
   levels (field ps xs) = suc (max (deepest ps) (deepest xs))
   levels (group ps xs) = suc (max (deepest ps) (deepest xs))
+  levels (composite ps xs) = suc (max (deepest ps) (deepest xs))
   levels (series ps xs) = suc (max (deepest ps) (deepest xs))
 
   pub deepest : PartList → ℕ
@@ -60,6 +65,7 @@ abbrev mutual
   count (text b xs) = suc (total_count xs)
   count (field ps xs) = suc (total_count ps + total_count xs)
   count (group ps xs) = suc (total_count ps + total_count xs)
+  count (composite ps xs) = suc (total_count ps + total_count xs)
   count (series ps xs) = suc (total_count ps + total_count xs)
 
   pub total_count : PartList → ℕ
@@ -77,6 +83,7 @@ abbrev mutual
   size (text b xs) = 64 + length b + total_size xs
   size (field ps xs) = 64 + total_size ps + total_size xs
   size (group ps xs) = 64 + total_size ps + total_size xs
+  size (composite ps xs) = 64 + total_size ps + total_size xs
   size (series ps xs) = 64 + (4 * part_count ps + total_size ps) + total_size xs
 
   pub total_size : PartList → ℕ

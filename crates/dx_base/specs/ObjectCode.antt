@@ -4,7 +4,7 @@ use Rattle.std.specs.Coded.{Coded, code_by, coded×, coded_ℕ, coded_ℤ, coded
 use Rattle.dx_base.specs.contracts.elem.ElemType as elem
 use Rattle.dx_base.specs.declared.elem.ElemType.{ElemType}
 use Rattle.dx_base.specs.Array.{Class, plain, constant, regular, grid_positions, grid_connections, ArrayData}
-use Rattle.dx_base.specs.Object.{Tree, PartList, array, text, field, group, series, no_parts, part}
+use Rattle.dx_base.specs.Object.{Tree, PartList, array, text, field, group, composite, series, no_parts, part}
 use base.Stored.{Gv, gnil, gnum, gcons}
 
 abbrev coded_numbers : Coded (List ℤ)
@@ -56,6 +56,7 @@ abbrev mutual
   tree_code (text b xs) = gcons (gnum 1) (gcons (coded_bytes.code b) (parts_code xs))
   tree_code (field ps xs) = gcons (gnum 2) (gcons (parts_code ps) (parts_code xs))
   tree_code (group ps xs) = gcons (gnum 3) (gcons (parts_code ps) (parts_code xs))
+  tree_code (composite ps xs) = gcons (gnum 5) (gcons (parts_code ps) (parts_code xs))
   tree_code (series ps xs) = gcons (gnum 4) (gcons (parts_code ps) (parts_code xs))
 
   pub parts_code : PartList → Gv
@@ -68,6 +69,7 @@ mutual
   tree_inj (text a xs) (text b ys) p = λ i. text (coded_bytes.inj a b (ap (λ g. head (tail g)) p) i) (parts_inj xs ys (ap (λ g. tail (tail g)) p) i)
   tree_inj (field a xs) (field b ys) p = λ i. field (parts_inj a b (ap (λ g. head (tail g)) p) i) (parts_inj xs ys (ap (λ g. tail (tail g)) p) i)
   tree_inj (group a xs) (group b ys) p = λ i. group (parts_inj a b (ap (λ g. head (tail g)) p) i) (parts_inj xs ys (ap (λ g. tail (tail g)) p) i)
+  tree_inj (composite a xs) (composite b ys) p = λ i. composite (parts_inj a b (ap (λ g. head (tail g)) p) i) (parts_inj xs ys (ap (λ g. tail (tail g)) p) i)
   tree_inj (series a xs) (series b ys) p = λ i. series (parts_inj a b (ap (λ g. head (tail g)) p) i) (parts_inj xs ys (ap (λ g. tail (tail g)) p) i)
   tree_inj _ _ p = cc
 

@@ -3,7 +3,7 @@ use Rattle.std.specs.Prelude.{◌<◌, All, ◌≡◌, ℕ, pos, List, Option, S
 use Rattle.dx_base.specs.declared.elem.ElemType.TheVariants.{Int}
 use Rattle.dx_base.specs.Elem.{in_range}
 use Rattle.dx_base.specs.ArrayLimits.{IsLawfulArray}
-use Rattle.dx_base.specs.Object.{Tree, PartList, array, text, field, group, series, no_parts, part, levels, count, size}
+use Rattle.dx_base.specs.Object.{Tree, PartList, array, text, field, group, composite, series, no_parts, part, levels, count, size}
 use Rattle.dx_base.specs.ObjectNames.{find}
 
 abbrev pub max_levels : ℕ
@@ -24,7 +24,20 @@ is_array (array a xs) = true
 is_array (text b xs) = false
 is_array (field ps xs) = false
 is_array (group ps xs) = false
+is_array (composite ps xs) = false
 is_array (series ps xs) = false
+
+abbrev pub is_field : Tree → Bool
+is_field (array a xs) = false
+is_field (text b xs) = false
+is_field (field ps xs) = true
+is_field (group ps xs) = false
+is_field (composite ps xs) = false
+is_field (series ps xs) = false
+
+abbrev pub all_fields : PartList → Bool
+all_fields no_parts = true
+all_fields (part n p t ps) = is_field t && all_fields ps
 
 abbrev pub all_arrays : PartList → Bool
 all_arrays no_parts = true
@@ -54,6 +67,7 @@ has_good_names (array a xs) = all_named xs && differ xs
 has_good_names (text b xs) = all_named xs && differ xs
 has_good_names (field ps xs) = all_named ps && differ ps && (all_named xs && differ xs)
 has_good_names (group ps xs) = differ ps && (all_named xs && differ xs)
+has_good_names (composite ps xs) = differ ps && (all_named xs && differ xs)
 has_good_names (series ps xs) = none_named ps && (all_named xs && differ xs)
 
 -- the components of a field are arrays
@@ -62,7 +76,17 @@ has_array_components (array a xs) = true
 has_array_components (text b xs) = true
 has_array_components (field ps xs) = all_arrays ps
 has_array_components (group ps xs) = true
+has_array_components (composite ps xs) = true
 has_array_components (series ps xs) = true
+
+-- the members of a composite group are fields
+abbrev pub has_field_members : Tree → Bool
+has_field_members (array a xs) = true
+has_field_members (text b xs) = true
+has_field_members (field ps xs) = true
+has_field_members (group ps xs) = true
+has_field_members (composite ps xs) = all_fields ps
+has_field_members (series ps xs) = true
 
 -- the parts with no position, for which 0 stands
 abbrev pub unplaced : PartList → PartList
@@ -75,12 +99,14 @@ HasNoPositions (array a xs) = unplaced xs ≡ xs
 HasNoPositions (text b xs) = unplaced xs ≡ xs
 HasNoPositions (field ps xs) = (unplaced ps ≡ ps) × (unplaced xs ≡ xs)
 HasNoPositions (group ps xs) = (unplaced ps ≡ ps) × (unplaced xs ≡ xs)
+HasNoPositions (composite ps xs) = (unplaced ps ≡ ps) × (unplaced xs ≡ xs)
 HasNoPositions (series ps xs) = unplaced xs ≡ xs
 
 -- what holds of one object that can be made, its parts aside
 pub record IsAllowed (t : Tree) : Type 0 where
   pub names : IsTrue (has_good_names t)
   pub components : IsTrue (has_array_components t)
+  pub members : IsTrue (has_field_members t)
   pub limits : IsTrue (fits t)
   pub positions : HasNoPositions t
 
@@ -98,6 +124,7 @@ abbrev mutual
   IsLawful (text b xs) = AreBytes b × IsAllowed (text b xs) × AreLawful xs
   IsLawful (field ps xs) = IsAllowed (field ps xs) × AreLawful ps × AreLawful xs
   IsLawful (group ps xs) = IsAllowed (group ps xs) × AreLawful ps × AreLawful xs
+  IsLawful (composite ps xs) = IsAllowed (composite ps xs) × AreLawful ps × AreLawful xs
   IsLawful (series ps xs) = IsAllowed (series ps xs) × AreLawful ps × AreLawful xs
 
   pub AreLawful : PartList → Type 0

@@ -1,6 +1,6 @@
 -- Parts that are found by their names, put among others and taken out.
 use Rattle.std.specs.Prelude.{ℕ, pos, List, Option, Some, None, Bool, false, if◌then◌else◌, bytes_eq}
-use Rattle.dx_base.specs.Object.{Tree, PartList, array, text, field, group, series, no_parts, part, attributes}
+use Rattle.dx_base.specs.Object.{Tree, PartList, array, text, field, group, composite, series, no_parts, part, attributes}
 
 abbrev pub same_name : List ℕ → Option (List ℕ) → Bool
 same_name n None = false
@@ -17,6 +17,7 @@ component n (array a xs) = None
 component n (text b xs) = None
 component n (field ps xs) = find n ps
 component n (group ps xs) = None
+component n (composite ps xs) = None
 component n (series ps xs) = None
 
 abbrev pub member : List ℕ → Tree → Option Tree
@@ -24,6 +25,7 @@ member n (array a xs) = None
 member n (text b xs) = None
 member n (field ps xs) = None
 member n (group ps xs) = find n ps
+member n (composite ps xs) = find n ps
 member n (series ps xs) = None
 
 abbrev pub attribute : List ℕ → Tree → Option Tree
@@ -45,6 +47,7 @@ with_component n t (array a xs) = None
 with_component n t (text b xs) = None
 with_component n t (field ps xs) = Some (field (put n t ps) xs)
 with_component n t (group ps xs) = None
+with_component n t (composite ps xs) = None
 with_component n t (series ps xs) = None
 
 abbrev pub without_component : List ℕ → Tree → Option Tree
@@ -52,4 +55,5 @@ without_component n (array a xs) = None
 without_component n (text b xs) = None
 without_component n (field ps xs) = Some (field (without n ps) xs)
 without_component n (group ps xs) = None
+without_component n (composite ps xs) = None
 without_component n (series ps xs) = None

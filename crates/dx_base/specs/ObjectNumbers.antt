@@ -4,7 +4,7 @@ use Rattle.std.specs.List.{list_all}
 use Rattle.dx_base.specs.declared.elem.ElemType.TheVariants.{Int}
 use Rattle.dx_base.specs.Elem.{in_range}
 use Rattle.dx_base.specs.Array.{Class, plain, constant, regular, grid_positions, grid_connections, ArrayData, items, value}
-use Rattle.dx_base.specs.Object.{Tree, PartList, array, text, field, group, series, no_parts, part}
+use Rattle.dx_base.specs.Object.{Tree, PartList, array, text, field, group, composite, series, no_parts, part}
 
 -- a number is an array of rank 0 with one item, whatever its type and class
 abbrev pub is_number : ArrayData → Bool
@@ -19,6 +19,7 @@ as_number (array a xs) = number_of a
 as_number (text b xs) = None
 as_number (field ps xs) = None
 as_number (group ps xs) = None
+as_number (composite ps xs) = None
 as_number (series ps xs) = None
 
 -- a plain number of type int without attributes
@@ -49,6 +50,7 @@ abbrev mutual
   steps_by_ints (text b xs) = all_step_by_ints xs
   steps_by_ints (field ps xs) = all_step_by_ints ps && all_step_by_ints xs
   steps_by_ints (group ps xs) = all_step_by_ints ps && all_step_by_ints xs
+  steps_by_ints (composite ps xs) = all_step_by_ints ps && all_step_by_ints xs
   steps_by_ints (series ps xs) = all_step_by_ints ps && all_step_by_ints xs
 
   pub all_step_by_ints : PartList → Bool

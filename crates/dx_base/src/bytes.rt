@@ -1,4 +1,6 @@
+//! Texts as lists of bytes.
 ghost use Rattle.std.specs.Prelude.{◌≡◌, IfOk};
+ghost use Rattle.dx_base.specs.BytesView.{bytes_in};
 
 use std::alloc::{AllocError, Global};
 use std::cmp::Ordering;
@@ -8,15 +10,23 @@ use std::marker::Model;
 /// A text, a name or the content of a file, which contracts see as a list of bytes.
 #[derive(Debug, Drop)]
 pub struct Bytes {
-    content: Vec<u8>,
+    content: Content,
+}
+
+// The bytes in memory of their own, or a text of the program itself.
+#[derive(Debug, Drop)]
+enum Content {
+    Owned(Vec<u8>),
+    Fixed(&'static [u8]),
 }
 
 impl Model for Bytes {
     ghost use Rattle.std.specs.Prelude.{List, ℕ};
+    ghost use Rattle.dx_base.specs.BytesView.{bytes_in};
 
     ghost Value = { List ℕ };
 
-    ghost view = { λ b. b.content.items };
+    ghost view = { λ b. bytes_in b.content };
 }
 
 impl Bytes {
@@ -25,7 +35,7 @@ impl Bytes {
         ensures { IfOk result (λ copy. copy ≡ b.now) }
     {
         Ok(Bytes {
-            content: Vec::from_slice(alloc, b)?,
+            content: Content::Owned(Vec::from_slice(alloc, b)?),
         })
     }
 
@@ -33,20 +43,37 @@ impl Bytes {
     pub fn from_vec(content: Vec<u8>) -> Bytes
         ensures { result ≡ content.items }
     {
-        Bytes { content }
+        Bytes {
+            content: Content::Owned(content),
+        }
     }
 
-    /// The bytes, moved out.
-    pub fn into_vec(self) -> Vec<u8>
-        ensures { result.items ≡ self }
+    /// A text of the program itself, which takes no memory.
+    pub fn of_static(text: &'static [u8]) -> Bytes
+        ensures { result ≡ text.now }
     {
-        self.content
+        Bytes {
+            content: Content::Fixed(text),
+        }
+    }
+
+    /// The bytes, moved out. Only a text of the program itself takes memory.
+    pub fn into_vec(self, alloc: Global) -> Result<Vec<u8>, AllocError>
+        ensures { IfOk result (λ bytes. bytes.items ≡ self) }
+    {
+        match self.content {
+            Content::Owned(content) => Ok(content),
+            Content::Fixed(text) => Vec::from_slice(alloc, text),
+        }
     }
 
     pub fn bytes(&self) -> &[u8]
         ensures { result.now ≡ self.now }
     {
-        &self.content
+        match &self.content {
+            Content::Owned(content) => content,
+            Content::Fixed(text) => text,
+        }
     }
 }
 

@@ -6,7 +6,7 @@ use Rattle.std.specs.Cmp.Derive.{both_true}
 use Rattle.std.proofs.lemmas.Bool.Decides.{nat_tests}
 use Rattle.dx_base.specs.Elem.{in_range}
 use Rattle.dx_base.specs.Array.{ArrayData, plain, product}
-use Rattle.dx_base.specs.ArrayLimits.{is_shape, has_shape, has_room, has_lengths, is_in_type}
+use Rattle.dx_base.specs.ArrayLimits.{is_shape, has_shape, has_room, has_lengths, is_in_type, max_items, max_values}
 use Rattle.dx_base.specs.declared.elem.ElemType.TheVariants.{Int}
 use Rattle.dx_arrays.specs.Makes.{Makes, refusal}
 use Rattle.dx_arrays.specs.declared.array.ArrayError.{ArrayError}
@@ -15,7 +15,7 @@ use Rattle.dx_arrays.proofs.InType.{plain_in_type}
 abbrev pub plain_ints : List ℕ → List ℤ → ArrayData
 plain_ints es vs = record { elem = Int; extents = es; class = plain vs }
 
-room : (n w : ℕ) → 0 < w → w ≤ 256 → n ≤ 65536 * w → (nat_le n (4194304 * w) && nat_le n 16777216) ≡ true
+room : (n w : ℕ) → 0 < w → w ≤ 256 → n ≤ 65536 * w → (nat_le n (max_items * w) && nat_le n max_values) ≡ true
 room n w some narrow few = grind (arith, nat_tests)
 
 pub not_refused : (es : List ℕ) (vs : List ℤ) → is_shape es ≡ true → 0 < product es → product es ≤ 256 → length vs ≤ 65536 * product es → length vs % product es ≡ 0 → list_all (in_range Int) vs ≡ true →

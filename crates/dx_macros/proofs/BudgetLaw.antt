@@ -9,7 +9,8 @@ use Rattle.dx_ast.specs.Syntax.{Expr, Constant, Name, Frame, CallOf, Call, MakeC
 use Rattle.dx_macros.specs.declared.fault.StaticFault.{StaticFault}
 use Rattle.dx_macros.specs.declared.fault.StaticFault.TheVariants as fault
 use Rattle.dx_macros.specs.Site.{Step, Spot, next_step, first_target}
-use Rattle.dx_macros.specs.Names.{has, calls_in, calls_after, names_after}
+use Rattle.dx_base.specs.NameLists.{has}
+use Rattle.dx_macros.specs.Names.{calls_in, calls_after, names_after}
 use Rattle.dx_macros.specs.Tree.{Tree}
 use Rattle.dx_macros.specs.Dictionary.{TopText, top_text, Macros, Dictionary, Callee, Unknown, CallsMacro, CallsFunction, callee, definition, param_names, signature_of_macro}
 use Rattle.dx_macros.specs.Expansion.{Scope, Given, ArgsExpanded, Expanded, Under, with_name, assigned, with_params, given_for, or_tree, default_tree, plainly, call_expanded, spot_of_call, expand_expr, expand_call, expand_args, expand_statement, scope_after, expand_body, before_body, results_in, enter_macro, under_top, expand_within, scope_within, kept_of, effects_among, top_spot}

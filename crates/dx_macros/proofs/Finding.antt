@@ -2,7 +2,7 @@
 use Rattle.std.proofs.Common.{◌≡◌, ℕ, zero, suc, ◌<◌, ◌≤◌, List, [], ◌∷◌, map, length, Bool, false, refl, ap, ◌∙◌, sym, arith, get_or}
 use Rattle.dx_macros.specs.Dictionary as plain
 use Rattle.dx_ast.specs.Classes.{Text}
-use Rattle.dx_macros.specs.Names.{has}
+use Rattle.dx_base.specs.NameLists.{has}
 use Rattle.dx_macros.specs.Dictionary.{definition, no_text}
 use Rattle.dx_ast.specs.declared.statements.Assign.{Assign}
 use Rattle.dx_macros.specs.Shown.{text_of}

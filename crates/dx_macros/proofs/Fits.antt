@@ -5,7 +5,7 @@ use Rattle.std.specs.List.{remove, list_any}
 use Rattle.std.proofs.lemmas.List.{length-map}
 use Rattle.std.specs.Str.{bytes_eq}
 use Rattle.dx_ast.specs.Classes.{Text}
-use Rattle.dx_macros.specs.Names.{has}
+use Rattle.dx_base.specs.NameLists.{has}
 use Rattle.dx_macros.specs.declared.fault.StaticFault.TheVariants.{TooManyArguments, NoSuchParameter, TooManyResults}
 use Rattle.dx_macros.specs.Walk.{names_fit, without, fault_of_signature, fault_of_callee, or_nesting, arg_names}
 use Rattle.dx_macros.specs.Dictionary.{Signature, CallsMacro, param_names}

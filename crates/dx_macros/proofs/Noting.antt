@@ -15,7 +15,7 @@ use mathlib.Core.Logic.{◌⊎◌, inl, inr, ⊎_elim}
 use Rattle.dx_base.specs.NameTable.{under_name, changed_at}
 use Rattle.dx_base.proofs.NameTables.{same_key}
 use Rattle.dx_ast.specs.Classes.{Text}
-use Rattle.dx_macros.specs.Names.{has}
+use Rattle.dx_base.specs.NameLists.{has}
 use Rattle.dx_macros.specs.Dictionary.{TopText, definition}
 use Rattle.dx_macros.specs.Shown.{Index, listed, index_of, with_place, noted, ArePlaces, Indexes}
 

@@ -7,7 +7,7 @@ use Rattle.dx_macros.specs.Site.{Step}
 use Rattle.dx_macros.specs.Dictionary.{Dictionary}
 use Rattle.dx_macros.specs.Walk.{Walked, Walk, and_then}
 use Rattle.dx_ast.specs.Classes.{Text}
-use Rattle.dx_macros.specs.Places.{flags}
+use Rattle.dx_base.specs.Places.{flags}
 use Rattle.dx_macros.specs.Machine as m
 use Rattle.dx_macros.specs.declared.machine.Activation.{Activation}
 use Rattle.dx_macros.specs.declared.machine.Job.{Job}

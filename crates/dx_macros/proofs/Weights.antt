@@ -15,7 +15,7 @@ use Rattle.dx_ast.specs.Syntax as plain
 use Rattle.dx_macros.specs.Dictionary.{Dictionary, definition, Callee, callee, callee_by}
 use Rattle.dx_macros.specs.DictionaryView.{dictionary_of}
 use Rattle.dx_macros.specs.Shown.{text_of}
-use Rattle.dx_macros.specs.Places.{Marks, flags}
+use Rattle.dx_base.specs.Places.{Marks, flags}
 use Rattle.dx_macros.specs.Machine as m
 use Rattle.dx_macros.specs.MachineView.{plain_job, IsPushed, PushesJob, IsEntered, IsCounted, IsLeft}
 use Rattle.dx_macros.specs.Weight.{expr_weight, call_weight, macro_weight, callee_weight, job_weight, jobs_weight, unread, chances, weight, Bounds, IsFit, FallsTo, Falls, Pays}
@@ -191,7 +191,7 @@ definition_bounded (a ∷ rest) (suc i) h = let w = definition_bounded rest i (o
 pub bounded : (d : CodeDictionary) → Bounds (dictionary_of d) (bound_of d)
 bounded d = record {
   macros = λ name x e. let w = macro_bounded d.macros.entries (λ (key : Vec ℕ Global). bytes_eq name key.items) x e in omega (arith, w);
-  definitions = λ i h. let below : i < length d.definitions = omega (arith, h, length-map d.definitions text_of) in let w = definition_bounded d.definitions i below in omega (arith, w);
+  definitions = λ i h. let below : i < length d.definitions.items = omega (arith, h, length-map d.definitions.items text_of) in let w = definition_bounded d.definitions.items i below in omega (arith, w);
 }
 
 -- ---- a job popped

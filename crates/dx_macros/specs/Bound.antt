@@ -16,4 +16,4 @@ definitions_weight [] = 0
 definitions_weight (a ∷ rest) = expr_weight (plain_expr a.value) + definitions_weight rest
 
 abbrev pub bound_of : Dictionary → ℕ
-bound_of d = macros_weight d.macros.entries + definitions_weight d.definitions
+bound_of d = macros_weight d.macros.entries + definitions_weight d.definitions.items

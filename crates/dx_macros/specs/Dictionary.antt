@@ -7,7 +7,7 @@ use Rattle.dx_ast.specs.declared.statements.Param.{Param}
 use Rattle.dx_ast.specs.Classes.{Text}
 use Rattle.dx_ast.specs.Values.{param_name}
 use Rattle.dx_ast.specs.Table.{function_named, row_of}
-use Rattle.dx_macros.specs.Names.{has}
+use Rattle.dx_base.specs.NameLists.{has}
 use Rattle.dx_ast.specs.Syntax.{Expr, Constant, CallOf, Call, Stmt, Assigns, Calls, Sequences, Macro, MakeMacro}
 
 -- a text at the top level: an assignment with its targets, or a call, which has none

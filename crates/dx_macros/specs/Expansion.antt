@@ -13,6 +13,7 @@ use Rattle.dx_ast.specs.declared.statements.Param.{Param}
 use Rattle.dx_ast.specs.Classes.{Text}
 use Rattle.dx_ast.specs.Table.{row_of}
 use Rattle.dx_ast.specs.Syntax.{Expr, Constant, Name, Frame, CallOf, Call, MakeCall, Args, NoArg, AndArg, Stmt, Assigns, Calls, Macro, MakeMacro, Stmts, NoStmt, AndStmt}
+use Rattle.dx_ast.specs.Limits.{max_macro_steps}
 use Rattle.dx_macros.specs.Names.{calls_in, calls_after}
 use Rattle.dx_macros.specs.Site.{Step, Spot, next_step, first_target}
 use Rattle.dx_macros.specs.Tree.{Place, Tree, ConstantTree, ResultTree, CallTree, TreeCall, Trees, NoTree, AndTree}
@@ -248,6 +249,6 @@ effects_among calls = filter (λ c. is_effect (function_of c)) calls
 abbrev pub effects_within : ℕ → Dictionary → Frames → Stmt → List CallTree
 effects_within steps d frames s = effects_among (kept_within steps d frames s)
 
--- the effects of a statement, in order; a site has at most 64 macro steps
+-- the effects of a statement, in order
 abbrev pub effects : Dictionary → Frames → Stmt → List CallTree
-effects d frames s = effects_within 64 d frames s
+effects d frames s = effects_within max_macro_steps d frames s

@@ -1,5 +1,4 @@
 pub mod Names
-pub mod Places
 pub mod Site
 pub mod Tree
 pub mod Dictionary
@@ -7,6 +6,7 @@ pub mod Expansion
 pub mod Walk
 pub mod Budget
 pub mod Shown
+pub mod Held
 pub mod Steps
 pub mod Machine
 pub mod DictionaryView

@@ -2,6 +2,7 @@
 use Rattle.std.specs.Prelude.{ℕ, List, [], ◌∷◌, ◌++◌}
 use Rattle.dx_ast.specs.Classes.{Text}
 use Rattle.dx_ast.specs.Syntax.{Expr, Call, Args, Stmt, Macro, Stmts, NoStmt, AndStmt}
+use Rattle.dx_ast.specs.Limits.{max_macro_steps}
 use Rattle.dx_macros.specs.Names.{calls_in, calls_of, calls_in_args, calls_after, names_after}
 use Rattle.dx_macros.specs.Site.{Step}
 use Rattle.dx_macros.specs.Dictionary.{Dictionary}
@@ -107,7 +108,7 @@ in_macro a left params step = record { base = a.base ++ step ∷ []; left = left
 
 -- the activation of a text of the top level at a place
 abbrev pub at_top : List Step → ℕ → Activation
-at_top base place = record { base = base; left = 64; place = place; own = []; before = [] }
+at_top base place = record { base = base; left = max_macro_steps; place = place; own = []; before = [] }
 
 -- only the text itself, for which none waits
 abbrev pub alone : Activation → Stack

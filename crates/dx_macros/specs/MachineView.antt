@@ -7,7 +7,7 @@ use Rattle.dx_macros.specs.declared.fault.StaticFault.{StaticFault}
 use Rattle.dx_macros.specs.Site as site
 use Rattle.dx_macros.specs.Dictionary.{Dictionary, Callee, CallsMacro, definition, param_names}
 use Rattle.dx_macros.specs.Walk.{Walk, Walked, Goes, Faulty, and_then, Fault}
-use Rattle.dx_macros.specs.Places.{Marks, flags}
+use Rattle.dx_base.specs.Places.{Marks, flags}
 use Rattle.dx_macros.specs.Machine as m
 use Rattle.dx_macros.specs.Steps.{plain_step, plain_steps}
 use Rattle.dx_macros.specs.declared.machine.Activation.{Activation}

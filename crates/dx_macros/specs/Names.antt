@@ -1,15 +1,7 @@
--- Names in lists, and the names of the calls of a text by their places.
-use Rattle.std.specs.Prelude.{ℕ, List, [], ◌∷◌, ◌++◌, count_by, Bool}
-use Rattle.std.specs.List.{list_any}
-use Rattle.std.specs.Str.{bytes_eq}
+-- The names of the calls of a text by their places, and those that a statement of a body gives a meaning.
+use Rattle.std.specs.Prelude.{List, [], ◌∷◌, ◌++◌}
 use Rattle.dx_ast.specs.Classes.{Text}
 use Rattle.dx_ast.specs.Syntax.{Expr, Constant, Name, Frame, CallOf, Call, MakeCall, Args, NoArg, AndArg, Stmt, Assigns, Calls}
-
-abbrev pub has : List Text → Text → Bool
-has names name = list_any (λ n. bytes_eq n name) names
-
-abbrev pub count : Text → List Text → ℕ
-count name names = count_by (λ n. bytes_eq n name) names
 
 -- ---- the calls of a text, by their places
 

@@ -1,9 +1,8 @@
 -- What the code's lists and tables stand for.
-use Rattle.std.specs.Prelude.{◌≡◌, ◌≤◌, ℕ, true, List, [], ◌∷◌, ◌++◌, length, map, Option, Some, None, Vec, All, if◌then◌else◌}
+use Rattle.std.specs.Prelude.{◌≡◌, ◌≤◌, ℕ, true, List, [], ◌∷◌, ◌++◌, length, take, map, Option, Some, None, Vec, All, if◌then◌else◌}
 use Rattle.std.specs.List.{Contains}
 use Rattle.std.specs.List.Sorted.{IsNonDecreasing}
 use Rattle.std.specs.Str.{bytes_eq}
-use Rattle.std.specs.Borrow.{Bor}
 use Rattle.std.specs.declared.alloc.Global.{Global}
 use Rattle.std.specs.HashMap.{HashMap}
 use Rattle.dx_base.specs.NameTable.{under_name}
@@ -12,21 +11,8 @@ use Rattle.dx_ast.specs.declared.statements.MacroDef.{MacroDef}
 use Rattle.dx_ast.specs.Classes.{Text}
 use Rattle.dx_ast.specs.Plain.{plain_expr, plain_macro}
 use Rattle.dx_ast.specs.Lawful.{IsLawfulAssign, IsLawfulMacro}
-use Rattle.dx_macros.specs.Names.{has, count}
-use Rattle.dx_macros.specs.Dictionary.{TopText, definition}
-
--- ---- names
-
-abbrev pub texts : List (Bor (List ℕ)) → List Text
-texts ns = map (λ n. n.now) ns
-
-abbrev pub or_zero : Option ℕ → ℕ
-or_zero (Some n) = n
-or_zero None = 0
-
--- under each name stands how often it is in the list
-abbrev pub IsCounted : {S : Type 0} → HashMap (Vec ℕ Global) ℕ S → List Text → Type 0
-IsCounted times names = (name : Text) → or_zero (under_name times name) ≡ count name names
+use Rattle.dx_base.specs.NameLists.{has, count}
+use Rattle.dx_macros.specs.Dictionary.{TopText, definition, last_named}
 
 -- ---- definitions and macros
 
@@ -58,6 +44,16 @@ pub record ArePlaces (places : List ℕ) (defs : List TopText) (name : Text) : T
 
 abbrev pub Indexes : Index → List TopText → Type 0
 Indexes index defs = (name : Text) → ArePlaces (index name) defs name
+
+-- the first so many definitions are in the index
+pub record IsIndexed (noted : ℕ) (index : Index) (defs : List TopText) : Type 0 where
+  pub within : noted ≤ length defs
+  pub indexes : Indexes index (take noted defs)
+
+-- the last of a name before a place; where none is found, there is none from the first place on
+abbrev pub IsLastFrom : List TopText → ℕ → ℕ → Text → Option ℕ → Type 0
+IsLastFrom defs from place name (Some i) = Some i ≡ last_named defs place name
+IsLastFrom defs from place name None = last_named defs from name ≡ last_named defs place name
 
 abbrev pub text_of : Assign → TopText
 text_of a = record { targets = a.targets; value = plain_expr a.value }

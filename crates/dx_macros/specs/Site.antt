@@ -2,7 +2,7 @@
 use Rattle.std.specs.Prelude.{ℕ, suc, List, [], ◌∷◌, ◌++◌}
 use Rattle.std.specs.Fmt.{decimal}
 use Rattle.dx_ast.specs.Classes.{Text}
-use Rattle.dx_macros.specs.Names.{count}
+use Rattle.dx_base.specs.NameLists.{count}
 
 -- the k-th call of a name in its text, or the first target of an assignment at the top level
 pub data Step : Type 0 where

@@ -3,9 +3,11 @@ use Rattle.std.specs.Prelude.{slice_index_or, slice_set, replicate, ℕ, zero, s
 use Rattle.std.specs.Str.{bytes_eq}
 use Rattle.dx_ast.specs.Classes.{Text}
 use Rattle.dx_ast.specs.Syntax.{Expr, Constant, Name, Frame, CallOf, Call, MakeCall, Args, NoArg, AndArg, Stmt, Assigns, Calls, Macro, MakeMacro, Stmts, NoStmt, AndStmt}
+use Rattle.dx_ast.specs.Limits.{max_macro_steps, max_walk_calls}
 use Rattle.dx_macros.specs.declared.fault.StaticFault.{StaticFault}
 use Rattle.dx_macros.specs.declared.fault.StaticFault.TheVariants as fault
-use Rattle.dx_macros.specs.Names.{has, calls_in, calls_after, names_after}
+use Rattle.dx_base.specs.NameLists.{has}
+use Rattle.dx_macros.specs.Names.{calls_in, calls_after, names_after}
 use Rattle.dx_macros.specs.Site.{Step, next_step, first_target}
 use Rattle.dx_macros.specs.Dictionary.{TopText, top_text, Macros, Dictionary, definition, Callee, Unknown, CallsMacro, CallsFunction, callee, param_names, Signature, signature_of_function, signature_of_macro}
 
@@ -59,7 +61,7 @@ fault_of_callee (CallsFunction f) left args targets = fault_of_signature (signat
 
 -- the fault of a call behind so many calls, where so many macro steps are left
 abbrev pub fault_of_call : ℕ → Callee → ℕ → List (Option Text) → ℕ → Option StaticFault
-fault_of_call calls c left args targets = if nat_le 65536 calls then Some fault.Calls else fault_of_callee c left args targets
+fault_of_call calls c left args targets = if nat_le max_walk_calls calls then Some fault.Calls else fault_of_callee c left args targets
 
 -- the call is counted, or ends the walk
 abbrev pub walked_by : Option StaticFault → List Step → Walk → Walked
@@ -142,7 +144,7 @@ walk_macro macros top (suc left) (MakeMacro name params results body) base w =
 -- ---- the top level
 
 abbrev pub walk_at_top : Macros → Reader → WalkUnder
-walk_at_top macros top = record { macros = macros; left = 64; enter = walk_macro macros top 64 }
+walk_at_top macros top = record { macros = macros; left = max_macro_steps; enter = walk_macro macros top max_macro_steps }
 
 abbrev pub walk_text : Macros → Reader → TopText → Walk → Walked
 walk_text macros top t w = walk_expr (walk_at_top macros top) (first_target t.targets) top [] (length t.targets) t.value w

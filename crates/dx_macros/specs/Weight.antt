@@ -3,10 +3,11 @@
 use Rattle.std.specs.Prelude.{◌≡◌, ℕ, suc, ◌+◌, ◌-◌, ◌*◌, ◌<◌, ◌≤◌, List, [], ◌∷◌, length, map, Some, Bool, true, false, Result, Ok, Err}
 use Rattle.dx_ast.specs.Classes.{Text}
 use Rattle.dx_ast.specs.Syntax.{Expr, Constant, Name, Frame, CallOf, Call, MakeCall, Args, NoArg, AndArg, Stmt, Assigns, Calls, Macro, MakeMacro, Stmts, NoStmt, AndStmt}
+use Rattle.dx_ast.specs.Limits.{max_walk_calls}
 use Rattle.dx_macros.specs.Dictionary.{Dictionary, definition, Callee, Unknown, CallsMacro, CallsFunction}
 use Rattle.dx_macros.specs.Machine.{Job, ExprJob, CallJob, ArgsJob, EnterJob, BodyJob, OwnJob, NamesJob, LeaveJob}
 use Rattle.dx_macros.specs.MachineView.{plain_job}
-use Rattle.dx_macros.specs.Places.{flags}
+use Rattle.dx_base.specs.Places.{flags}
 use Rattle.dx_macros.specs.declared.machine.Machine.{Machine}
 use Rattle.dx_macros.specs.declared.machine.Stop.{Stop}
 
@@ -67,7 +68,7 @@ unread (false ∷ rest) = suc (unread rest)
 
 -- the calls and the first readings that can still come
 abbrev pub chances : ℕ → List Bool → ℕ
-chances calls read = (65536 - calls) + unread read
+chances calls read = (max_walk_calls - calls) + unread read
 
 -- each of them can bring a macro or a definition, which weighs at most so much
 abbrev pub weight : ℕ → Machine → ℕ

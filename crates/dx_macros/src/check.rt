@@ -6,7 +6,7 @@ ghost use Rattle.dx_macros.specs.Dictionary.{of_call};
 ghost use Rattle.dx_macros.specs.DictionaryView.{dictionary_of};
 ghost use Rattle.dx_macros.specs.Machine.{do_job, at_end, alone};
 ghost use Rattle.dx_macros.specs.MachineView.{plain_activation, plain_job, means, Ends, Finds};
-ghost use Rattle.dx_macros.specs.Places.{flags};
+ghost use Rattle.dx_base.specs.Places.{flags};
 ghost use Rattle.dx_macros.specs.Shown.{text_of};
 ghost use Rattle.dx_macros.specs.Walk.{walk_of, walk_begins, fault_in, first_fault, read_in, definitions_read};
 ghost use Rattle.dx_macros.specs.Weight.{IsFit};
@@ -17,8 +17,8 @@ use crate::fault::CheckFail;
 use crate::jobs::{do_job, text_at_top};
 use crate::machine::{Activation, Job, Machine, Stop, put};
 use crate::site::site_text;
-use crate::sparse::Sparse;
 use dx_ast::{Assign, Call, Stmt};
+use dx_base::{Bytes, Sparse};
 use std::alloc::{AllocError, Global};
 
 /// Does all jobs, and answers which definitions were read.
@@ -47,7 +47,7 @@ fn begin<'a>(
     ensures fit { IfOk result (λ m. IsFit (dictionary_of d.now) m) }
     ensures means { IfOk result (λ m. means (dictionary_of d.now) m ≡ do_job (dictionary_of d.now) (plain_job job.entry) at_end (alone (plain_activation [] text.entry)) (walk_begins (dictionary_of d.now))) }
 {
-    let mut jobs = Vec::new(alloc);
+    let mut jobs: Vec<Job<'a>> = Vec::new(alloc);
     put(&mut jobs, job)?;
     Ok(Machine {
         jobs,
@@ -63,7 +63,8 @@ fn walk_call<'a>(alloc: Global, d: &'a Dictionary, c: &'a Call) -> Result<Sparse
     ensures reads { IfOk result (λ read. flags read ≡ read_in (walk_of (dictionary_of d.now) (of_call (plain_call c.now)))) }
 {
     let place = d.len();
-    let text = text_at_top(alloc, &[], place);
+    let none: &'a [Bytes] = &[];
+    let text = text_at_top(alloc, none, place);
     let m = begin(alloc, d, text, Job::Call(0, c))?;
     run(alloc, d, m)
 }

@@ -1,4 +1,5 @@
-ghost use Rattle.std.specs.Prelude.{◌≡◌, ◌<◌, length, OnOk, OnErr, option_map, IfSome};
+//! The dictionary: macros by their names, and the definitions of the top level.
+ghost use Rattle.std.specs.Prelude.{◌≡◌, ◌<◌, length, OnOk, OnErr, option_map, IfSome, IsOk};
 ghost use Rattle.dx_ast.specs.Lawful.{IsLawfulMacro, IsLawfulAssign};
 ghost use Rattle.dx_ast.specs.Plain.{plain_macro, plain_expr};
 ghost use Rattle.dx_macros.specs.Dictionary.{empty, defining, with_definition, definition, last_named};
@@ -16,11 +17,11 @@ pub struct Dictionary {
     macros: IndexMap<Vec<u8>, MacroDef>,
     definitions: Definitions,
     pub ghost lawful_macros: { ∥ AreLawfulMacros macros ∥₁ },
-    pub ghost lawful_definitions: { ∥ AreLawfulDefinitions definitions ∥₁ },
+    pub ghost lawful_definitions: { ∥ AreLawfulDefinitions definitions.items ∥₁ },
 }
 
 impl Dictionary {
-    ghost use Rattle.dx_macros.specs.DictionaryView.{dictionary_of};
+    ghost use Rattle.dx_macros.specs.DictionaryView.{dictionary_of, room_of};
 
     /// The dictionary without macros and definitions, which takes no memory.
     pub fn new(alloc: Global) -> Dictionary
@@ -38,17 +39,28 @@ impl Dictionary {
         requires { IsLawfulMacro (plain_macro m) }
         ensures ok { OnOk result (dictionary_of self.new ≡ defining (plain_macro m) (dictionary_of self.old)) }
         ensures err { OnErr result (dictionary_of self.new ≡ dictionary_of self.old) }
+        ensures room { room_of self.new ≡ room_of self.old }
     {
         let key = Vec::from_slice(self.alloc, m.name.bytes())?;
         self.macros.insert(key, m)?;
         Ok(())
     }
 
-    /// The definition joins behind the others. Where memory runs out the dictionary stays as it was.
+    /// Makes room for one more definition, and changes nothing else.
+    pub fn reserve(&mut self) -> Result<(), AllocError>
+        ensures same { dictionary_of self.new ≡ dictionary_of self.old }
+        ensures room { OnOk result (0 < room_of self.new) }
+    {
+        self.definitions.reserve()
+    }
+
+    /// The definition joins behind the others. Where memory runs out the dictionary stays as it was; where there is room it
+    /// doesn't.
     pub fn add(&mut self, s: Assign) -> Result<(), AllocError>
         requires { IsLawfulAssign s.targets (plain_expr s.value) }
         ensures ok { OnOk result (dictionary_of self.new ≡ with_definition (text_of s) (dictionary_of self.old)) }
         ensures err { OnErr result (dictionary_of self.new ≡ dictionary_of self.old) }
+        ensures room { 0 < room_of self.old → IsOk result }
     {
         self.definitions.push(self.alloc, s)
     }

@@ -3,13 +3,14 @@ ghost use Rattle.std.specs.Prelude.{◌≡◌, ◌∷◌, ◌++◌, ◌<◌, ◌
 ghost use Rattle.dx_ast.specs.Plain.{plain_expr, plain_call, plain_args, plain_macro, plain_stmts};
 ghost use Rattle.dx_ast.specs.declared.expressions.Call.{out-Call};
 ghost use Rattle.dx_ast.specs.declared.statements.MacroDef.{out-MacroDef};
+ghost use Rattle.dx_ast.specs.Limits.{max_walk_calls};
 ghost use Rattle.dx_macros.specs.Dictionary.{param_names};
 ghost use Rattle.dx_macros.specs.DictionaryView.{dictionary_of};
 ghost use Rattle.dx_macros.specs.CalleeView.{plain_callee};
 ghost use Rattle.dx_macros.specs.Steps.{plain_step};
 ghost use Rattle.dx_macros.specs.Machine.{ExprJob, CallJob, ArgsJob, EnterJob, BodyJob, OwnJob, NamesJob};
 ghost use Rattle.dx_macros.specs.MachineView.{BeginsAtTop, BeginsIn, stack_now, plain_job, means, Continues, job_first, name_first, definition_first, accepted, FaultIs};
-ghost use Rattle.dx_macros.specs.Places.{flags};
+ghost use Rattle.dx_base.specs.Places.{flags};
 ghost use Rattle.dx_macros.specs.Weight.{expr_weight, call_weight, args_weight, body_weight, macro_weight, callee_weight, job_weight, Falls, Pays};
 
 use crate::callee::{Callee, called};
@@ -19,11 +20,10 @@ use crate::machine::{
     Activation, Job, Machine, Reached, Stop, base, counted, enter, is_own, is_read, leave, mark,
     push,
 };
-use crate::names::Names;
 use crate::signature::fault_of_call;
 use crate::site::Step;
 use dx_ast::{Arg, Assign, Call, Expr, MacroDef, Param, Stmt};
-use dx_base::Bytes;
+use dx_base::{Bytes, Names};
 use std::alloc::{AllocError, Global};
 
 fn do_args<'a>(d: &'a Dictionary, m: &mut Machine<'a>, args: &'a [Arg]) -> Result<(), Stop<'a>>
@@ -204,7 +204,7 @@ fn accept<'a>(
     step: Step<'a>,
     c: &'a Call,
 ) -> Result<(), Stop<'a>>
-    requires { m.old.calls < 65536 }
+    requires { m.old.calls < max_walk_calls }
     ensures continues { Continues (accepted (dictionary_of d.now) (plain_callee callee.entry) (plain_step step.entry) (out-Call c.now).name (plain_args (out-Call c.now).args) m.old) result (means (dictionary_of d.now) m.new) }
     ensures pays { Pays (dictionary_of d.now) (args_weight (plain_args (out-Call c.now).args) + callee_weight (plain_callee callee.entry)) m.old result m.new }
 {

@@ -9,18 +9,13 @@ mod dictionary;
 mod fault;
 mod jobs;
 mod machine;
-mod names;
 mod signature;
 mod site;
-mod sparse;
-#[cfg(test)]
-mod sparse_tests;
 
 pub use budget::no_budget_runs_out;
 pub use callee::{Callee, called};
 pub use dictionary::Dictionary;
+pub use dx_base::{Names, Sparse};
 pub use fault::{CheckFail, StaticFault};
 pub use jobs::MAX_STEPS;
-pub use names::Names;
 pub use site::{Step, site_text};
-pub use sparse::Sparse;

@@ -1,17 +1,16 @@
 //! The walk under way: the texts that are walked, the jobs that are left, and what was counted and read so far.
 ghost use Rattle.std.specs.Prelude.{◌≡◌, ◌<◌, ◌∷◌, ◌++◌, [], OnOk, IfOk, slice_set, slice_index_or, true, false};
+ghost use Rattle.dx_ast.specs.Limits.{max_walk_calls};
 ghost use Rattle.dx_macros.specs.Dictionary.{param_names};
 ghost use Rattle.dx_macros.specs.MachineView.{PushesJob, Enters, IsLeft, CountsCall, steps_to, base_of, waiting_above};
-ghost use Rattle.dx_macros.specs.Names.{has};
-ghost use Rattle.dx_macros.specs.Places.{flags};
+ghost use Rattle.dx_base.specs.NameLists.{has};
+ghost use Rattle.dx_base.specs.Places.{flags};
 ghost use Rattle.dx_macros.specs.Steps.{plain_steps};
 
 use crate::fault::StaticFault;
-use crate::names::Names;
 use crate::site::Step;
-use crate::sparse::Sparse;
 use dx_ast::{Arg, Call, Expr, MacroDef, Param, Stmt};
-use dx_base::Bytes;
+use dx_base::{Bytes, Names, Sparse};
 use std::alloc::{AllocError, Global};
 use std::mem;
 
@@ -133,7 +132,7 @@ pub fn leave<'a>(m: &mut Machine<'a>)
 
 /// A call is counted, and its name stands before what follows.
 pub fn counted<'a>(m: &mut Machine<'a>, name: &'a [u8]) -> Result<(), Stop<'a>>
-    requires { m.old.calls < 65536 }
+    requires { m.old.calls < max_walk_calls }
     ensures { CountsCall m.old name.now result m.new }
 {
     m.calls += 1;

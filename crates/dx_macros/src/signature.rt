@@ -3,9 +3,10 @@ ghost use Rattle.std.specs.Prelude.{◌≡◌, None, map, length, IfOk, nat_lt, 
 ghost use Rattle.std.specs.List.{list_any};
 ghost use Rattle.dx_ast.specs.Table.{row_of};
 ghost use Rattle.dx_ast.specs.Plain.{plain_args, plain_macro};
+ghost use Rattle.dx_ast.specs.Limits.{max_walk_calls};
 ghost use Rattle.dx_macros.specs.CalleeView.{plain_callee, place_of, UsesOne, FaultOfCounts};
 ghost use Rattle.dx_macros.specs.Dictionary.{param_names, CallsMacro, signature_of_function};
-ghost use Rattle.dx_macros.specs.Shown.{texts};
+ghost use Rattle.dx_base.specs.NameLists.{texts};
 ghost use Rattle.dx_macros.specs.Walk.{names_fit, arg_names, fault_of_signature, fault_of_callee, fault_of_call};
 
 use crate::callee::Callee;
@@ -190,7 +191,7 @@ pub fn fault_of_call<'a>(
     args: &[Arg],
     targets: usize,
 ) -> Result<Option<StaticFault>, AllocError>
-    ensures counted { IfOk result (λ f. f ≡ None → calls < 65536) }
+    ensures counted { IfOk result (λ f. f ≡ None → calls < max_walk_calls) }
     ensures fault { IfOk result (λ f. f ≡ fault_of_call calls (plain_callee callee.entry) left (arg_names (plain_args args.now)) targets) }
 {
     if calls >= MAX_CALLS {

@@ -3,7 +3,7 @@ use Rattle.std.specs.Prelude.{ℕ, ◌+◌, ◌≤◌, max}
 use Rattle.std.proofs.Common.{arith}
 use Rattle.dx_base.specs.Object.{PartList}
 use Rattle.dx_objects.specs.declared.object.Body.{Body}
-use Rattle.dx_objects.specs.declared.object.Body.TheVariants.{Array, Text, Field, Group, Series}
+use Rattle.dx_objects.specs.declared.object.Body.TheVariants.{Array, Text, Field, Group, Composite, Series}
 use Rattle.dx_objects.specs.declared.object.Object.TheDeep.{deep-Body}
 use Rattle.dx_objects.specs.View.{tree_of}
 use Rattle.dx_objects.specs.Nodes.{nodes, all_nodes}
@@ -13,4 +13,5 @@ deep-le-nodes (Array a) xs = omega arith
 deep-le-nodes (Text b) xs = omega arith
 deep-le-nodes (Field ps) xs = omega arith
 deep-le-nodes (Group ps) xs = omega arith
+deep-le-nodes (Composite ps) xs = omega arith
 deep-le-nodes (Series ps) xs = omega arith

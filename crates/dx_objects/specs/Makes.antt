@@ -1,15 +1,16 @@
 -- What a maker of objects answers.
 use Rattle.std.specs.Prelude.{◌≡◌, not, if◌then◌else◌, Option, Some, None, Result, Ok, Err}
 use Rattle.dx_base.specs.Object.{Tree}
-use Rattle.dx_base.specs.ObjectLimits.{has_good_names, has_array_components, fits}
+use Rattle.dx_base.specs.ObjectLimits.{has_good_names, has_array_components, has_field_members, fits}
 use Rattle.dx_objects.specs.declared.makers.ObjectError.{ObjectError}
-use Rattle.dx_objects.specs.declared.makers.ObjectError.TheVariants.{TooLarge, BadNames, NotAnArray}
+use Rattle.dx_objects.specs.declared.makers.ObjectError.TheVariants.{TooLarge, BadNames, NotAnArray, MemberNotAField}
 
 -- why a tree is no object, if it is none: the first of these
 abbrev pub refusal : Tree → Option ObjectError
 refusal t =
     if not (has_good_names t) then Some BadNames
     else if not (has_array_components t) then Some NotAnArray
+    else if not (has_field_members t) then Some MemberNotAField
     else if fits t then None
     else Some TooLarge
 

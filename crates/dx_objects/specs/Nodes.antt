@@ -1,6 +1,6 @@
 -- A size of trees by which each part is smaller than its whole.
 use Rattle.std.specs.Prelude.{ℕ, ◌+◌, suc}
-use Rattle.dx_base.specs.Object.{Tree, PartList, array, text, field, group, series, no_parts, part}
+use Rattle.dx_base.specs.Object.{Tree, PartList, array, text, field, group, composite, series, no_parts, part}
 
 abbrev mutual
   pub nodes : Tree → ℕ
@@ -8,6 +8,7 @@ abbrev mutual
   nodes (text b xs) = suc (all_nodes xs)
   nodes (field ps xs) = suc (all_nodes ps + all_nodes xs)
   nodes (group ps xs) = suc (all_nodes ps + all_nodes xs)
+  nodes (composite ps xs) = suc (all_nodes ps + all_nodes xs)
   nodes (series ps xs) = suc (all_nodes ps + all_nodes xs)
 
   pub all_nodes : PartList → ℕ

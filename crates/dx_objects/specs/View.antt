@@ -1,16 +1,17 @@
 -- The tree that an object's fields stand for, and what holds of the numbers that it keeps.
 use Rattle.std.specs.Prelude.{◌≡◌, ℕ}
 use Rattle.dx_base.specs.ArrayLimits.{IsLawfulArray}
-use Rattle.dx_base.specs.Object.{Tree, PartList, array, text, field, group, series, size, count, levels}
+use Rattle.dx_base.specs.Object.{Tree, PartList, array, text, field, group, composite, series, size, count, levels}
 use Rattle.dx_base.specs.ObjectLimits.{IsLawful, AreLawful, AreBytes}
 use Rattle.dx_objects.specs.declared.object.Body.{Body}
-use Rattle.dx_objects.specs.declared.object.Body.TheVariants.{Array, Text, Field, Group, Series}
+use Rattle.dx_objects.specs.declared.object.Body.TheVariants.{Array, Text, Field, Group, Composite, Series}
 
 abbrev pub tree_of : Body → PartList → Tree
 tree_of (Array a) xs = array a xs
 tree_of (Text b) xs = text b xs
 tree_of (Field ps) xs = field ps xs
 tree_of (Group ps) xs = group ps xs
+tree_of (Composite ps) xs = composite ps xs
 tree_of (Series ps) xs = series ps xs
 
 -- the kept numbers are those of the tree, and it is an object that can be made
@@ -26,4 +27,5 @@ IsLawfulBelow (array a xs) = IsLawfulArray a × AreLawful xs
 IsLawfulBelow (text b xs) = AreBytes b × AreLawful xs
 IsLawfulBelow (field ps xs) = AreLawful ps × AreLawful xs
 IsLawfulBelow (group ps xs) = AreLawful ps × AreLawful xs
+IsLawfulBelow (composite ps xs) = AreLawful ps × AreLawful xs
 IsLawfulBelow (series ps xs) = AreLawful ps × AreLawful xs

@@ -1,13 +1,13 @@
 ghost use Rattle.std.specs.Prelude.{◌≡◌, ◌≤◌, ◌<◌, None, Some, MatchOption};
 ghost use Rattle.dx_base.specs.Object as spec;
-ghost use Rattle.dx_base.specs.ObjectLimits.{is_array as spec_is_array, IsLawful, max_size, max_count};
-ghost use Rattle.dx_objects.specs.Kinds.{kind_of, text_of, array_of};
+ghost use Rattle.dx_base.specs.ObjectLimits.{is_array as spec_is_array, is_field as spec_is_field, IsLawful, max_size, max_count};
+ghost use Rattle.dx_objects.specs.Kinds.{kind_of, is_composite as spec_is_composite, text_of, array_of};
 ghost use Rattle.dx_objects.specs.Shown.{parts_of};
 
 use crate::object::{Body, Object, Part};
 use dx_arrays::Array;
 
-/// What an object is.
+/// What an object is. A composite group is a group.
 #[derive(Clone, Copy, Debug, PartialEq, Eq)]
 pub enum Kind {
     Array,
@@ -25,8 +25,18 @@ impl Object {
             Body::Array(_) => Kind::Array,
             Body::Text(_) => Kind::Text,
             Body::Field(_) => Kind::Field,
-            Body::Group(_) => Kind::Group,
+            Body::Group(_) | Body::Composite(_) => Kind::Group,
             Body::Series(_) => Kind::Series,
+        }
+    }
+
+    /// Whether it is a composite group, whose members are all fields.
+    pub fn is_composite(&self) -> bool
+        ensures { result ≡ spec_is_composite self.now }
+    {
+        match &self.body {
+            Body::Composite(_) => true,
+            _ => false,
         }
     }
 
@@ -53,7 +63,10 @@ impl Object {
         ensures { parts_of result.now ≡ spec.parts self.now }
     {
         match &self.body {
-            Body::Field(parts) | Body::Group(parts) | Body::Series(parts) => parts.as_slice(),
+            Body::Field(parts)
+            | Body::Group(parts)
+            | Body::Composite(parts)
+            | Body::Series(parts) => parts.as_slice(),
             _ => &[],
         }
     }
@@ -69,6 +82,15 @@ impl Object {
     {
         match &self.body {
             Body::Array(_) => true,
+            _ => false,
+        }
+    }
+
+    pub(crate) fn is_field(&self) -> bool
+        ensures { result ≡ spec_is_field self.now }
+    {
+        match &self.body {
+            Body::Field(_) => true,
             _ => false,
         }
     }

@@ -22,7 +22,7 @@ impl Object {
         ensures { MatchOption result (spec_names.member name.now self.now ≡ None) (λ o. spec_names.member name.now self.now ≡ Some o.now.value) }
     {
         match &self.body {
-            Body::Group(parts) => find(name, parts.as_slice()),
+            Body::Group(parts) | Body::Composite(parts) => find(name, parts.as_slice()),
             _ => None,
         }
     }

@@ -1,10 +1,10 @@
 ghost use Rattle.std.specs.Prelude.{◌≡◌};
 ghost use Rattle.dx_base.specs.Object as spec;
-ghost use Rattle.dx_base.specs.ObjectLimits.{unplaced, has_good_names as spec_good_names, has_array_components as spec_array_components, HasNoPositions};
+ghost use Rattle.dx_base.specs.ObjectLimits.{unplaced, has_good_names as spec_good_names, has_array_components as spec_array_components, has_field_members as spec_field_members, HasNoPositions};
 ghost use Rattle.dx_objects.specs.View.{tree_of};
 ghost use Rattle.dx_objects.specs.Makes.{Makes};
 
-use crate::names::{are_all_arrays, are_all_named, do_differ, is_none_named};
+use crate::names::{are_all_arrays, are_all_fields, are_all_named, do_differ, is_none_named};
 use crate::object::{Body, Object, Parts};
 use dx_arrays::Array;
 use dx_base::Bytes;
@@ -19,8 +19,8 @@ pub(crate) const MAX_COUNT: u64 = 1_048_576;
 /// The greatest stated size in bytes.
 pub(crate) const MAX_SIZE: u64 = 268_435_456;
 
-/// Why no object is made. Where several reasons stand together, the answer is the first of `BadNames`, `NotAnArray` and
-/// `TooLarge`.
+/// Why no object is made. Where several reasons stand together, the answer is the first of `BadNames`, `NotAnArray`,
+/// `MemberNotAField` and `TooLarge`.
 #[derive(Clone, Copy, Debug, PartialEq, Eq, Error)]
 pub enum ObjectError {
     /// The object has more levels, is more objects or states more bytes than an object may.
@@ -32,6 +32,9 @@ pub enum ObjectError {
     /// A component is no array.
     #[error("a component is no array")]
     NotAnArray,
+    /// A member of a composite group is no field.
+    #[error("a member of a composite group is no field")]
+    MemberNotAField,
 }
 
 impl Object {
@@ -63,6 +66,13 @@ impl Object {
         Object::make(Body::Group(parts.unplaced()), attrs.unplaced())
     }
 
+    /// A composite group of these members, each of which is a field. Positions of members and attributes become 0.
+    pub fn composite(parts: Parts, attrs: Parts) -> Result<Object, ObjectError>
+        ensures { Makes (spec.composite (unplaced parts) (unplaced attrs)) result }
+    {
+        Object::make(Body::Composite(parts.unplaced()), attrs.unplaced())
+    }
+
     /// A series of these members. Positions of attributes become 0.
     pub fn series(parts: Parts, attrs: Parts) -> Result<Object, ObjectError>
         ensures { Makes (spec.series parts (unplaced attrs)) result }
@@ -80,6 +90,9 @@ impl Object {
         }
         if !body.has_array_components(&attributes) {
             return Err(ObjectError::NotAnArray);
+        }
+        if !body.has_field_members(&attributes) {
+            return Err(ObjectError::MemberNotAField);
         }
         let sums = body.sums(&attributes);
         if sums.levels > MAX_LEVELS || sums.count > MAX_COUNT || sums.size > MAX_SIZE {
@@ -103,7 +116,7 @@ impl Body {
         let are_parts_good = match self {
             Body::Array(_) | Body::Text(_) => true,
             Body::Field(parts) => are_all_named(parts.as_slice()) && do_differ(parts.as_slice()),
-            Body::Group(parts) => do_differ(parts.as_slice()),
+            Body::Group(parts) | Body::Composite(parts) => do_differ(parts.as_slice()),
             Body::Series(parts) => is_none_named(parts.as_slice()),
         };
         are_parts_good && are_all_named(attributes.as_slice()) && do_differ(attributes.as_slice())
@@ -114,6 +127,15 @@ impl Body {
     {
         match self {
             Body::Field(parts) => are_all_arrays(parts.as_slice()),
+            _ => true,
+        }
+    }
+
+    fn has_field_members(&self, attributes: &Parts) -> bool
+        ensures { result ≡ spec_field_members (tree_of self.now attributes.now) }
+    {
+        match self {
+            Body::Composite(parts) => are_all_fields(parts.as_slice()),
             _ => true,
         }
     }

@@ -77,3 +77,15 @@ pub(crate) fn are_all_arrays(parts: &[Part]) -> bool
     }
     true
 }
+
+/// Whether each part is a field.
+pub(crate) fn are_all_fields(parts: &[Part]) -> bool
+    ensures { result ≡ limits.all_fields (parts_of parts.now) }
+{
+    for part in parts {
+        if !part.object.is_field() {
+            return false;
+        }
+    }
+    true
+}

@@ -54,6 +54,7 @@ pub(crate) enum Body {
     Text(Bytes),
     Field(Parts),
     Group(Parts),
+    Composite(Parts),
     Series(Parts),
 }
 

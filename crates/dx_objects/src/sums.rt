@@ -114,7 +114,10 @@ impl Body {
                 rest.with_own(array.size())
             }
             Body::Text(text) => rest.with_own(byte_count(text.bytes()).saturating_add(64)),
-            Body::Field(parts) | Body::Group(parts) => parts.sums().and(rest).with_own(64),
+            Body::Field(parts) | Body::Group(parts) | Body::Composite(parts) => parts
+                .sums()
+                .and(rest)
+                .with_own(64),
             Body::Series(parts) => {
                 let positions = (parts.len() as u64).saturating_mul(4);
                 parts

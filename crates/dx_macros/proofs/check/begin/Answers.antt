@@ -5,9 +5,9 @@ use Rattle.dx_macros.specs.DictionaryView.{dictionary_of}
 use Rattle.dx_macros.specs.Walk.{Walk}
 use Rattle.dx_macros.specs.Machine.{do_job, at_end, rest_of, alone}
 use Rattle.dx_macros.specs.MachineView.{plain_activation, stacked, plain_job}
-use Rattle.dx_macros.specs.Places.{Marks, flags}
+use Rattle.dx_base.specs.Places.{Marks, flags}
 use Rattle.dx_macros.specs.declared.machine.Job.{Job}
-use Rattle.dx_macros.proofs.AtPlaces.{none_marked}
+use Rattle.dx_base.proofs.AtPlaces.{none_marked}
 use Rattle.dx_macros.proofs.check.begin.Goals as goal
 
 pub returns-clause-means : goal.returns-clause-means

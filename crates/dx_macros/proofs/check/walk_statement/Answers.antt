@@ -2,9 +2,9 @@ use Rattle.std.proofs.Common.{◌∙◌, ℕ, Option, false, ap, sym}
 use Rattle.std.specs.Prelude.{replicate}
 use Rattle.dx_macros.specs.Dictionary.{TopText}
 use Rattle.dx_macros.specs.DictionaryView.{dictionary_of}
-use Rattle.dx_macros.specs.Places.{flags}
+use Rattle.dx_base.specs.Places.{flags}
 use Rattle.dx_macros.specs.Walk.{walk_by, read_in, fault_of_text}
-use Rattle.dx_macros.proofs.AtPlaces.{none_marked}
+use Rattle.dx_base.proofs.AtPlaces.{none_marked}
 use Rattle.dx_macros.proofs.Doing.{no_text}
 use Rattle.dx_macros.proofs.check.walk_statement.Goals as goal
 

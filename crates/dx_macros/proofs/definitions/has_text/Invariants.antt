@@ -1,5 +1,5 @@
 use Rattle.std.proofs.Common.{◌≡◌, drop}
-use Rattle.dx_macros.specs.Names.{has}
+use Rattle.dx_base.specs.NameLists.{has}
 use Rattle.dx_macros.proofs.definitions.has_text.Given as goal
 
 abbrev pub invariant-loop-n : goal.invariant-loop-n

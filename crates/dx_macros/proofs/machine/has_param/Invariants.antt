@@ -1,6 +1,6 @@
 use Rattle.std.proofs.Common.{◌≡◌, drop}
 use Rattle.dx_macros.specs.Dictionary.{param_names}
-use Rattle.dx_macros.specs.Names.{has}
+use Rattle.dx_base.specs.NameLists.{has}
 use Rattle.dx_macros.proofs.machine.has_param.Given as goal
 
 abbrev pub invariant-loop-p : goal.invariant-loop-p

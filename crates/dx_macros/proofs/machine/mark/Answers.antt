@@ -1,7 +1,7 @@
 use Rattle.std.proofs.Common.{◌∙◌, ap, Some}
 use Rattle.std.specs.Prelude.{is_some}
 use Rattle.std.proofs.lemmas.List.{map-set}
-use Rattle.dx_macros.specs.Places.{flags}
+use Rattle.dx_base.specs.Places.{flags}
 use Rattle.dx_macros.proofs.Defining.{on_ok}
 use Rattle.dx_macros.proofs.machine.mark.Goals as goal
 

@@ -12,7 +12,7 @@ in_type c =
     let cs : List ℕ = c.args.counts.items in
     let grid : is_grid cs ≡ true = search rules in
     let few : length cs ≤ 3 = grind (arith, common_steps, grid) in
-    let items : product (cells cs) ≤ 4194304 = grind (arith, c.has_room.ensures.items, c.cell_count-items.ensures) in
+    let items : product (cells cs) ≤ 16777216 = grind (arith, c.has_room.ensures.items, c.cell_count-items.ensures) in
     connections_in_type cs few items
 
 pub invariant_of-result : goal.invariant_of-result

@@ -19,6 +19,6 @@ invariant_of-self c = record {
 pub returns-clause-ok : goal.returns-clause-ok
 returns-clause-ok c =
     let old = c.args.self.now in
-    let with : Macros → Dictionary = λ macros. record { macros = macros; definitions = map text_of old.definitions } in
+    let with : Macros → Dictionary = λ macros. record { macros = macros; definitions = map text_of old.definitions.items } in
     ap with (macros_changed (under_name old.macros) (under_name c.insert.new.self) c.bytes.result.now c.args.m c.bytes.ensures
     (under_changed old.macros c.insert.new.self c.bytes.result.now (Some c.args.m) c.in_ok-key.key c.in_ok-key.ensures.items c.in_ok-insert.ensures.updates))
