@@ -1,3 +1,4 @@
+//! The texts of the top level: a statement, and before it the definitions that it reads.
 ghost use Rattle.std.specs.Prelude.{◌≡◌, ◌<◌, ◌++◌, length, Some, None, IfOk, OnOk, replicate};
 ghost use Rattle.dx_ast.specs.Lawful.{IsLawful, IsLawfulExpr, IsLawfulCall};
 ghost use Rattle.dx_ast.specs.Plain.{plain_expr, plain_call, plain_stmt};
@@ -5,7 +6,7 @@ ghost use Rattle.dx_macros.specs.Checking.{Checks};
 ghost use Rattle.dx_macros.specs.Dictionary.{TopText, top_text, of_call, definition};
 ghost use Rattle.dx_macros.specs.DictionaryView.{dictionary_of};
 ghost use Rattle.dx_macros.specs.Expansion.{top_spot, effects};
-ghost use Rattle.dx_macros.specs.Places.{flags};
+ghost use Rattle.dx_base.specs.Places.{flags};
 ghost use Rattle.dx_macros.specs.Shown.{text_of};
 ghost use Rattle.dx_macros.specs.Walk.{first_fault};
 ghost use Rattle.dx_graph.specs.Trails.{IsTrail, spot_under};
@@ -22,8 +23,8 @@ use crate::graph::Graph;
 use crate::operand::Results;
 use crate::text::{Text, World};
 use dx_ast::{Assign, Call, Frames, Stmt};
-use dx_base::Bytes;
-use dx_macros::{CheckFail, Dictionary, MAX_STEPS, Names, Sparse};
+use dx_base::{Bytes, Names, Sparse};
+use dx_macros::{CheckFail, Dictionary, MAX_STEPS};
 use indexmap::IndexMap;
 use std::alloc::{AllocError, Global};
 
