@@ -75,7 +75,7 @@ fn expand_assign<'a>(
 {
     let trail = first_trail(w.alloc, graph, a.targets.as_slice())?;
     let text = text_at_top(w, trail, place);
-    let mut before = Names::new(w.alloc);
+    let mut before: Names<'a> = Names::new(w.alloc);
     expand_expr(w, &text, graph, &mut before, &a.value)
 }
 
@@ -93,7 +93,7 @@ fn expand_top_call<'a>(
     ensures expands { IfOk result (λ r. Expands (top_expanded w.now place (of_call (plain_call c.now))) graph.old graph.new r) }
 {
     let text = text_at_top(w, None, place);
-    let mut before = Names::new(w.alloc);
+    let mut before: Names<'a> = Names::new(w.alloc);
     expand_call(w, &text, graph, &mut before, c)
 }
 
@@ -191,10 +191,10 @@ fn new_world<'a>(alloc: Global, d: &'a Dictionary, f: &Frames) -> World<'a>
 
 /// The first static fault of a statement, as `check` answers it; where there is none its expansion, as `expand` does. The
 /// statement and the definitions that it reads are walked once.
-pub fn check_and_expand(
+pub fn check_and_expand<'a>(
     alloc: Global,
-    d: &Dictionary,
-    s: &Stmt,
+    d: &'a Dictionary,
+    s: &'a Stmt,
     f: &Frames,
 ) -> Result<Graph, CheckFail>
     requires lawful { IsLawful (plain_stmt s.now) }
@@ -202,7 +202,7 @@ pub fn check_and_expand(
     ensures means { IfOk result (λ g. unfolded (graph_of g) ≡ effects (dictionary_of d.now) f.now (plain_stmt s.now)) }
 {
     let marks = d.walk(alloc, s)?;
-    let mut w = new_world(alloc, d, f);
+    let mut w: World<'a> = new_world(alloc, d, f);
     let mut graph = Graph::new(alloc);
     define_marked(&mut w, &mut graph, &marks)?;
     expand_last(&w, &mut graph, s, d.len())?;
