@@ -66,8 +66,8 @@ defined_lawful (a ∷ ds) (suc i) h all = defined_lawful ds i (omega (arith, h))
 
 pub value_lawful : (d : Dictionary) (i : ℕ) (a : Assign) → i < length (dictionary_of d).definitions → text_of a ≡ definition (dictionary_of d).definitions i → ∥ IsLawfulExpr (plain_expr a.value) ∥₁
 value_lawful d i a h e =
-    let below : i < length d.definitions = omega (arith, h, length-map d.definitions text_of) in
-    ∥∥₁_map d.lawful_definitions (λ all. subst (λ (t : TopText). IsLawfulExpr t.value) (sym e) (defined_lawful d.definitions i below all))
+    let below : i < length d.definitions.items = omega (arith, h, length-map d.definitions.items text_of) in
+    ∥∥₁_map d.lawful_definitions (λ all. subst (λ (t : TopText). IsLawfulExpr t.value) (sym e) (defined_lawful d.definitions.items i below all))
 
 pub defined : (w : World) (i : ℕ) (a : Assign) (old new : Graph) (r : Results) → text_of a ≡ definition (dictionary_in w).definitions i → Expands (top_expanded w i (text_of a)) old new r → Gives (graph_of new).nodes r (top_results w i)
 unfolding top_results

@@ -16,7 +16,8 @@ use Rattle.dx_ast.proofs.PlainLaws.{plain_call_out, plain_macro_out}
 use Rattle.dx_macros.specs.Dictionary.{Callee, Unknown, CallsMacro, CallsFunction, callee}
 use Rattle.dx_macros.specs.Expansion as plain
 use Rattle.dx_macros.specs.Expansion.{Expanded, ArgsExpanded, Scope, effects_among}
-use Rattle.dx_macros.specs.Names.{calls_in, calls_of, calls_in_args, calls_after, count}
+use Rattle.dx_base.specs.NameLists.{count}
+use Rattle.dx_macros.specs.Names.{calls_in, calls_of, calls_in_args, calls_after}
 use Rattle.dx_macros.specs.Site.{Spot, Step, Nth, next_step}
 use Rattle.dx_ast.specs.Table.{row_of}
 use Rattle.dx_base.specs.NameTable.{under_name}

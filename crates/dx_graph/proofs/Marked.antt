@@ -19,7 +19,7 @@ use Rattle.dx_macros.specs.Walk.{Walk, Walked, Goes, Faulty, walk_text, walk_of,
 use Rattle.dx_macros.proofs.BudgetLaw.{goes_of, none_marked}
 use Rattle.dx_graph.proofs.Marks.{text_marks, reader_marks}
 use Rattle.dx_macros.specs.DictionaryView.{dictionary_of}
-use Rattle.dx_macros.specs.Places.{Marks, flags}
+use Rattle.dx_base.specs.Places.{Marks, flags}
 use Rattle.dx_graph.specs.Driving.{SameWorld, Learned}
 use Rattle.dx_graph.specs.Expanding.{dictionary_in}
 use Rattle.dx_graph.specs.Marks.{Memo, Grown, IsWalked, WalkedWithin, top_reader, TopWalked, AreWalked, HaveResults, definition_walk}

@@ -5,7 +5,8 @@ use Rattle.std.proofs.lemmas.List.{length-set, get_or-set_same}
 use Rattle.dx_ast.specs.Classes.{Text}
 use Rattle.dx_ast.specs.Syntax.{Expr, Constant, Name, Frame, CallOf, Call, MakeCall, Args, NoArg, AndArg, Stmt, Assigns, Calls, Defines, Includes as Including, Sets, Says, Sequences, Macro, MakeMacro, Stmts, NoStmt, AndStmt}
 use Rattle.dx_macros.specs.Site.{Step, next_step, first_target}
-use Rattle.dx_macros.specs.Names.{has, calls_in, calls_after, names_after}
+use Rattle.dx_base.specs.NameLists.{has}
+use Rattle.dx_macros.specs.Names.{calls_in, calls_after, names_after}
 use Rattle.dx_macros.specs.Dictionary.{TopText, Macros, Callee, Unknown, CallsMacro, CallsFunction, callee, definition, last_named, param_names}
 use Rattle.dx_macros.specs.Walk.{Walk, Walked, Goes, Faulty, and_then, fault_of_call, walked_by, arg_names, WalkUnder, Reader, enter_callee, walk_expr, walk_call, walk_args, walk_statement, walk_body, read_all, beside, pick, walk_macro, walk_at_top, walk_text, read_definition, reader_at}
 use Rattle.dx_macros.proofs.BudgetLaw.{goes_inv, walked_inv, marked}

@@ -17,7 +17,8 @@ use Rattle.dx_ast.specs.declared.statements.Stmt.{Stmt}
 use Rattle.dx_ast.specs.declared.statements.Stmt.TheVariants as stmt
 use Rattle.dx_ast.specs.declared.statements.MacroDef.{MacroDef, out-MacroDef}
 use Rattle.dx_macros.specs.Site.{Step, next_step, first_target}
-use Rattle.dx_macros.specs.Names.{has, calls_in, calls_after, names_after}
+use Rattle.dx_base.specs.NameLists.{has}
+use Rattle.dx_macros.specs.Names.{calls_in, calls_after, names_after}
 use Rattle.dx_macros.specs.Dictionary.{TopText, Macros, Callee, CallsMacro, callee, param_names, last_named}
 use Rattle.dx_macros.specs.Walk.{Walk, Walked, Goes, and_then, fault_of_call, walked_by, arg_names, WalkUnder, Reader, enter_callee, walk_expr, walk_call, walk_args, walk_statement, walk_body, read_all, beside, walk_macro}
 use Rattle.dx_macros.proofs.Doing.{stmt_call, stmt_assign}

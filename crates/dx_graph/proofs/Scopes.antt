@@ -7,7 +7,7 @@ use Rattle.std.proofs.lemmas.List.{drop_more}
 use Rattle.dx_ast.specs.Classes.{Text}
 use Rattle.dx_ast.specs.declared.statements.Param.{Param}
 use Rattle.dx_macros.specs.Expansion as plain
-use Rattle.dx_macros.specs.Names.{has}
+use Rattle.dx_base.specs.NameLists.{has}
 use Rattle.dx_macros.specs.Tree.{Tree}
 use Rattle.dx_graph.specs.Expanding.{last_target}
 use Rattle.dx_graph.specs.Graph.{Node}

@@ -3,7 +3,7 @@ use Rattle.std.proofs.Common.{◌≡◌, ℕ, zero, suc, ◌<◌, List, Some, No
 use Rattle.std.specs.Prelude.{if◌then◌else◌}
 use Rattle.dx_ast.specs.declared.sequencing.Frames.{Frames}
 use Rattle.dx_ast.specs.Classes.{Text}
-use Rattle.dx_macros.specs.Names.{has}
+use Rattle.dx_base.specs.NameLists.{has}
 use Rattle.dx_macros.specs.Dictionary.{TopText, Macros, definition}
 use Rattle.dx_macros.specs.Dictionary.{last_named}
 use Rattle.dx_macros.specs.Expansion.{Scope, null_tree, scope_within, expand_within}

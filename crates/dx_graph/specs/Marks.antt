@@ -3,7 +3,7 @@ use Rattle.std.specs.Prelude.{◌≡◌, ◌⊎◌, ◌<◌, ◌≤◌, ℕ, Lis
 use Rattle.dx_base.specs.NameTable.{under_name}
 use Rattle.dx_ast.specs.Classes.{Text as Name}
 use Rattle.dx_ast.specs.Syntax.{Expr, Call, Args, Stmt, Stmts, Macro}
-use Rattle.dx_macros.specs.Names.{has}
+use Rattle.dx_base.specs.NameLists.{has}
 use Rattle.dx_macros.specs.Site.{Step}
 use Rattle.dx_macros.specs.Dictionary.{TopText, Macros, definition, callee}
 use Rattle.dx_macros.specs.Walk.{Walk, Walked, Goes, Reader, WalkUnder, enter_callee, walk_expr, walk_call, walk_args, walk_statement, walk_body, read_all, walk_macro, walk_text, reader_at}

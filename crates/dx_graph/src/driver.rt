@@ -1,3 +1,4 @@
+//! The texts of the top level: a statement, and before it the definitions that it reads.
 ghost use Rattle.std.specs.Prelude.{◌≡◌, ◌<◌, ◌++◌, length, Some, None, IfOk, OnOk, replicate};
 ghost use Rattle.dx_ast.specs.Lawful.{IsLawful, IsLawfulExpr, IsLawfulCall};
 ghost use Rattle.dx_ast.specs.Plain.{plain_expr, plain_call, plain_stmt};
@@ -5,7 +6,7 @@ ghost use Rattle.dx_macros.specs.Checking.{Checks};
 ghost use Rattle.dx_macros.specs.Dictionary.{TopText, top_text, of_call, definition};
 ghost use Rattle.dx_macros.specs.DictionaryView.{dictionary_of};
 ghost use Rattle.dx_macros.specs.Expansion.{top_spot, effects};
-ghost use Rattle.dx_macros.specs.Places.{flags};
+ghost use Rattle.dx_base.specs.Places.{flags};
 ghost use Rattle.dx_macros.specs.Shown.{text_of};
 ghost use Rattle.dx_macros.specs.Walk.{first_fault};
 ghost use Rattle.dx_graph.specs.Trails.{IsTrail, spot_under};
@@ -22,8 +23,8 @@ use crate::graph::Graph;
 use crate::operand::Results;
 use crate::text::{Text, World};
 use dx_ast::{Assign, Call, Frames, Stmt};
-use dx_base::Bytes;
-use dx_macros::{CheckFail, Dictionary, MAX_STEPS, Names, Sparse};
+use dx_base::{Bytes, Names, Sparse};
+use dx_macros::{CheckFail, Dictionary, MAX_STEPS};
 use indexmap::IndexMap;
 use std::alloc::{AllocError, Global};
 
@@ -74,7 +75,7 @@ fn expand_assign<'a>(
 {
     let trail = first_trail(w.alloc, graph, a.targets.as_slice())?;
     let text = text_at_top(w, trail, place);
-    let mut before = Names::new(w.alloc);
+    let mut before: Names<'a> = Names::new(w.alloc);
     expand_expr(w, &text, graph, &mut before, &a.value)
 }
 
@@ -92,7 +93,7 @@ fn expand_top_call<'a>(
     ensures expands { IfOk result (λ r. Expands (top_expanded w.now place (of_call (plain_call c.now))) graph.old graph.new r) }
 {
     let text = text_at_top(w, None, place);
-    let mut before = Names::new(w.alloc);
+    let mut before: Names<'a> = Names::new(w.alloc);
     expand_call(w, &text, graph, &mut before, c)
 }
 
@@ -190,10 +191,10 @@ fn new_world<'a>(alloc: Global, d: &'a Dictionary, f: &Frames) -> World<'a>
 
 /// The first static fault of a statement, as `check` answers it; where there is none its expansion, as `expand` does. The
 /// statement and the definitions that it reads are walked once.
-pub fn check_and_expand(
+pub fn check_and_expand<'a>(
     alloc: Global,
-    d: &Dictionary,
-    s: &Stmt,
+    d: &'a Dictionary,
+    s: &'a Stmt,
     f: &Frames,
 ) -> Result<Graph, CheckFail>
     requires lawful { IsLawful (plain_stmt s.now) }
@@ -201,7 +202,7 @@ pub fn check_and_expand(
     ensures means { IfOk result (λ g. unfolded (graph_of g) ≡ effects (dictionary_of d.now) f.now (plain_stmt s.now)) }
 {
     let marks = d.walk(alloc, s)?;
-    let mut w = new_world(alloc, d, f);
+    let mut w: World<'a> = new_world(alloc, d, f);
     let mut graph = Graph::new(alloc);
     define_marked(&mut w, &mut graph, &marks)?;
     expand_last(&w, &mut graph, s, d.len())?;

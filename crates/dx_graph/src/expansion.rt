@@ -1,3 +1,4 @@
+//! The expansion of a text: each call becomes a node, and each macro its body.
 ghost use Rattle.std.specs.Prelude.{◌≡◌, ◌<◌, ◌≤◌, ◌+◌, ◌∷◌, ◌++◌, [], ℕ, List, Some, All, map, length, IfOk, OnOk};
 ghost use Rattle.dx_base.specs.NameTable.{under_name};
 ghost use Rattle.dx_ast.specs.Lawful.{IsLawfulExpr, IsLawfulCall, AreLawfulArgs, IsLawfulInBody, IsLawfulBody, IsLawfulMacro};
@@ -24,8 +25,8 @@ use crate::own::{assign, bind_params};
 use crate::put::put;
 use crate::text::{Text, World, meaning};
 use dx_ast::{Arg, Call, Expr, MacroDef, Stmt, results};
-use dx_base::{Bytes, Function};
-use dx_macros::{Callee, Names, called};
+use dx_base::{Bytes, Function, Names};
+use dx_macros::{Callee, called};
 use std::alloc::{AllocError, Global};
 
 /// A call of a function that has an effect is the next effect.
@@ -176,9 +177,7 @@ fn apply<'a>(
 {
     match called(w.dictionary, c.name.bytes()) {
         Callee::Unknown => Ok(Results::One(Operand::Null)),
-        Callee::Function(f) => {
-            call_function(w.alloc, graph, f, given, c.cache, t.trail, k)
-        }
+        Callee::Function(f) => { call_function(w.alloc, graph, f, given, c.cache, t.trail, k) }
         Callee::Macro(m) => enter(w, t, graph, m, c.name.bytes(), k, given),
     }
 }
@@ -243,11 +242,7 @@ fn enter<'a>(
 }
 
 /// The results of a macro: what their names mean at the end of its body.
-fn results_of<'a>(
-    w: &World<'a>,
-    t: &Text<'a>,
-    names: &[Bytes],
-) -> Result<Results<'a>, AllocError>
+fn results_of<'a>(w: &World<'a>, t: &Text<'a>, names: &[Bytes]) -> Result<Results<'a>, AllocError>
     requires walked { NamesWalked w.now t.now names.now }
     ensures gives { (nodes : List Node) → Remembers nodes w.now → OwnFits nodes (under_name t.now.own) → IfOk result (λ r. Gives nodes r (plain.results_in names.now (scope_of w.now t.now nodes))) }
 {

@@ -1,3 +1,4 @@
+//! The arguments of a call, and which of them a parameter gets.
 ghost use Rattle.std.specs.Prelude.{◌≡◌, List, All, map, option_map};
 ghost use Rattle.dx_ast.specs.declared.expressions.Arg.{out-Arg};
 ghost use Rattle.dx_ast.specs.Lawful.{IsLawfulParam};

@@ -1,3 +1,4 @@
+//! Graphs of calls: what is asked of them, and how they grow.
 ghost use Rattle.std.specs.Prelude.{◌≡◌, ◌<◌, ◌^◌, ◌++◌, ◌∷◌, [], length, take, IfOk, OnOk, OnErr};
 ghost use Rattle.dx_macros.specs.Site.{steps_text, Nth, Target};
 ghost use Rattle.dx_macros.specs.Expansion.{spot_of_call};
@@ -5,10 +6,10 @@ ghost use Rattle.dx_graph.specs.Trails.{spot_under, IsTrail};
 ghost use Rattle.dx_graph.specs.Graph.{no_nodes, node_of, node_at, with_node, with_effects, IsNode, IsEffectNode, IsGraph};
 ghost use Rattle.dx_graph.specs.Shown.{own, graph_with, ArePlaced};
 
-use crate::name::name_of;
 use crate::node::{Inputs, Node, Placed};
 use crate::trail::Trail;
 use crate::trails::{Trails, next_number};
+use dx_ast::name;
 use dx_base::{Bytes, Function};
 use dx_macros::{Step, site_text};
 use std::alloc::{AllocError, Global};
@@ -58,7 +59,7 @@ impl Graph {
     {
         let placed = &self.nodes[n as usize];
         let mut steps = self.trails.base(alloc, placed.trail)?;
-        steps.push(Step::Nth(name_of(placed.called), placed.k))?;
+        steps.push(Step::Nth(name(placed.called), placed.k))?;
         site_text(alloc, steps.as_slice())
     }
 

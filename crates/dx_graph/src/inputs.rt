@@ -1,3 +1,4 @@
+//! The inputs of a node: what its arguments come to, in the order of the parameters.
 ghost use Rattle.std.specs.Prelude.{◌≡◌, ◌≤◌, ◌+◌, ℕ, List, All, map, drop, length, IfOk, OnOk};
 ghost use Rattle.dx_ast.specs.Table.{row_of};
 ghost use Rattle.dx_macros.specs.Expansion as plain;
@@ -6,7 +7,6 @@ ghost use Rattle.dx_graph.specs.Graph.{Node, MayTake};
 ghost use Rattle.dx_graph.specs.Unfolding.{calls_of, tree_of, trees_of};
 ghost use Rattle.dx_graph.specs.Operands.{operand_tree, OperandFits, given_of, GivenFits, before_trees};
 
-use crate::constant::copy_of;
 use crate::given::{Given, given_for};
 use crate::node::{Input, Inputs};
 use crate::operand::Operand;
@@ -15,14 +15,14 @@ use dx_base::{Function, Items};
 use std::alloc::{AllocError, Global};
 
 /// The input that an operand is.
-fn input_of<'a>(alloc: Global, o: Operand<'a>) -> Result<Input, AllocError>
+fn input_of<'a>(o: Operand<'a>) -> Result<Input, AllocError>
     ensures tree { IfOk result (λ i. (nodes : List Node) → tree_of (calls_of nodes) i ≡ operand_tree nodes o.entry) }
     ensures fits { IfOk result (λ i. (nodes : List Node) → OperandFits nodes o.entry → MayTake nodes (length nodes) i) }
 {
     match o {
         Operand::Null => Ok(Input::Constant(Const::Null)),
         Operand::Number(n) => Ok(Input::Constant(Const::Int(n))),
-        Operand::Constant(c) => Ok(Input::Constant(copy_of(alloc, c)?)),
+        Operand::Constant(c) => Ok(Input::Constant(c.share()?)),
         Operand::Result(node, result) => Ok(Input::Result(node, result)),
     }
 }
@@ -51,14 +51,13 @@ fn named_inputs<'a>(
 {
     let mut inputs = Vec::new(alloc);
     for (i, name) in names.iter().enumerate() {
-        inputs.push(input_of(alloc, named_operand(given, i, name))?)?;
+        inputs.push(input_of(named_operand(given, i, name))?)?;
     }
     Ok(inputs)
 }
 
 /// The further arguments join, as many as may follow.
 fn put_further<'a>(
-    alloc: Global,
     inputs: &mut Vec<Input>,
     more: usize,
     given: &[Given<'a>],
@@ -73,7 +72,7 @@ fn put_further<'a>(
         if i >= more {
             return Ok(());
         }
-        inputs.push(input_of(alloc, g.operand)?)?;
+        inputs.push(input_of(g.operand)?)?;
     }
     Ok(())
 }
@@ -95,11 +94,6 @@ pub fn inputs_of<'a>(alloc: Global, f: Function, given: &[Given<'a>]) -> Result<
 {
     let names = params(f);
     let mut inputs = named_inputs(alloc, names, given)?;
-    put_further(
-        alloc,
-        &mut inputs,
-        more(f) as usize,
-        behind(given, names.len()),
-    )?;
+    put_further(&mut inputs, more(f) as usize, behind(given, names.len()))?;
     Ok(Items::from_vec(inputs))
 }

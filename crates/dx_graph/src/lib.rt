@@ -1,14 +1,12 @@
 //! The expansion of a statement: a graph of calls, in which what has a name stands once.
 #![tactic(auto)]
 
-mod constant;
 mod driver;
 mod expansion;
 mod given;
 mod graph;
 mod inputs;
 mod law;
-mod name;
 mod node;
 mod operand;
 mod own;

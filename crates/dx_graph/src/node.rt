@@ -1,3 +1,4 @@
+//! The nodes of a graph.
 use dx_ast::Const;
 use dx_base::{Function, Items};
 

@@ -1,3 +1,4 @@
+//! What names and expressions stand for while a text is expanded.
 ghost use Rattle.std.specs.Prelude.{◌≡◌, List, All, slice_index_or};
 ghost use Rattle.dx_macros.specs.Expansion as plain;
 ghost use Rattle.dx_graph.specs.Unfolding.{call_at, calls_of};

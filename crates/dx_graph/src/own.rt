@@ -1,3 +1,4 @@
+//! The names to which a text gave a meaning itself.
 ghost use Rattle.std.specs.Prelude.{◌≡◌, ◌++◌, ℕ, List, Some, All, map, IfOk, OnOk};
 ghost use Rattle.dx_base.specs.NameTable.{under_name, changed_at};
 ghost use Rattle.dx_ast.specs.Lawful.{IsLawfulParam};

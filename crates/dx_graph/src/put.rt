@@ -1,3 +1,4 @@
+//! A push whose error is that of memory.
 ghost use Rattle.std.specs.Prelude.{◌≡◌, ◌++◌, ◌∷◌, [], OnOk};
 
 use std::alloc::AllocError;

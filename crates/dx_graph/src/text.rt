@@ -1,3 +1,4 @@
+//! A text that is expanded, and what its names mean.
 ghost use Rattle.std.specs.Prelude.{◌≡◌, List};
 ghost use Rattle.dx_base.specs.NameTable.{under_name};
 ghost use Rattle.dx_graph.specs.Graph.{Node};
@@ -8,8 +9,8 @@ ghost use Rattle.dx_graph.specs.Marks.{IsWalked, NameWalked, top_reader};
 use crate::operand::{Operand, Results};
 use crate::own::Own;
 use dx_ast::Frames;
-use dx_base::Bytes;
-use dx_macros::{Dictionary, Sparse};
+use dx_base::{Bytes, Sparse};
+use dx_macros::Dictionary;
 use std::alloc::Global;
 
 /// What an expansion stands on, and what it came to so far.

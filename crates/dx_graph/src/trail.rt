@@ -1,3 +1,4 @@
+//! The last step on the way to a text.
 use dx_base::Bytes;
 
 /// The last step that leads to a text.

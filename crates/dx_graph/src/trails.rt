@@ -1,3 +1,4 @@
+//! The ways to the texts of a graph, from which sites and paths are made.
 ghost use Rattle.std.specs.Prelude.{◌≡◌, ◌<◌, ◌++◌, ◌∷◌, [], length, reverse, IfOk, OnOk, OnErr};
 ghost use Rattle.dx_macros.specs.Steps.{plain_steps};
 ghost use Rattle.dx_graph.specs.Trails.{spots_of, spot_under, parent, IsTrail};

@@ -2,12 +2,11 @@
 
 ghost use Rattle.dx_ast.specs.Lawful.{IsLawful, AreLawful};
 ghost use Rattle.dx_ast.specs.Plain.{plain_stmt, plain_stmts};
-ghost use Rattle.dx_macros.specs.Dictionary.{IsExecuted};
 
 use crate::session::{is_executed, join, statements_of};
 use crate::shown::write_effects;
 use dx_ast::{Frames, Stmt, Stmts};
-use dx_graph::expand;
+use dx_graph::{check_and_expand, expand};
 use dx_macros::{CheckFail, Dictionary};
 use std::alloc::{AllocError, Global};
 
@@ -24,14 +23,10 @@ fn frames() -> Frames {
 
 /// Writes the effects of a statement.
 fn show(alloc: Global, d: &Dictionary, s: &Stmt, out: &mut Vec<u8>) -> Result<(), AllocError>
-    requires lawful { IsLawful (plain_stmt s.now) }
-    requires executed { IsExecuted (plain_stmt s.now) }
+    requires { IsLawful (plain_stmt s.now) }
 {
-    match d.check(alloc, s) {
-        Ok(()) => {
-            let g = expand(alloc, d, s, &frames())?;
-            write_effects(alloc, &g, out)
-        }
+    match check_and_expand(alloc, d, s, &frames()) {
+        Ok(g) => write_effects(alloc, &g, out),
         Err(CheckFail::Fault(_, _)) => out.extend_from_slice(b"fault\n"),
         Err(CheckFail::Memory) => Err(AllocError),
     }
@@ -74,8 +69,7 @@ pub fn read(
 }
 
 fn nodes_of(alloc: Global, d: &Dictionary, s: &Stmt) -> Result<u32, AllocError>
-    requires lawful { IsLawful (plain_stmt s.now) }
-    requires executed { IsExecuted (plain_stmt s.now) }
+    requires { IsLawful (plain_stmt s.now) }
 {
     match d.check(alloc, s) {
         Ok(()) => {

@@ -13,7 +13,7 @@ fn write_const(alloc: Global, c: &Const, out: &mut Vec<u8>) -> Result<(), AllocE
         }
         Const::Text(text) => {
             out.push(b'"')?;
-            out.extend_from_slice(text.bytes())?;
+            out.extend_from_slice(text.as_slice())?;
             out.push(b'"')?;
             Ok(())
         }

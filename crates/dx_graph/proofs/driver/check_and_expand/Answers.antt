@@ -3,7 +3,7 @@ use Rattle.dx_ast.specs.declared.sequencing.Frames.{Frames}
 use Rattle.dx_macros.specs.declared.dictionary.Dictionary.{Dictionary}
 use Rattle.dx_macros.specs.DictionaryView.{dictionary_of}
 use Rattle.dx_macros.specs.Expansion.{effects}
-use Rattle.dx_macros.specs.Places.{flags}
+use Rattle.dx_base.specs.Places.{flags}
 use Rattle.dx_ast.specs.Plain.{plain_stmt}
 use Rattle.dx_macros.specs.Tree.{CallTree}
 use Rattle.dx_macros.specs.Dictionary.{top_text}
