@@ -140,11 +140,11 @@ fn values_between(alloc: Global, array: &Array, from: u64, to: u64) -> Result<Ve
 fn many_items_are_read_as_one_by_one(rt: HostRuntime) -> Result<(), Fail> {
     let alloc = rt.alloc();
     for array in &of_each_class(alloc)? {
-        for from in 0..array.items() + 1 {
-            for to in from..array.items() + 1 {
+        for from in 0..array.items() {
+            for last in from..array.items() {
                 let mut read = Vec::from_slice(alloc, &[99])?;
-                array.push_items(from, to, &mut read)?;
-                let expected = values_between(alloc, array, from, to)?;
+                array.push_items(from, last + 1, &mut read)?;
+                let expected = values_between(alloc, array, from, last + 1)?;
                 assert!(rt; read.as_slice() == expected.as_slice());
             }
         }
