@@ -1,9 +1,7 @@
 // Objects: what they show, what is refused, and the limits.
 use crate::objects_made::{list, number, numbers, part, push, shared, text};
 use dx_base::Bytes;
-use dx_objects::{
-    Array, Kind, Object, ObjectError, Outs, Part, Parts, RunFail, Value, WithError,
-};
+use dx_objects::{Array, Kind, Object, ObjectError, Outs, Part, Parts, RunFail, Value, WithError};
 use std::alloc::{AllocError, Global};
 use std::rc::Rc;
 use std::test::Fail;

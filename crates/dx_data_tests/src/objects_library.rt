@@ -9,7 +9,11 @@ use std::test::Fail;
 // The inputs of Mark: a number and a text, or NULL for both.
 fn inputs(alloc: Global, is_null: bool) -> Result<Outs, Fail> {
     let mut inputs = Outs::new(alloc);
-    inputs.push(if is_null { None } else { Some(number(alloc, 5)?) })?;
+    inputs.push(if is_null {
+        None
+    } else {
+        Some(number(alloc, 5)?)
+    })?;
     inputs.push(None)?;
     Ok(inputs)
 }

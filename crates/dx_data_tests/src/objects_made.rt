@@ -25,7 +25,12 @@ pub(crate) fn number(alloc: Global, n: i64) -> Result<Rc<Object>, Fail> {
 }
 
 // A part, which has no name where the bytes are empty.
-pub(crate) fn part(alloc: Global, name: &[u8], position: i32, object: Rc<Object>) -> Result<Part, Fail> {
+pub(crate) fn part(
+    alloc: Global,
+    name: &[u8],
+    position: i32,
+    object: Rc<Object>,
+) -> Result<Part, Fail> {
     let name = if name.is_empty() {
         None
     } else {
@@ -38,16 +43,24 @@ pub(crate) fn part(alloc: Global, name: &[u8], position: i32, object: Rc<Object>
     })
 }
 
-pub(crate) fn push(alloc: Global, parts: &mut Parts, name: &[u8], object: Rc<Object>) -> Result<(), Fail> {
+pub(crate) fn push(
+    alloc: Global,
+    parts: &mut Parts,
+    name: &[u8],
+    object: Rc<Object>,
+) -> Result<(), Fail> {
     Ok(parts.push(part(alloc, name, 0, object)?)?)
 }
 
 // Parts of these names at these positions that share one object.
-pub(crate) fn list(alloc: Global, heads: &[(&[u8], i32)], object: &Rc<Object>) -> Result<Parts, Fail> {
+pub(crate) fn list(
+    alloc: Global,
+    heads: &[(&[u8], i32)],
+    object: &Rc<Object>,
+) -> Result<Parts, Fail> {
     let mut parts = Parts::new(alloc);
     for (name, position) in heads {
         parts.push(part(alloc, name, *position, object.clone()?)?)?;
     }
     Ok(parts)
 }
-

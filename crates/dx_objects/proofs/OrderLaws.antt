@@ -1,6 +1,6 @@
 -- Parts in the order of their names: equal names are neighbours, and a search finds the part of a name.
-use Rattle.std.proofs.Common.{◌≡◌, ◌≢◌, ◌<◌, ◌≤◌, ◌+◌, ◌⊎◌, ℕ, zero, suc, List, [], ◌∷◌, Option, Some, None, Bool, true, false, cond, not, ◌&&◌, length, get_or, ltb, ltb-true, ltb-false, refl, sym, ap, ◌∙◌, subst, arith}
-use Rattle.std.specs.Prelude.{is_none, bytes_eq, IsPermutation}
+use Rattle.std.proofs.Common.{◌≡◌, ◌≢◌, ◌<◌, ◌≤◌, ◌+◌, ℕ, zero, suc, List, [], ◌∷◌, Option, Some, None, Bool, true, false, ◌&&◌, length, get_or, ltb, ltb-true, ltb-false, refl, sym, ap, ◌∙◌, subst, arith}
+use Rattle.std.specs.Prelude.{is_none, IsPermutation}
 use Rattle.std.specs.List.{range_with_len}
 use Rattle.std.proofs.lemmas.Bool.{and_parts}
 use Rattle.std.proofs.lemmas.Slice.Eq.{bytes_eq-Decides}
@@ -222,10 +222,10 @@ all_differ_in_order ps order o h = all_differ ps (λ i j below inside.
     let two : get_or order second.0 0 ≡ j = get_or_default order second.0 0 j second.1 ∙ second.2 in
     by_bool (share_name (name_at ps i) (name_at ps j)) _
     (λ s.
-        let s_places : share_name (name_at ps (get_or order first.0 0)) (name_at ps (get_or order second.0 0)) ≡ true = rw (one, two) s in
-        absurd (two_ways first.0 second.0 ⊥ (λ e. let same : i ≡ j = sym one ∙ ap (λ x. get_or order x 0) e ∙ two in omega (arith, below, same))
-          (λ lt. let n = next_shares ps order first.0 second.0 o lt second.1 s_places in let m = h first.0 (omega (arith, lt, second.1)) in cc)
-          (λ gt. let n = next_shares ps order second.0 first.0 o gt first.1 (shared_back (name_at ps (get_or order first.0 0)) (name_at ps (get_or order second.0 0)) s_places) in let m = h second.0 (omega (arith, gt, first.1)) in cc)))
+    let s_places : share_name (name_at ps (get_or order first.0 0)) (name_at ps (get_or order second.0 0)) ≡ true = rw (one, two) s in
+    absurd (two_ways first.0 second.0 ⊥ (λ e. let same : i ≡ j = sym one ∙ ap (λ x. get_or order x 0) e ∙ two in omega (arith, below, same))
+    (λ lt. let n = next_shares ps order first.0 second.0 o lt second.1 s_places in let m = h first.0 (omega (arith, lt, second.1)) in cc)
+    (λ gt. let n = next_shares ps order second.0 first.0 o gt first.1 (shared_back (name_at ps (get_or order first.0 0)) (name_at ps (get_or order second.0 0)) s_places) in let m = h second.0 (omega (arith, gt, first.1)) in cc)))
     (λ f. f))
 
 -- a name that no place of the order has isn't found
@@ -235,11 +235,11 @@ isn't_in_order n ps order k o point = isn't_found n ps (λ i inside.
     let at : get_or order place.0 0 ≡ i = get_or_default order place.0 0 i place.1 ∙ place.2 in
     by_bool (same_name n (name_at ps i)) _
     (λ s. absurd (
-        let here : name_at ps i ≡ Some n = has_own n (name_at ps i) s in
-        let equal : rank_cmp (name_at ps i) (Some n) ≡ Equal = rw here (itself n) in
-        one_side place.0 k ⊥
-        (λ lt. let less : rank_cmp (name_at ps (get_or order place.0 0)) (Some n) ≡ Less = point.0 place.0 0 (omega arith) lt in let l = subst (λ x. rank_cmp (name_at ps x) (Some n) ≡ Less) at less in cc)
-        (λ ge. let greater : rank_cmp (name_at ps (get_or order place.0 0)) (Some n) ≡ Greater = point.1 place.0 0 ge place.1 in let g = subst (λ x. rank_cmp (name_at ps x) (Some n) ≡ Greater) at greater in cc)))
+    let here : name_at ps i ≡ Some n = has_own n (name_at ps i) s in
+    let equal : rank_cmp (name_at ps i) (Some n) ≡ Equal = rw here (itself n) in
+    one_side place.0 k ⊥
+    (λ lt. let less : rank_cmp (name_at ps (get_or order place.0 0)) (Some n) ≡ Less = point.0 place.0 0 (omega arith) lt in let l = subst (λ x. rank_cmp (name_at ps x) (Some n) ≡ Less) at less in cc)
+    (λ ge. let greater : rank_cmp (name_at ps (get_or order place.0 0)) (Some n) ≡ Greater = point.1 place.0 0 ge place.1 in let g = subst (λ x. rank_cmp (name_at ps x) (Some n) ≡ Greater) at greater in cc)))
     (λ f. f))
 
 -- a name stands below the end

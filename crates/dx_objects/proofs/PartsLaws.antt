@@ -1,9 +1,9 @@
 -- Parts in lists and in trees.
-use Rattle.std.proofs.Common.{◌≡◌, ℕ, zero, suc, ◌+◌, ◌<◌, max, List, [], ◌∷◌, ◌++◌, length, get_or, take, drop, set, pos, ◌≤◌, ◌∙◌, refl, sym, ap, add-one, drop-cons, append-nil, arith}
+use Rattle.std.proofs.Common.{◌≡◌, ℕ, zero, suc, ◌+◌, ◌<◌, List, [], ◌∷◌, ◌++◌, length, get_or, take, drop, set, pos, ◌≤◌, ◌∙◌, refl, sym, ap, add-one, drop-cons, append-nil, arith}
 use Rattle.std.specs.List.{range_with_len}
 use Rattle.std.proofs.lemmas.List.{take_more_set, drop-set-lt, take-append-drop}
 use Rattle.std.proofs.Math.ListN.{drop_of_length-le}
-use Rattle.dx_base.specs.Object.{Tree, PartList, no_parts, part, append, part_count}
+use Rattle.dx_base.specs.Object.{PartList, no_parts, part, append, part_count}
 use Rattle.dx_base.specs.ObjectLimits.{unplaced}
 use Rattle.dx_objects.specs.declared.object.Part.{Part}
 use Rattle.dx_objects.specs.Shown.{parts_of}

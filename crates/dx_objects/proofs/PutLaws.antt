@@ -1,15 +1,15 @@
 -- A component that is put among the others: only that the field is too large can be said against it.
-use Rattle.std.proofs.Common.{◌≡◌, ℕ, pos, List, Option, Some, None, Bool, true, false, cond, not, ◌&&◌, refl, sym, ap, ◌∙◌}
+use Rattle.std.proofs.Common.{◌≡◌, ℕ, pos, List, Option, Some, None, Bool, true, false, cond, ◌&&◌, refl, sym, ap, ◌∙◌}
 use Rattle.std.specs.Prelude.{is_some, is_none, bytes_eq}
 use Rattle.std.proofs.lemmas.Bool.{and_parts}
 use Rattle.std.specs.Cmp.Derive.{both_true}
 use Rattle.std.proofs.lemmas.Slice.Eq.{bytes_eq-Decides}
 use Rattle.dx_base.specs.Object.{Tree, PartList, field, no_parts, part}
 use Rattle.dx_base.specs.ObjectNames.{same_name, find, put}
-use Rattle.dx_base.specs.ObjectLimits.{lacks, differ, all_named, all_arrays, is_array, has_good_names, has_array_components, fits, unplaced, IsAllowed}
+use Rattle.dx_base.specs.ObjectLimits.{lacks, differ, all_named, all_arrays, is_array, has_good_names, fits, unplaced, IsAllowed}
 use Rattle.dx_objects.specs.Makes.{refusal}
 use Rattle.dx_objects.specs.declared.makers.ObjectError.{ObjectError}
-use Rattle.dx_objects.specs.declared.makers.ObjectError.TheVariants.{TooLarge, BadNames, NotAnArray}
+use Rattle.dx_objects.specs.declared.makers.ObjectError.TheVariants.{TooLarge}
 
 flipped : (m n : List ℕ) → bytes_eq n m ≡ false → bytes_eq m n ≡ false
 flipped m n e =

@@ -1,12 +1,12 @@
 -- A component that is taken out: nothing can be said against the field without it.
-use Rattle.std.proofs.Common.{◌≡◌, ℕ, suc, ◌+◌, ◌≤◌, max, pos, List, Option, Some, None, Bool, true, false, cond, not, ◌&&◌, refl, sym, ap, ◌∙◌, arith}
-use Rattle.std.specs.Prelude.{is_some, is_none, nat_le}
+use Rattle.std.proofs.Common.{◌≡◌, ℕ, ◌≤◌, pos, List, Option, Some, None, true, ◌&&◌, refl, ap, arith}
+use Rattle.std.specs.Prelude.{is_some, is_none}
 use Rattle.std.proofs.lemmas.Bool.{and_parts}
 use Rattle.std.proofs.lemmas.Bool.Decides.{nat_tests}
 use Rattle.std.specs.Cmp.Derive.{both_true}
-use Rattle.dx_base.specs.Object.{Tree, PartList, field, no_parts, part, levels, deepest, count, total_count, size, total_size}
+use Rattle.dx_base.specs.Object.{PartList, field, no_parts, part, deepest, total_count, total_size}
 use Rattle.dx_base.specs.ObjectNames.{same_name, find, without}
-use Rattle.dx_base.specs.ObjectLimits.{lacks, differ, all_named, all_arrays, is_array, has_good_names, has_array_components, fits, unplaced, IsAllowed}
+use Rattle.dx_base.specs.ObjectLimits.{lacks, differ, all_named, all_arrays, is_array, has_good_names, fits, unplaced, IsAllowed}
 use Rattle.dx_objects.specs.Makes.{refusal}
 use Rattle.dx_objects.proofs.PutLaws.{by_bool}
 

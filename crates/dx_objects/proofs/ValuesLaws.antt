@@ -1,5 +1,5 @@
 -- A value by its place.
-use Rattle.std.proofs.Common.{◌≡◌, ◌≤◌, ℕ, zero, suc, List, [], ◌∷◌, Option, Some, None, length, refl, sym, arith}
+use Rattle.std.proofs.Common.{◌≡◌, ◌≤◌, ℕ, zero, suc, List, [], ◌∷◌, Option, Some, None, length, refl, arith}
 use Rattle.std.specs.Prelude.{slice_get}
 use Rattle.dx_base.specs.Object.{Tree}
 use Rattle.dx_objects.specs.Values.{value_at}

@@ -1,5 +1,5 @@
 -- Each part of an object has fewer nodes than the object.
-use Rattle.std.specs.Prelude.{ℕ, ◌+◌, ◌≤◌, max}
+use Rattle.std.specs.Prelude.{◌+◌, ◌≤◌, max}
 use Rattle.std.proofs.Common.{arith}
 use Rattle.dx_base.specs.Object.{PartList}
 use Rattle.dx_objects.specs.declared.object.Body.{Body}

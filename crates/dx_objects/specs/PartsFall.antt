@@ -1,5 +1,5 @@
 -- Each part has fewer nodes than the list that it is in.
-use Rattle.std.specs.Prelude.{ℕ, ◌+◌, ◌≤◌, max, List, [], ◌∷◌}
+use Rattle.std.specs.Prelude.{◌≤◌, max, List, [], ◌∷◌}
 use Rattle.std.proofs.Common.{arith}
 use Rattle.dx_objects.specs.declared.object.Part.{Part}
 use Rattle.dx_objects.specs.declared.object.NamedParts.TheDeep.{deep-Part}

@@ -30,4 +30,3 @@ pub use outs::{Outs, Value};
 pub use parts::Parts;
 pub use run_fail::RunFail;
 pub use with::WithError;
-

@@ -51,7 +51,10 @@ impl Object {
     pub fn field(parts: Parts, attrs: Parts) -> Result<Object, ObjectError>
         ensures { Makes (spec.field (unplaced parts) (unplaced attrs)) result }
     {
-        Object::make(Body::Field(parts.unplaced().named()?), attrs.unplaced().named()?)
+        Object::make(
+            Body::Field(parts.unplaced().named()?),
+            attrs.unplaced().named()?,
+        )
     }
 
     /// A group of these members. Positions of members and attributes become 0.
@@ -59,7 +62,10 @@ impl Object {
     pub fn group(parts: Parts, attrs: Parts) -> Result<Object, ObjectError>
         ensures { Makes (spec.group (unplaced parts) (unplaced attrs)) result }
     {
-        Object::make(Body::Group(parts.unplaced().named()?), attrs.unplaced().named()?)
+        Object::make(
+            Body::Group(parts.unplaced().named()?),
+            attrs.unplaced().named()?,
+        )
     }
 
     /// A composite group of these members, each of which is a field. Positions of members and attributes become 0.
@@ -67,7 +73,10 @@ impl Object {
     pub fn composite(parts: Parts, attrs: Parts) -> Result<Object, ObjectError>
         ensures { Makes (spec.composite (unplaced parts) (unplaced attrs)) result }
     {
-        Object::make(Body::Composite(parts.unplaced().named()?), attrs.unplaced().named()?)
+        Object::make(
+            Body::Composite(parts.unplaced().named()?),
+            attrs.unplaced().named()?,
+        )
     }
 
     /// A series of these members. Positions of attributes become 0.

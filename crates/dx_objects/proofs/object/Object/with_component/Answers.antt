@@ -1,4 +1,4 @@
-use Rattle.std.proofs.Common.{◌≡◌, sym, ap, ◌∙◌, Some, None, true, arith}
+use Rattle.std.proofs.Common.{◌≡◌, ap, ◌∙◌, Some, true, arith}
 use Rattle.dx_base.specs.Object as spec
 use Rattle.dx_base.specs.ObjectNames.{put}
 use Rattle.dx_base.specs.ObjectLimits.{IsAllowed, is_array, unplaced}
