@@ -1,3 +1,4 @@
+//! The value of a constant, by its kind.
 ghost use Rattle.std.specs.Prelude.{◌≡◌, IfOk};
 ghost use Rattle.dx_ast.specs.Value.{value_of as spec_value};
 ghost use Rattle.dx_ast.specs.Lawful.{IsLawfulConst};

@@ -1,3 +1,5 @@
+//! Why a session is not loaded.
+
 use dx_base::{Bytes, SyntaxError};
 use dx_io::FileFail;
 use std::alloc::{AllocError, AllocFailed};

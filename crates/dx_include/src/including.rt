@@ -1,3 +1,4 @@
+//! Loading a file: its text, and the statements of its includes in their places.
 ghost use Rattle.std.specs.Prelude.{◌≡◌, ◌≤◌, ℕ, List, Some, IfOk, OnOk, length};
 ghost use Rattle.dx_ast.specs.Lawful.{AreLawful};
 ghost use Rattle.dx_ast.specs.Plain.{plain_stmts};

@@ -1,3 +1,5 @@
+//! What a loading has so far.
+
 use dx_ast::Stmts;
 
 /// What is loaded so far: the statements, and how many bytes their texts have.
