@@ -18,7 +18,7 @@ use crate::ended::Ended;
 use crate::lines;
 use dx_ast::{Frames, Stmt};
 use dx_base::Bytes;
-use dx_graph::{Graph, expand};
+use dx_graph::{Graph, check_and_expand};
 use dx_io::{Sink, write_all};
 use dx_macros::{CheckFail, Dictionary, StaticFault};
 use std::alloc::Global;
@@ -38,11 +38,8 @@ pub fn execute<O: Sink>(
         (O.written out.old) (O.written out.new) result }
     ensures cause { PrintCause (O.faults out.old) (O.faults out.new) result }
 {
-    match d.check(alloc, s) {
-        Ok(()) => {
-            let graph = expand(alloc, d, s, frames)?;
-            perform(alloc, &graph, out)
-        }
+    match check_and_expand(alloc, d, s, frames) {
+        Ok(graph) => perform(alloc, &graph, out),
         Err(why) => match why {
             CheckFail::Fault(site, fault) => refuse(alloc, &site, fault, out),
             CheckFail::Memory => Err(End::Memory),
