@@ -44,5 +44,6 @@ fn members(alloc: Global, texts: &[Bytes]) -> Result<Parts, AllocError>
             object: text(alloc, t.bytes())?,
         })?;
     }
-    Parts::from_vec(alloc, members)
+    let parts = Parts::from_vec(alloc, members)?;
+    Ok(parts)
 }

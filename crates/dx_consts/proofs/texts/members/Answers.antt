@@ -7,4 +7,4 @@ use Rattle.dx_consts.proofs.texts.members.Goals as goal
 pub returns : goal.returns
 returns c =
     let past : drop c.loop-t.t-index c.args.texts.now ≡ [] = drop_of_length-le c.args.texts.now {i = c.loop-t.t-index} (omega arith) in
-    c.from_vec.ensures ∙ sym (append-no_parts (parts_of c.loop-t.members.items)) ∙ (rw past at c.loop-t.invariant.parts)
+    c.in_ok-parts.ensures ∙ sym (append-no_parts (parts_of c.loop-t.members.items)) ∙ (rw past at c.loop-t.invariant.parts)
