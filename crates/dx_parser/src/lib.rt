@@ -11,5 +11,6 @@ mod script;
 mod statements;
 mod words;
 
+pub use dx_script_laws::one_script;
 pub use fail::ParseFail;
 pub use script::parse;

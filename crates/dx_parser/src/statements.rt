@@ -10,7 +10,7 @@ use crate::fail::ParseFail;
 use crate::lists::one;
 use crate::words::{is_word, switch_named, word_named};
 use dx_ast::{Assign, Expr, Stmt, TextList, Word};
-use dx_base::{Bytes, Items};
+use dx_base::Bytes;
 use std::alloc::Global;
 
 /// Calls within the arguments of calls, the outermost counted.

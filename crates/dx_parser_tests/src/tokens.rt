@@ -1,7 +1,5 @@
 //! The tokens of a text, as text.
 
-ghost use Rattle.dx_base.specs.Tokens.Reading.{IsReached};
-
 use crate::writing::{put, put_bytes, put_error, put_number, put_place};
 use dx_base::Bytes;
 use dx_lexer::{LexFail, LexKind, Place, next};
