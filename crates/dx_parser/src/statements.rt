@@ -1,6 +1,7 @@
 //! Statements, which begin with a name.
 
-ghost use Rattle.std.specs.Prelude.{◌≡◌, ◌∷◌, []};
+ghost use Rattle.std.specs.Prelude.{◌≡◌, ◌∷◌, [], codes};
+ghost use Rattle.dx_grammar.specs.Stream as stream;
 ghost use Rattle.dx_script_grammar.specs.Reading as reading;
 ghost use Rattle.dx_parser.specs.Answers.{Reads};
 
@@ -42,6 +43,18 @@ fn targets(
     Ok(found)
 }
 
+/// What is read, if anything is to be kept of it, once the semicolon behind it is read too.
+pub fn closed(
+    alloc: Global,
+    cursor: &mut Cursor<'_>,
+    statement: Option<Stmt>,
+) -> Result<Option<Stmt>, ParseFail>
+    ensures { Reads (stream.and_then (reading.sign (codes ";") cursor.old) (λ place. stream.pure statement)) result cursor.new }
+{
+    cursor.sign(alloc, b";")?;
+    Ok(statement)
+}
+
 /// A call of `Executive` is read and left out.
 #[tactic(auto, unfolding(dx_script_grammar::specs::Reading::called))]
 fn called(alloc: Global, cursor: &mut Cursor<'_>, name: Bytes) -> Result<Option<Stmt>, ParseFail>
@@ -49,11 +62,10 @@ fn called(alloc: Global, cursor: &mut Cursor<'_>, name: Bytes) -> Result<Option<
 {
     let is_left_out = is_word(name.bytes(), b"Executive");
     let call = call_after(alloc, cursor, MAX_DEPTH, name)?;
-    cursor.sign(alloc, b";")?;
     if is_left_out {
-        Ok(None)
+        closed(alloc, cursor, None)
     } else {
-        Ok(Some(Stmt::Call(call)))
+        closed(alloc, cursor, Some(Stmt::Call(call)))
     }
 }
 
@@ -61,11 +73,10 @@ fn called(alloc: Global, cursor: &mut Cursor<'_>, name: Bytes) -> Result<Option<
 fn single(alloc: Global, cursor: &mut Cursor<'_>, name: Bytes) -> Result<Option<Stmt>, ParseFail>
     ensures { Reads (reading.single name cursor.old) result cursor.new }
 {
+    let targets = one(alloc, name)?;
     cursor.sign(alloc, b"=")?;
     let value = expression(alloc, cursor, MAX_DEPTH)?;
-    cursor.sign(alloc, b";")?;
-    let targets = one(alloc, name)?;
-    Ok(Some(Stmt::Assign(Assign { targets, value })))
+    closed(alloc, cursor, Some(Stmt::Assign(Assign { targets, value })))
 }
 
 #[tactic(auto, unfolding(dx_script_grammar::specs::Reading::several))]
@@ -81,9 +92,8 @@ pub fn several(
     cursor.sign(alloc, b"=")?;
     let (_, function) = cursor.name(alloc)?;
     let call = call_after(alloc, cursor, MAX_DEPTH, function)?;
-    cursor.sign(alloc, b";")?;
     let value = Expr::Call(call);
-    Ok(Some(Stmt::Assign(Assign { targets, value })))
+    closed(alloc, cursor, Some(Stmt::Assign(Assign { targets, value })))
 }
 
 /// A call with its name, for each step of the sequencer.
@@ -93,8 +103,7 @@ fn sequenced(alloc: Global, cursor: &mut Cursor<'_>) -> Result<Option<Stmt>, Par
 {
     let (_, name) = cursor.name(alloc)?;
     let call = call_after(alloc, cursor, MAX_DEPTH, name)?;
-    cursor.sign(alloc, b";")?;
-    Ok(Some(Stmt::Sequence(call)))
+    closed(alloc, cursor, Some(Stmt::Sequence(call)))
 }
 
 #[tactic(auto, unfolding(dx_script_grammar::specs::Reading::alone))]
