@@ -22,13 +22,7 @@ fn cache_value(value: Const) -> Option<u8>
     ensures { result ≡ values.cache_value value }
 {
     match value {
-        Const::Int(n) => {
-            if n >= 0 && n < 3 {
-                Some(n as u8)
-            } else {
-                None
-            }
-        }
+        Const::Int(n) => { if n >= 0 && n < 3 { Some(n as u8) } else { None } }
         _ => None,
     }
 }

@@ -12,7 +12,7 @@ ghost use Rattle.dx_parser.specs.Answers.{Reads, IsOnly, IsOnlyError, OnRefused}
 use crate::cursor::Cursor;
 use crate::fail::ParseFail;
 use crate::macros::{add, definition};
-use crate::statements::{closed, word_or_statement};
+use crate::statements::word_or_statement;
 use dx_ast::{Const, Expr, Stmt, Stmts};
 use dx_base::Items;
 use std::alloc::Global;
@@ -46,7 +46,8 @@ fn frame_setting(alloc: Global, cursor: &mut Cursor<'_>) -> Result<Option<Stmt>,
     let (_, frame) = cursor.frame(alloc)?;
     cursor.sign(alloc, b"=")?;
     let value = frame_value(alloc, cursor)?;
-    closed(alloc, cursor, Some(Stmt::SetFrame(frame, value)))
+    cursor.sign(alloc, b";")?;
+    Ok(Some(Stmt::SetFrame(frame, value)))
 }
 
 #[tactic(auto, unfolding(dx_script_grammar::specs::Reading::item))]

@@ -1,7 +1,6 @@
 //! Statements, which begin with a name.
 
-ghost use Rattle.std.specs.Prelude.{◌≡◌, ◌∷◌, [], codes};
-ghost use Rattle.dx_grammar.specs.Stream as stream;
+ghost use Rattle.std.specs.Prelude.{◌≡◌, ◌∷◌, []};
 ghost use Rattle.dx_script_grammar.specs.Reading as reading;
 ghost use Rattle.dx_parser.specs.Answers.{Reads};
 
@@ -43,18 +42,6 @@ fn targets(
     Ok(found)
 }
 
-/// What is read, if anything is to be kept of it, once the semicolon behind it is read too.
-pub fn closed(
-    alloc: Global,
-    cursor: &mut Cursor<'_>,
-    statement: Option<Stmt>,
-) -> Result<Option<Stmt>, ParseFail>
-    ensures { Reads (stream.and_then (reading.sign (codes ";") cursor.old) (λ place. stream.pure statement)) result cursor.new }
-{
-    cursor.sign(alloc, b";")?;
-    Ok(statement)
-}
-
 /// A call of `Executive` is read and left out.
 #[tactic(auto, unfolding(dx_script_grammar::specs::Reading::called))]
 fn called(alloc: Global, cursor: &mut Cursor<'_>, name: Bytes) -> Result<Option<Stmt>, ParseFail>
@@ -62,10 +49,11 @@ fn called(alloc: Global, cursor: &mut Cursor<'_>, name: Bytes) -> Result<Option<
 {
     let is_left_out = is_word(name.bytes(), b"Executive");
     let call = call_after(alloc, cursor, MAX_DEPTH, name)?;
+    cursor.sign(alloc, b";")?;
     if is_left_out {
-        closed(alloc, cursor, None)
+        Ok(None)
     } else {
-        closed(alloc, cursor, Some(Stmt::Call(call)))
+        Ok(Some(Stmt::Call(call)))
     }
 }
 
@@ -76,7 +64,8 @@ fn single(alloc: Global, cursor: &mut Cursor<'_>, name: Bytes) -> Result<Option<
     let targets = one(alloc, name)?;
     cursor.sign(alloc, b"=")?;
     let value = expression(alloc, cursor, MAX_DEPTH)?;
-    closed(alloc, cursor, Some(Stmt::Assign(Assign { targets, value })))
+    cursor.sign(alloc, b";")?;
+    Ok(Some(Stmt::Assign(Assign { targets, value })))
 }
 
 #[tactic(auto, unfolding(dx_script_grammar::specs::Reading::several))]
@@ -92,8 +81,9 @@ pub fn several(
     cursor.sign(alloc, b"=")?;
     let (_, function) = cursor.name(alloc)?;
     let call = call_after(alloc, cursor, MAX_DEPTH, function)?;
+    cursor.sign(alloc, b";")?;
     let value = Expr::Call(call);
-    closed(alloc, cursor, Some(Stmt::Assign(Assign { targets, value })))
+    Ok(Some(Stmt::Assign(Assign { targets, value })))
 }
 
 /// A call with its name, for each step of the sequencer.
@@ -103,7 +93,8 @@ fn sequenced(alloc: Global, cursor: &mut Cursor<'_>) -> Result<Option<Stmt>, Par
 {
     let (_, name) = cursor.name(alloc)?;
     let call = call_after(alloc, cursor, MAX_DEPTH, name)?;
-    closed(alloc, cursor, Some(Stmt::Sequence(call)))
+    cursor.sign(alloc, b";")?;
+    Ok(Some(Stmt::Sequence(call)))
 }
 
 #[tactic(auto, unfolding(dx_script_grammar::specs::Reading::alone))]
