@@ -18,17 +18,11 @@ use std::alloc::Global;
 const DEFAULT_CACHE: u8 = 1;
 
 /// The value of an attribute `cache`, if it is one.
-fn cache_value(value: &Const) -> Option<u8>
-    ensures { result ≡ values.cache_value value.now }
+fn cache_value(value: Const) -> Option<u8>
+    ensures { result ≡ values.cache_value value }
 {
     match value {
-        Const::Int(n) => {
-            if *n >= 0 && *n < 3 {
-                Some(*n as u8)
-            } else {
-                None
-            }
-        }
+        Const::Int(n) => { if n >= 0 && n < 3 { Some(n as u8) } else { None } }
         _ => None,
     }
 }
@@ -62,13 +56,17 @@ fn attribute_value(alloc: Global, cursor: &mut Cursor<'_>) -> Result<(Place, Con
 fn attribute(alloc: Global, cursor: &mut Cursor<'_>) -> Result<Option<u8>, ParseFail>
     ensures { Reads (reading.attribute cursor.old) result cursor.new }
 {
-    let (_, name) = cursor.name(alloc)?;
+    let is_cache = {
+        let (_, name) = cursor.name(alloc)?;
+        is_word(name.bytes(), b"cache")
+    };
     cursor.sign(alloc, b":")?;
     let (place, value) = attribute_value(alloc, cursor)?;
-    if !is_word(name.bytes(), b"cache") {
+    let cache = cache_value(value);
+    if !is_cache {
         return Ok(None);
     }
-    match cache_value(&value) {
+    match cache {
         Some(cache) => Ok(Some(cache)),
         None => Err(ParseFail::Refused(fault(SyntaxKind::NumberRange, place))),
     }

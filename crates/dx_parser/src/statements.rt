@@ -61,10 +61,10 @@ fn called(alloc: Global, cursor: &mut Cursor<'_>, name: Bytes) -> Result<Option<
 fn single(alloc: Global, cursor: &mut Cursor<'_>, name: Bytes) -> Result<Option<Stmt>, ParseFail>
     ensures { Reads (reading.single name cursor.old) result cursor.new }
 {
+    let targets = one(alloc, name)?;
     cursor.sign(alloc, b"=")?;
     let value = expression(alloc, cursor, MAX_DEPTH)?;
     cursor.sign(alloc, b";")?;
-    let targets = one(alloc, name)?;
     Ok(Some(Stmt::Assign(Assign { targets, value })))
 }
 
