@@ -1,11 +1,9 @@
 -- The texts of the top level, one after the other.
-use Rattle.std.proofs.Common.{◌≡◌, ◌⊎◌, inl, inr, ℕ, zero, suc, ◌+◌, ◌*◌, ◌<◌, List, [], ◌∷◌, ◌++◌, length, get_or, map, take, Option, Some, None, Vec, refl, sym, ap, ap₂, subst, ◌∙◌, arith, length-append}
-use Rattle.std.specs.Prelude.{slice_set, slice_index_or, All}
+use Rattle.std.proofs.Common.{◌≡◌, ◌⊎◌, inl, inr, ℕ, zero, suc, ◌<◌, List, [], ◌∷◌, ◌++◌, length, get_or, map, take, Option, Some, None, Vec, refl, sym, ap, ap₂, subst, ◌∙◌, arith}
+use Rattle.std.specs.Prelude.{slice_set, slice_index_or}
 use Rattle.std.proofs.Math.Logic.{∥∥₁_map}
-use Rattle.std.proofs.lemmas.List.{length-map, length-set, get_or-set_same, get_or-set_other, get_or_append_left, get_or_push}
-use Rattle.std.proofs.lemmas.List.Elements.{All-cons, All-push}
+use Rattle.std.proofs.lemmas.List.{length-map, get_or-set_same, get_or-set_other}
 use Rattle.std.proofs.lemmas.Bool.{cases_eq}
-use Rattle.std.proofs.Math.Seq.{take-append_seam}
 use Rattle.std.specs.Str.{bytes_eq}
 use Rattle.std.specs.declared.alloc.Global.{Global}
 use Rattle.std.specs.HashMap.{HashMap, IsEmpty}
@@ -29,7 +27,7 @@ use Rattle.dx_graph.specs.Unfolding.{call_at, calls_of, unfolded}
 use Rattle.dx_graph.specs.GraphView.{graph_of}
 use Rattle.dx_graph.specs.Operands.{Gives, meaning, scope_with}
 use Rattle.dx_graph.specs.Expanding.{Setting, Expands, Remembers, Starts, expr_in, dictionary_in, top_scope, top_results}
-use Rattle.dx_graph.specs.Driving.{top_setting, top_expanded, effects_in, SameWorld, Rests, Learned}
+use Rattle.dx_graph.specs.Driving.{top_setting, top_expanded, effects_in, SameWorld, Rests}
 use Rattle.dx_graph.specs.Marks.{Memo}
 use Rattle.dx_graph.specs.declared.graph.Graph.{Graph}
 use Rattle.dx_graph.specs.declared.operand.Operand.{Operand}

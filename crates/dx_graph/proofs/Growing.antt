@@ -1,16 +1,13 @@
 -- A graph stays lawful while it grows.
-use Rattle.std.proofs.Common.{◌≡◌, ◌⊎◌, inl, inr, ℕ, suc, ◌+◌, ◌<◌, ◌≤◌, List, [], ◌∷◌, ◌++◌, length, get_or, take, map, min, Bool, true, false, refl, sym, ap, subst, ◌∙◌, arith, length-append}
+use Rattle.std.proofs.Common.{◌≡◌, ◌⊎◌, inl, inr, ℕ, suc, ◌+◌, ◌<◌, ◌≤◌, List, [], ◌∷◌, ◌++◌, length, get_or, take, map, Bool, true, false, refl, sym, ap, subst, ◌∙◌, arith, length-append}
 use Rattle.std.specs.Prelude.{Result, Ok, Err, IfOk, OnOk, OnErr, if◌then◌else◌}
-use Rattle.std.proofs.lemmas.List.{get_or_push, get_or-take, length-take, take-map}
+use Rattle.std.proofs.lemmas.List.{get_or_push}
 use Rattle.std.proofs.lemmas.List.Elements.{All-push, All-take}
 use Rattle.std.proofs.Math.Logic.{∥∥₁_map}
 use Rattle.std.proofs.Math.Nat.{eq-or-lt_of_le}
-use Rattle.dx_ast.specs.Table.{row_of}
 use Rattle.dx_graph.specs.Trails.{spot_of, spots_of}
-use Rattle.dx_graph.specs.Graph.{Node, Graph, no_node, node_of, node_at, with_node, with_effects, MayTake, IsNode, AreNodes, IsEffect, IsEffectNode, IsGraph}
+use Rattle.dx_graph.specs.Graph.{Node, Graph, no_node, node_of, node_at, with_node, with_effects, IsNode, AreNodes, IsEffect, IsEffectNode, IsGraph}
 use Rattle.dx_graph.specs.Shown.{plain_node, graph_with, IsPlaced, ArePlaced}
-use Rattle.dx_graph.specs.declared.node.Input.{Input}
-use Rattle.dx_graph.specs.declared.node.Input.TheVariants as input
 use Rattle.dx_graph.specs.declared.node.Placed.{Placed}
 use Rattle.dx_graph.specs.declared.trail.Trail.{Trail}
 use Rattle.dx_graph.proofs.Earlier.{append_nil, same_length}

@@ -1,5 +1,5 @@
 -- The definitions with a mark, one after the other in the order of their places.
-use Rattle.std.proofs.Common.{◌≡◌, ◌⊎◌, inl, inr, ⊎_elim, ℕ, zero, suc, ◌+◌, ◌<◌, ◌≤◌, List, [], ◌∷◌, length, get_or, map, Option, Some, None, Bool, true, false, refl, sym, ap, ap₂, subst, ◌∙◌, arith}
+use Rattle.std.proofs.Common.{◌≡◌, ◌⊎◌, inl, inr, ⊎_elim, ℕ, zero, suc, ◌+◌, ◌<◌, ◌≤◌, List, [], ◌∷◌, length, get_or, Option, Some, None, Bool, true, false, refl, sym, ap, ap₂, subst, ◌∙◌, arith}
 use Rattle.std.specs.Prelude.{is_some, slice_get, slice_index_or, slice_set, ◌||◌}
 use Rattle.std.specs.Ordering.{nat_cmp, eq_by_cmp}
 use Rattle.std.specs.Set.{is_member}
@@ -11,11 +11,10 @@ use Rattle.std.proofs.lemmas.List.{length-map, length-replicate, get_or-set_same
 use Rattle.std.proofs.Math.ListN.{get_or-map}
 use Rattle.std.proofs.lemmas.Map.Keys.{below_from_sorted}
 use Rattle.std.proofs.lemmas.Map.Made.{All-is_member}
-use Rattle.dx_ast.specs.declared.statements.Assign.{Assign}
 use Rattle.dx_macros.specs.declared.dictionary.Dictionary.{Dictionary}
 use Rattle.dx_ast.specs.Syntax.{Stmt}
 use Rattle.dx_macros.specs.Dictionary.{TopText, top_text, definition}
-use Rattle.dx_macros.specs.Walk.{Walk, Walked, Goes, Faulty, walk_text, walk_of, walk_by, walk_begins, reader_at, reader_of, read_in, definitions_read, fault_in, fault_of_text, first_fault}
+use Rattle.dx_macros.specs.Walk.{Goes, walk_text, walk_of, walk_by, walk_begins, reader_at, reader_of, read_in, definitions_read, fault_of_text, first_fault}
 use Rattle.dx_macros.proofs.BudgetLaw.{goes_of, none_marked}
 use Rattle.dx_graph.proofs.Marks.{text_marks, reader_marks}
 use Rattle.dx_macros.specs.DictionaryView.{dictionary_of}

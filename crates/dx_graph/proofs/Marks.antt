@@ -1,5 +1,5 @@
 -- A walk keeps what is marked, and each definition that it marks is walked itself.
-use Rattle.std.proofs.Common.{◌≡◌, ◌⊎◌, inl, inr, ⊎_elim, ℕ, zero, suc, ◌<◌, ◌≤◌, List, [], ◌∷◌, ◌++◌, length, Option, Some, None, Bool, true, false, refl, sym, ap, subst, ◌∙◌, arith}
+use Rattle.std.proofs.Common.{◌≡◌, inl, inr, ⊎_elim, ℕ, zero, suc, ◌<◌, ◌≤◌, List, [], ◌∷◌, ◌++◌, length, Some, Bool, true, false, refl, sym, ap, subst, ◌∙◌, arith}
 use Rattle.std.specs.Prelude.{slice_index_or, slice_set, if◌then◌else◌}
 use Rattle.std.proofs.lemmas.List.{length-set, get_or-set_same}
 use Rattle.dx_ast.specs.Classes.{Text}
@@ -8,9 +8,9 @@ use Rattle.dx_macros.specs.Site.{Step, next_step, first_target}
 use Rattle.dx_base.specs.NameLists.{has}
 use Rattle.dx_macros.specs.Names.{calls_in, calls_after, names_after}
 use Rattle.dx_macros.specs.Dictionary.{TopText, Macros, Callee, Unknown, CallsMacro, CallsFunction, callee, definition, last_named, param_names}
-use Rattle.dx_macros.specs.Walk.{Walk, Walked, Goes, Faulty, and_then, fault_of_call, walked_by, arg_names, WalkUnder, Reader, enter_callee, walk_expr, walk_call, walk_args, walk_statement, walk_body, read_all, beside, pick, walk_macro, walk_at_top, walk_text, read_definition, reader_at}
+use Rattle.dx_macros.specs.Walk.{Walk, Walked, Goes, and_then, fault_of_call, walked_by, arg_names, WalkUnder, Reader, enter_callee, walk_expr, walk_call, walk_args, walk_statement, walk_body, read_all, beside, pick, walk_macro, walk_at_top, walk_text, read_definition, reader_at}
 use Rattle.dx_macros.proofs.BudgetLaw.{goes_inv, walked_inv, marked}
-use Rattle.dx_graph.specs.Marks.{IsMarked, Includes, definition_walk, WalkedWithin, Grown}
+use Rattle.dx_graph.specs.Marks.{IsMarked, definition_walk, WalkedWithin, Grown}
 
 still_marked : (xs : List Bool) (i j : ℕ) → slice_index_or xs j false ≡ true → slice_index_or (slice_set xs i true) j false ≡ true
 still_marked [] i j e = cc

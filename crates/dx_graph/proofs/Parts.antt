@@ -1,5 +1,5 @@
 -- What was walked of a text was walked of its parts.
-use Rattle.std.proofs.Common.{◌≡◌, ℕ, zero, suc, ◌+◌, ◌<◌, ◌≤◌, List, [], ◌∷◌, ◌++◌, length, get_or, take, drop, Option, Some, None, Bool, true, false, refl, sym, ap, ap₂, subst, ◌∙◌, arith, append_assoc}
+use Rattle.std.proofs.Common.{◌≡◌, ℕ, zero, suc, ◌+◌, ◌<◌, ◌≤◌, List, [], ◌∷◌, ◌++◌, length, get_or, take, drop, Option, Some, None, Bool, true, false, refl, sym, ap, subst, ◌∙◌, arith, append_assoc}
 use Rattle.std.specs.Prelude.{is_some, slice_index_or, if◌then◌else◌, ◌||◌}
 use Rattle.std.specs.Str.{bytes_eq}
 use Rattle.std.proofs.lemmas.List.{drop_more, drop_all, take_more, map-append}
@@ -20,12 +20,12 @@ use Rattle.dx_macros.specs.Site.{Step, next_step, first_target}
 use Rattle.dx_base.specs.NameLists.{has}
 use Rattle.dx_macros.specs.Names.{calls_in, calls_after, names_after}
 use Rattle.dx_macros.specs.Dictionary.{TopText, Macros, Callee, CallsMacro, callee, param_names, last_named}
-use Rattle.dx_macros.specs.Walk.{Walk, Walked, Goes, and_then, fault_of_call, walked_by, arg_names, WalkUnder, Reader, enter_callee, walk_expr, walk_call, walk_args, walk_statement, walk_body, read_all, beside, walk_macro}
+use Rattle.dx_macros.specs.Walk.{Walk, Walked, Goes, and_then, fault_of_call, walked_by, arg_names, WalkUnder, enter_callee, walk_expr, walk_args, walk_statement, walk_body, read_all, beside, walk_macro}
 use Rattle.dx_macros.proofs.Doing.{stmt_call, stmt_assign}
 use Rattle.dx_macros.proofs.BudgetLaw.{goes_inv, walked_inv, has-append}
 use Rattle.dx_graph.specs.Operands.{Own}
 use Rattle.dx_graph.specs.Expanding.{SameText, dictionary_in}
-use Rattle.dx_graph.specs.Marks.{Memo, Grown, IsWalked, IsReader, WasWalked, ExprWalked, CallWalked, ArgsWalked, StatementWalked, NameWalked, NamesWalked, CalleeWalked, MacroWalked, BodyWalked, TopWalked, Holds, top_reader, walk_under}
+use Rattle.dx_graph.specs.Marks.{Memo, Grown, IsWalked, IsReader, ExprWalked, CallWalked, ArgsWalked, StatementWalked, NameWalked, NamesWalked, CalleeWalked, MacroWalked, BodyWalked, TopWalked, Holds, top_reader, walk_under}
 use Rattle.dx_graph.specs.declared.operand.Operand.{Operand}
 use Rattle.dx_graph.specs.declared.operand.Results.{Results}
 use Rattle.dx_graph.specs.declared.text.World.{World}

@@ -1,5 +1,5 @@
 -- The texts of the top level, and what an expansion remembers of them.
-use Rattle.std.specs.Prelude.{◌≡◌, ℕ, suc, ◌<◌, List, [], ◌∷◌, Option, Some, None, length, slice_index_or, slice_set}
+use Rattle.std.specs.Prelude.{◌≡◌, ℕ, List, [], Option, Some, None, length, slice_set}
 use Rattle.dx_macros.specs.Site.{Spot}
 use Rattle.dx_macros.specs.Tree.{CallTree}
 use Rattle.dx_macros.specs.Dictionary.{TopText}

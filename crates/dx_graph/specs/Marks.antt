@@ -1,5 +1,5 @@
 -- What the walk of a statement marks: no more is read where the statement is expanded.
-use Rattle.std.specs.Prelude.{◌≡◌, ◌⊎◌, ◌<◌, ◌≤◌, ℕ, List, Option, Some, None, Bool, true, false, is_some, length, slice_index_or}
+use Rattle.std.specs.Prelude.{◌≡◌, ◌⊎◌, ◌<◌, ◌≤◌, ℕ, List, Option, None, Bool, true, false, is_some, length, slice_index_or}
 use Rattle.dx_base.specs.NameTable.{under_name}
 use Rattle.dx_ast.specs.Classes.{Text as Name}
 use Rattle.dx_ast.specs.Syntax.{Expr, Call, Args, Stmt, Stmts, Macro}

@@ -22,11 +22,10 @@ use crate::graph::Graph;
 use crate::inputs::inputs_of;
 use crate::operand::{Operand, Results, frame_value};
 use crate::own::{assign, bind_params};
-use crate::put::put;
 use crate::text::{Text, World, meaning};
 use dx_ast::{Arg, Call, Expr, MacroDef, Stmt, results};
 use dx_base::{Bytes, Function, Names};
-use dx_macros::{Callee, called};
+use dx_macros::{Callee, called, put};
 use std::alloc::{AllocError, Global};
 
 /// A call of a function that has an effect is the next effect.

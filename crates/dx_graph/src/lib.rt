@@ -10,7 +10,6 @@ mod law;
 mod node;
 mod operand;
 mod own;
-mod put;
 mod text;
 mod trail;
 mod trails;

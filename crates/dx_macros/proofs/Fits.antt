@@ -1,8 +1,8 @@
 -- Arguments and parameters.
-use Rattle.std.proofs.Common.{◌≡◌, ℕ, zero, suc, ◌+◌, ◌<◌, List, [], ◌∷◌, ◌++◌, map, length, Option, Some, None, Bool, true, false, refl, ap, ap₂, ◌∙◌, sym, arith, option_map, take, drop}
+use Rattle.std.proofs.Common.{◌≡◌, ℕ, zero, suc, ◌+◌, ◌<◌, ◌≤◌, List, [], ◌∷◌, ◌++◌, map, length, Option, Some, None, Bool, true, false, refl, ap, ap₂, ◌∙◌, sym, arith, option_map, take, drop, get_or}
 use Rattle.std.specs.Prelude.{nat_lt, ◌&&◌, ◌||◌, if◌then◌else◌, is_some}
 use Rattle.std.specs.List.{remove, list_any}
-use Rattle.std.proofs.lemmas.List.{length-map}
+use Rattle.std.proofs.lemmas.List.{length-map, drop_all, drop_more}
 use Rattle.std.specs.Str.{bytes_eq}
 use Rattle.dx_ast.specs.Classes.{Text}
 use Rattle.dx_base.specs.NameLists.{has}
@@ -76,6 +76,30 @@ uses_none zs ws name n e h others =
     named_by : (zs : List Text) (n : Text) (others : List (Option Text)) → names_fit zs (Some n ∷ others) ≡ (has zs n && names_fit (without n zs) others)
     named_by [] n others = refl
     named_by (z ∷ zs) n others = refl
+
+-- the arguments from one place on
+from_here : (free : List Text) (xs : List Arg) (i : ℕ) (a : Arg) → i < length xs → a ≡ get_or xs i a →
+    names_fit free (arg_names (plain_args (drop i xs))) ≡ names_fit free (a.name ∷ arg_names (plain_args (drop (i + 1) xs)))
+from_here free xs i a h e = ap (λ (ys : List Arg). names_fit free (arg_names (plain_args ys))) (drop_more xs i a h ∙ ap (λ (x : Arg). x ∷ drop (i + 1) xs) (sym e))
+
+pub fits_on : (old new : List Text) (xs : List Arg) (i : ℕ) (a : Arg) (b r : Bool) → i < length xs → a ≡ get_or xs i a → UsesOne old a.name new b → b ≡ true →
+    names_fit old (arg_names (plain_args (drop i xs))) ≡ r → names_fit new (arg_names (plain_args (drop (i + 1) xs))) ≡ r
+fits_on old new xs i a b r h e u t p =
+    let others = arg_names (plain_args (drop (i + 1) xs)) in
+    sym (u others ∙ ap (λ (q : Bool). q && names_fit new others) t) ∙ sym (from_here old xs i a h e) ∙ p
+
+pub fits_not : (old new : List Text) (xs : List Arg) (i : ℕ) (a : Arg) (b r : Bool) → i < length xs → a ≡ get_or xs i a → UsesOne old a.name new b → b ≡ false →
+    names_fit old (arg_names (plain_args (drop i xs))) ≡ r → false ≡ r
+fits_not old new xs i a b r h e u t p =
+    let others = arg_names (plain_args (drop (i + 1) xs)) in
+    sym (u others ∙ ap (λ (q : Bool). q && names_fit new others) t) ∙ sym (from_here old xs i a h e) ∙ p
+
+no_more : (free : List Text) → names_fit free [] ≡ true
+no_more [] = refl
+no_more (p ∷ free) = refl
+
+pub fits_all : (free : List Text) (xs : List Arg) (i : ℕ) (r : Bool) → length xs ≤ i → names_fit free (arg_names (plain_args (drop i xs))) ≡ r → true ≡ r
+fits_all free xs i r h p = sym (ap (λ (ys : List Arg). names_fit free (arg_names (plain_args ys))) (drop_all i xs h) ∙ no_more free) ∙ p
 
 pub length-args : (xs : List Arg) → length (arg_names (plain_args xs)) ≡ length xs
 length-args [] = refl

@@ -9,13 +9,14 @@ mod dictionary;
 mod fault;
 mod jobs;
 mod machine;
+mod pushing;
 mod signature;
 mod site;
 
 pub use budget::no_budget_runs_out;
 pub use callee::{Callee, called};
 pub use dictionary::Dictionary;
-pub use dx_base::{Names, Sparse};
 pub use fault::{CheckFail, StaticFault};
 pub use jobs::MAX_STEPS;
+pub use pushing::put;
 pub use site::{Step, site_text};

@@ -1,5 +1,5 @@
 //! The walk under way: the texts that are walked, the jobs that are left, and what was counted and read so far.
-ghost use Rattle.std.specs.Prelude.{◌≡◌, ◌<◌, ◌∷◌, ◌++◌, [], OnOk, IfOk, slice_set, slice_index_or, true, false};
+ghost use Rattle.std.specs.Prelude.{◌≡◌, ◌<◌, ◌++◌, [], OnOk, IfOk, slice_set, slice_index_or, true, false};
 ghost use Rattle.dx_ast.specs.Limits.{max_walk_calls};
 ghost use Rattle.dx_macros.specs.Dictionary.{param_names};
 ghost use Rattle.dx_macros.specs.MachineView.{PushesJob, Enters, IsLeft, CountsCall, steps_to, base_of, waiting_above};
@@ -8,6 +8,7 @@ ghost use Rattle.dx_base.specs.Places.{flags};
 ghost use Rattle.dx_macros.specs.Steps.{plain_steps};
 
 use crate::fault::StaticFault;
+use crate::pushing::put;
 use crate::site::Step;
 use dx_ast::{Arg, Call, Expr, MacroDef, Param, Stmt};
 use dx_base::{Bytes, Names, Sparse};
@@ -86,14 +87,6 @@ impl<'a> From<AllocError> for Stop<'a> {
     fn from(_: AllocError) -> Stop<'a> {
         Stop::Memory
     }
-}
-
-/// One more element.
-pub fn put<T: Drop>(list: &mut Vec<T>, item: T) -> Result<(), AllocError>
-    ensures { OnOk result (list.new.items ≡ list.old.items ++ item ∷ []) }
-{
-    list.push(item)?;
-    Ok(())
 }
 
 /// One more job; the rest stays as it was.

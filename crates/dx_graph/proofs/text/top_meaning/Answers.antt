@@ -1,7 +1,7 @@
 use Rattle.std.proofs.Common.{◌∙◌, sym, ap, ℕ, List}
 use Rattle.dx_ast.specs.Classes.{Text}
 use Rattle.dx_macros.specs.Dictionary.{TopText}
-use Rattle.dx_graph.specs.Expanding.{dictionary_in, top_results, last_target}
+use Rattle.dx_graph.specs.Expanding.{top_results, last_target}
 use Rattle.dx_graph.specs.Operands.{Gives}
 use Rattle.dx_graph.proofs.TopLevel.{unbound, bound_at}
 use Rattle.dx_graph.proofs.Parts.{result_known}
