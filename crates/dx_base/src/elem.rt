@@ -64,33 +64,3 @@ pub fn in_range(t: ElemType, v: i64) -> bool
 {
     t.lowest() <= v && v <= t.highest()
 }
-
-#[cfg(test)]
-mod tests {
-    use super::*;
-    use std::test::Fail;
-
-    #[test]
-    fn the_ends_of_each_type_are_inside_and_their_neighbours_outside(
-        rt: HostRuntime,
-    ) -> Result<(), Fail> {
-        let ends = [
-            (ElemType::Byte, 1, [-129, -128, 127, 128]),
-            (ElemType::UByte, 1, [-1, 0, 255, 256]),
-            (ElemType::Short, 2, [-32_769, -32_768, 32_767, 32_768]),
-            (ElemType::UShort, 2, [-1, 0, 65_535, 65_536]),
-            (
-                ElemType::Int,
-                4,
-                [-2_147_483_649, -2_147_483_648, 2_147_483_647, 2_147_483_648],
-            ),
-            (ElemType::UInt, 4, [-1, 0, 4_294_967_295, 4_294_967_296]),
-        ];
-        for (elem, bytes, [below, low, high, above]) in ends {
-            assert_eq!(rt; elem.byte_count(), bytes);
-            assert!(rt; in_range(elem, low) && in_range(elem, high));
-            assert!(rt; !in_range(elem, below) && !in_range(elem, above));
-        }
-        Ok(())
-    }
-}

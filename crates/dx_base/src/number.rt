@@ -122,36 +122,3 @@ fn nearest(negative: bool, n: u64) -> i64
         i64::try_from(n).unwrap_or(i64::MAX)
     }
 }
-
-#[cfg(test)]
-mod tests {
-    use super::*;
-
-    #[test]
-    fn words_are_read_as_numbers(rt: HostRuntime) {
-        for (word, number) in [
-            ("0", Some(0)),
-            ("007", Some(7)),
-            ("+5", Some(5)),
-            ("-0", Some(0)),
-            ("1.", Some(1)),
-            ("1.000", Some(1)),
-            ("-9223372036854775808", Some(i64::MIN)),
-            ("9223372036854775807", Some(i64::MAX)),
-            ("9223372036854775808", None),
-            ("-9223372036854775809", None),
-            ("99999999999999999999", None),
-            ("", None),
-            ("-", None),
-            ("+-1", None),
-            (".0", None),
-            ("1.5", None),
-            ("1.0.", None),
-            ("1e5", None),
-            ("0x10", None),
-            (" 1", None),
-        ] {
-            assert_eq!(rt; read_int(word.as_bytes()), number, "at {word}");
-        }
-    }
-}
