@@ -1,0 +1,251 @@
+// The entries of a cache, the oldest first: slots, of which the entries are a chain and those of each site are another, and tables that
+// lead from tags to slots and from sites to the ends of their chains.
+
+ghost use Rattle.std.specs.Prelude.{◌≡◌, ◌⊎◌, ℕ, ◌+◌, ◌-◌, ◌<◌, ◌≤◌, ◌↔◌, [], ◌∷◌, ◌++◌, Some, None, length, OnOk, OnErr, IfSome, IfNone, OnSome, IsTrue, IsSome, MatchOption, ◌==◌, true, false, vec_len, vec_capacity, is_some, slice_get};
+ghost use Rattle.std.specs.List.{remove};
+ghost use Rattle.dx_base.specs.Object.{results_size};
+ghost use Rattle.dx_cache.specs.Cached.{Cached, total, find, moved, place, has_tag, of_site, next_place, Drops};
+ghost use Rattle.dx_cache.specs.Sound.{AreKept, IsKept};
+
+use dx_base::Bytes;
+use crate::chains::{Ends, Link, no_ends, put_last, take_out};
+use crate::entry::Entry;
+use crate::slots::{Body, fill, grow, lift, next};
+use indexmap::IndexMap;
+use crate::names::Names;
+use dx_objects::Outs;
+use std::alloc::{AllocError, Global};
+use std::marker::Model;
+
+/// A bounded cache.
+#[derive(Drop)]
+pub struct Cache {
+    budget: u64,
+    used: u64,
+    // What each slot has, its site, and its neighbours among all entries or the free slots, and among the entries of its site.
+    slots: Vec<Option<Body>>,
+    names: Names,
+    links: Vec<Link>,
+    own: Vec<Link>,
+    // The ends of the chain of all entries, and of that of the free slots.
+    all: Ends,
+    free: Ends,
+    // The slot of each tag's entry.
+    tags: IndexMap<u64, usize>,
+}
+
+impl Model for Cache {
+    ghost use Rattle.std.specs.Prelude.{length, min};
+    ghost use Rattle.indexmap.specs.IndexMap.{spare};
+    ghost use Rattle.dx_cache.specs.Cached.{Cached};
+    ghost use Rattle.dx_cache.specs.CachedCode.{coded_cached};
+    ghost use Rattle.dx_cache.specs.Tied.{IsSound, entries_at, order_in};
+
+    ghost Value = { Cached };
+
+    ghost coded = { coded_cached };
+
+    ghost view = { λ a. record {
+      budget = a.budget;
+      entries = entries_at a.slots.items a.names.names (order_in a.links.items a.slots.items a.all);
+      room = min (length (order_in a.links.items a.slots.items a.free)) (min (spare a.tags) a.names.room);
+    } };
+
+    ghost invariant = { λ a. IsSound a.budget a.used a.slots.items a.names.names a.names.ends a.links.items a.own.items a.all a.free a.tags.entries };
+}
+
+impl Cache {
+    /// An empty cache of this budget.
+    pub fn new(alloc: Global, budget: u64) -> Cache
+        ensures budget { result.budget ≡ budget }
+        ensures entries { result.entries ≡ [] }
+    {
+        Cache {
+            budget,
+            used: 0,
+            slots: Vec::new(alloc),
+            names: Names::new(alloc),
+            links: Vec::new(alloc),
+            own: Vec::new(alloc),
+            all: no_ends(),
+            free: no_ends(),
+            tags: IndexMap::new(alloc),
+        }
+    }
+
+    /// The budget.
+    pub fn budget(&self) -> u64
+        ensures { result ≡ self.now.budget }
+    {
+        self.budget
+    }
+
+    /// The sum of the stated sizes.
+    pub fn used(&self) -> u64
+        ensures used { result ≡ total self.now.entries }
+        ensures bounded { result ≤ self.now.budget }
+        ensures kept { AreKept self.now.entries }
+    {
+        self.used
+    }
+
+    /// The results that are kept for a tag.
+    pub fn outs(&self, tag: u64) -> Option<&Outs>
+        ensures { MatchOption result (find tag self.now.entries ≡ None) (λ outs. (e : _) × (find tag self.now.entries ≡ Some e) × (e.outs ≡ outs.now)) }
+    {
+        match self.tags.get(&tag) {
+            None => None,
+            Some(&i) => match &self.slots[i] {
+                None => unreachable!(),
+                Some(body) => Some(&body.outs),
+            },
+        }
+    }
+
+    /// Moves the entry of a tag to the end, and says whether there is one.
+    pub fn get(&mut self, tag: u64) -> bool
+        ensures found { result ≡ is_some (find tag self.old.entries) }
+        ensures entries { self.new.entries ≡ moved tag self.old.entries }
+        ensures budget { self.new.budget ≡ self.old.budget }
+        ensures room { self.old.room ≤ self.new.room }
+    {
+        match self.tags.get(&tag) {
+            None => false,
+            Some(&i) => {
+                take_out(&mut self.links, &mut self.all, i);
+                put_last(&mut self.links, &mut self.all, i);
+                let mut ends = self.names.ends_at(i);
+                take_out(&mut self.own, &mut ends, i);
+                put_last(&mut self.own, &mut ends, i);
+                self.names.set_ends(i, ends);
+                true
+            }
+        }
+    }
+
+    /// Makes room for one more entry.
+    pub fn reserve_one(&mut self) -> Result<(), AllocError>
+        ensures entries { self.new.entries ≡ self.old.entries }
+        ensures budget { self.new.budget ≡ self.old.budget }
+        ensures room { self.old.room ≤ self.new.room }
+        ensures spare { OnOk result (0 < self.new.room) }
+    {
+        self.tags.reserve(1)?;
+        self.names.reserve_one()?;
+        if self.free.first.is_none() {
+            let i = self.slots.len();
+            grow(
+                &mut self.slots,
+                &mut self.links,
+                &mut self.own,
+                &mut self.names,
+            )?;
+            put_last(&mut self.links, &mut self.free, i);
+        }
+        Ok(())
+    }
+
+    /// Takes out the next entry that is dropped before one of this site, attribute and size is kept.
+    pub fn make_room(&mut self, site: &Bytes, attribute: u8, size: u64) -> Option<Entry>
+        ensures { Drops (next_place site.now attribute size self.old.budget self.old.entries) self.old result self.new }
+    {
+        match next(
+            &self.names,
+            self.all.first,
+            self.used,
+            self.budget,
+            site,
+            attribute,
+            size,
+        ) {
+            None => None,
+            Some(i) => match lift(&mut self.slots, i) {
+                None => unreachable!(),
+                Some(body) => {
+                    let Body {
+                        tag,
+                        attribute,
+                        size,
+                        outs,
+                    } = body;
+                    self.used -= size;
+                    self.tags.swap_remove(&tag);
+                    take_out(&mut self.links, &mut self.all, i);
+                    put_last(&mut self.links, &mut self.free, i);
+                    let mut ends = self.names.ends_at(i);
+                    take_out(&mut self.own, &mut ends, i);
+                    self.names.set_ends(i, ends);
+                    let site = self.names.take(i, ends.first);
+                    Some(Entry {
+                        tag,
+                        site,
+                        attribute,
+                        size,
+                        outs,
+                    })
+                }
+            },
+        }
+    }
+
+    /// Keeps an entry, the newest.
+    pub fn store(&mut self, entry: Entry)
+        requires spare { 0 < self.old.room }
+        requires absent { find entry.tag self.old.entries ≡ None }
+        requires kept { IsKept entry }
+        requires fits { total self.old.entries + entry.size ≤ self.old.budget }
+        requires none_to_drop { next_place entry.site entry.attribute entry.size self.old.budget self.old.entries ≡ None }
+        ensures entries { self.new.entries ≡ self.old.entries ++ entry ∷ [] }
+        ensures budget { self.new.budget ≡ self.old.budget }
+        ensures room { self.old.room ≤ self.new.room + 1 }
+    {
+        match self.free.first {
+            None => unreachable!(),
+            Some(i) => {
+                let Entry {
+                    tag,
+                    site,
+                    attribute,
+                    size,
+                    outs,
+                } = entry;
+                take_out(&mut self.links, &mut self.free, i);
+                put_last(&mut self.links, &mut self.all, i);
+                match self.tags.insert(tag, i) {
+                    Ok(_) => {}
+                    Err(_) => unreachable!(),
+                }
+                self.names.add(i, site);
+                let mut ends = self.names.ends_at(i);
+                put_last(&mut self.own, &mut ends, i);
+                self.names.set_ends(i, ends);
+                self.used += size;
+                fill(
+                    &mut self.slots,
+                    i,
+                    Body {
+                        tag,
+                        attribute,
+                        size,
+                        outs,
+                    },
+                );
+            }
+        }
+    }
+
+    /// Drops all entries.
+    pub fn clear(&mut self)
+        ensures entries { self.new.entries ≡ [] }
+        ensures budget { self.new.budget ≡ self.old.budget }
+    {
+        self.slots.clear();
+        self.names.clear();
+        self.links.clear();
+        self.own.clear();
+        self.tags.clear();
+        self.all = no_ends();
+        self.free = no_ends();
+        self.used = 0;
+    }
+}
