@@ -4,7 +4,7 @@ use Rattle.std.specs.Prelude.{slice_get, slice_set, IfSome}
 use Rattle.dx_cache.specs.declared.chains.Link.{Link}
 use Rattle.dx_cache.specs.declared.chains.Ends.{Ends}
 use Rattle.dx_cache.specs.Changed.{with_after, set_after, with_before, set_before, after_it, before_it, attached, first_unless, attached_ends, detached, in_place_of, detached_ends}
-use Rattle.dx_cache.specs.Chain.{first_or, last_or, Leads, IsChain, IsIn, IsOut, AreApart, next_of, walk}
+use Rattle.dx_cache.specs.Chain.{first_or, last_or, Leads, IsChain, IsIn, IsOut, AreApart, next_of, next_in, walk, along}
 use Rattle.dx_cache.proofs.SlotLaws.{cases, same_or_not, get_set_same, get_set_other, length_set, within, out_not_in, not_in_out, in_left, in_right, in_either, out_left, out_right, apart_left, apart_right, apart_cross, apart_middle}
 
 -- One link.
@@ -258,3 +258,18 @@ walk_chain links e xs n c w = ap (walk links n) c.first ∙ walk_leads links Non
 -- an empty chain
 pub chain_none : (links : List Link) → IsChain links (record { first = None; last = None }) []
 chain_none links = record { first = refl; last = refl; leads = tt }
+
+-- The slot that so many steps lead to.
+
+along_none : (links : List Link) (n : ℕ) → along links n None ≡ None
+along_none links zero = refl
+along_none links (suc n) = ap (next_in links) (along_none links n)
+
+along_next : (links : List Link) (n : ℕ) (o : Option ℕ) → along links (suc n) o ≡ along links n (next_in links o)
+along_next links zero o = refl
+along_next links (suc n) o = ap (next_in links) (along_next links n o)
+
+pub along_leads : (links : List Link) (before : Option ℕ) (xs : List ℕ) (n : ℕ) → Leads links before xs None → along links n (first_or xs None) ≡ slice_get xs n
+along_leads links before [] n l = along_none links n
+along_leads links before (i ∷ is) zero l = refl
+along_leads links before (i ∷ is) (suc n) l = along_next links n (Some i) ∙ ap (λ o. along links n (next_of o)) l.0 ∙ along_leads links (Some i) is n l.1

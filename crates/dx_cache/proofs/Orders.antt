@@ -132,3 +132,28 @@ none_placed p q f (x ∷ xs) n s e =
       let e1 : first_or (filter p xs) None ≡ None = rw r at e in
       let fails : q (f x) ≡ false = here ∙ r in
       rw fails (none_placed p q f xs (suc n) (λ j m. s j (inr m)) e1))
+
+-- The slot at a place.
+
+pub length_map : (f : ℕ → Entry) (xs : List ℕ) → length (map f xs) ≡ length xs
+length_map f [] = refl
+length_map f (x ∷ xs) = let r = length_map f xs in omega (arith, r)
+
+pub has_place : (xs : List ℕ) (n : ℕ) → n < length xs → slice_get xs n ≡ None → ⊥
+has_place [] n w h = let no : 0 < 0 = omega (arith, w) in omega (arith, no)
+has_place (x ∷ xs) zero w h = cc
+has_place (x ∷ xs) (suc n) w h = has_place xs n (omega (arith, w)) h
+
+pub record IsSplitAt (xs : List ℕ) (n i : ℕ) : Type 0 where
+  pub left : List ℕ
+  pub right : List ℕ
+  pub whole : xs ≡ left ++ i ∷ right
+  pub place : length left ≡ n
+
+pub split_place : (xs : List ℕ) (n i : ℕ) → slice_get xs n ≡ Some i → IsSplitAt xs n i
+split_place [] n i h = cc
+split_place (x ∷ xs) zero i h = let same : x ≡ i = cc in record { left = []; right = xs; whole = ap (λ y. y ∷ xs) same; place = refl }
+split_place (x ∷ xs) (suc n) i h =
+    let r = split_place xs n i h in
+    let p = r.place in
+    record { left = x ∷ r.left; right = r.right; whole = ap (λ ys. x ∷ ys) r.whole; place = omega (arith, p) }

@@ -174,3 +174,17 @@ total-moved es i e g =
 
 pub kept-moved : (es : List Entry) (i : ℕ) (e : Entry) → AreKept es → slice_get es i ≡ Some e → AreKept (remove es i ++ e ∷ [])
 kept-moved es i e k g = kept-append (remove es i) e (kept-remove es i k) (kept_at es i e k g) (alone_at es i e k g)
+
+-- the place of the first that passes
+pub place_first : (p : Entry → Bool) (es : List Entry) (n k : ℕ) → IsFirst p es k → place_from n p es ≡ Some (n + k)
+place_first p [] n k f = absurd f
+place_first p (x ∷ es) n zero f = rw f (ap Some (omega arith))
+place_first p (x ∷ es) n (suc k) f = rw f.0 (place_first p es (suc n) k f.1 ∙ ap Some (omega arith))
+
+-- where no entry has a tag there is no place of it
+pub absent_place : (t : ℕ) (es : List Entry) → find t es ≡ None → (i : ℕ) → place (has_tag t) es ≡ Some i → ⊥
+absent_place t es h i p =
+    let f = first_place (has_tag t) es i p in
+    let s = first_slot (has_tag t) es i f in
+    let no : None ≡ Some s.0 = sym h ∙ first_found t es i s.0 f s.1 in
+    cc

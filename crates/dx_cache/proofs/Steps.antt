@@ -14,11 +14,11 @@ use Rattle.dx_cache.proofs.SlotLaws.{within, get_set_same, in_others, in_right, 
 use Rattle.dx_cache.specs.Named.{HasName, given_ends, added_ends, taken_ends, or_no_ends}
 use Rattle.dx_cache.specs.declared.entry.Entry.{Entry}
 use Rattle.dx_cache.specs.declared.slots.Body.{Body}
-use Rattle.dx_cache.specs.Cached.{Cached, total, has_tag, of_site, find, moved, next_place, Drops}
+use Rattle.dx_cache.specs.Cached.{Cached, total, place, has_tag, of_site, find, moved, next_place, Drops}
 use Rattle.dx_cache.specs.Sound.{IsKept, AreKept}
 use Rattle.dx_cache.specs.Tied.{body_in, site_in, entry_of, entry_at, entries_at, slots_of, IsFull, IsFree, HasTag, IsTied, order_in, IsSound, next_slot}
-use Rattle.dx_cache.proofs.Places.{first_moved, total-moved, kept-moved, total-remove, kept-remove, kept_at, total-append, kept-append, found_none, none_found, none_filter}
-use Rattle.dx_cache.proofs.Orders.{get_middle, remove_middle, map_both, length_both}
+use Rattle.dx_cache.proofs.Places.{place_first, first_moved, total-moved, kept-moved, total-remove, kept-remove, kept_at, total-append, kept-append, found_none, none_found, none_filter}
+use Rattle.dx_cache.proofs.Orders.{get_middle, remove_middle, map_both, length_both, split_place}
 use Rattle.dx_cache.proofs.Tying.{kept_first, kept_found, not_both, order_is, vacant_is, order_within, vacant_within, entry_is, sound_by, no_tag, no_slot, site_chain, middle_out, middle_apart, site_split, site_apart, moved_tied, left_entries, heir_of, removed_tied, is_free, new_out, added_chain, site_new_out, site_now_apart, stored_entries, stored_tied, grown_tied, grown_entries, none_tied, IsNext, next_none_of, next_some_of}
 
 -- A slot of the list, with what stands round it.
@@ -117,7 +117,8 @@ moved_sound budget used tag slots names names' ends ends' links links' own own' 
     let first = kept_first (entries_at slots names order) (length a.left) tag (entry_at slots names i) s.kept here has in
     let is_moved = first_moved tag (entries_at slots names order) (length a.left) (entry_at slots names i) s.kept first here in
     rw n (record {
-      sound = sound_by slots names ends' links' own' all' free tags ((a.left ++ a.right) ++ i ∷ []) vacant t budget used (s.used_is ∙ sym sum ∙ sym (ap total new)) s.bounded (subst AreKept (sym new) kept);
+      sound = sound_by slots names ends' links' own' all' free tags ((a.left ++ a.right) ++ i ∷ []) vacant t budget used (s.used_is ∙ sym sum ∙ sym (ap total new)) s.bounded (subst AreKept (sym new) kept)
+        (let n0 = s.counted in let n1 = ap length a.whole in let n2 = length_both a.left (i ∷ a.right) in let n3 = length_both (a.left ++ a.right) (i ∷ []) in let n4 = length_both a.left a.right in omega (arith, n0, n1, n2, n3, n4));
       found = ap is_some (kept_found (entries_at slots names order) (length a.left) tag (entry_at slots names i) s.kept here has);
       entries = ap (entries_at slots names) (order_is slots names ends' links' own' all' free tags ((a.left ++ a.right) ++ i ∷ []) vacant t) ∙ new ∙ sym is_moved;
       vacant = vacant_is slots names ends' links' own' all' free tags ((a.left ++ a.right) ++ i ∷ []) vacant t;
@@ -135,12 +136,12 @@ pub removed_sound : (budget used used' : ℕ) (slots slots' : List (Option Body)
     → (a : AtSlot slots names ends links own all free tags (order_in links slots all) (order_in links slots free) i)
     → used ≡ used' + a.full.body.size
     → slots' ≡ slice_set slots i None → names' ≡ slice_set names i None
-    → ((q : ℕ) → lookup (nat_eq q) tags' ≡ cond (nat_eq a.full.body.tag q) None (lookup (nat_eq q) tags))
+    → ((q : ℕ) → lookup (nat_eq q) tags' ≡ cond (nat_eq a.full.body.tag q) None (lookup (nat_eq q) tags)) → length tags' + 1 ≡ length tags
     → IsChain links' all' (a.left ++ a.right) → IsChain links' free' (order_in links slots free ++ i ∷ []) → length links' ≡ length links
     → IsChain own' e' (slots_of a.full.site names a.left ++ slots_of a.full.site names a.right) → ((j : ℕ) → IsOut j (slots_of a.full.site names (a.left ++ i ∷ a.right)) → slice_get own' j ≡ slice_get own j) → length own' ≡ length own
     → ((other : List ℕ) → lookup (bytes_eq other) ends' ≡ taken_ends e'.first a.full.site other (given_ends a.full.site e' other (lookup (bytes_eq other) ends)))
     → IsRemoved budget used used' slots slots' names names' ends' links links' own' all all' free free' tags' (length a.left)
-removed_sound budget used used' slots slots' names names' ends ends' links links' own own' all all' free free' e' tags tags' i s a u sl n ts c fc l oc of ol es =
+removed_sound budget used used' slots slots' names names' ends ends' links links' own own' all all' free free' e' tags tags' i s a u sl n ts tn c fc l oc of ol es =
     let order = order_in links slots all in
     let vacant = order_in links slots free in
     let t = removed_tied slots names ends links own all free tags a.left a.right vacant i a.tied links' own' all' free' e' ends' tags' a.full.body a.full.site a.full.at ts c fc l a.full.name oc of ol es in
@@ -154,7 +155,8 @@ removed_sound budget used used' slots slots' names names' ends ends' links links
     let total_is = ap total new in
     rw (sl, n) (record {
       sound = sound_by (slice_set slots i None) (slice_set names i None) ends' links' own' all' free' tags' (a.left ++ a.right) (vacant ++ i ∷ []) t budget used'
-        (omega (arith, u, was, sum, size, total_is)) (omega (arith, u, bounded)) (subst AreKept (sym new) (kept-remove (entries_at slots names order) (length a.left) s.kept));
+        (omega (arith, u, was, sum, size, total_is)) (omega (arith, u, bounded)) (subst AreKept (sym new) (kept-remove (entries_at slots names order) (length a.left) s.kept))
+        (let n0 = s.counted in let n1 = ap length a.whole in let n2 = length_both a.left (i ∷ a.right) in let n3 = length_both a.left a.right in omega (arith, tn, n0, n1, n2, n3));
       entries = ap (entries_at (slice_set slots i None) (slice_set names i None)) (order_is (slice_set slots i None) (slice_set names i None) ends' links' own' all' free' tags' (a.left ++ a.right) (vacant ++ i ∷ []) t) ∙ new;
       vacant = ap length (vacant_is (slice_set slots i None) (slice_set names i None) ends' links' own' all' free' tags' (a.left ++ a.right) (vacant ++ i ∷ []) t) ∙ length_both vacant (i ∷ []);
     })
@@ -172,15 +174,16 @@ pub stored_sound : (budget used used' : ℕ) (slots slots' : List (Option Body))
     → used' ≡ used + b.size → total (entries_at slots names (order_in links slots all)) + b.size ≤ budget
     → find b.tag (entries_at slots names (order_in links slots all)) ≡ None → IsKept (entry_of b site)
     → slots' ≡ slice_set slots i (Some b) → names' ≡ slice_set names i (Some site)
-    → ((q : ℕ) → lookup (nat_eq q) tags' ≡ cond (nat_eq b.tag q) (Some i) (lookup (nat_eq q) tags))
+    → ((q : ℕ) → lookup (nat_eq q) tags' ≡ cond (nat_eq b.tag q) (Some i) (lookup (nat_eq q) tags)) → length tags' ≡ length tags + (if is_some (lookup (nat_eq b.tag) tags) then 0 else 1)
     → IsChain links' all' (order_in links slots all ++ i ∷ []) → IsChain links' free' vacant → length links' ≡ length links
     → IsChain own' e' (slots_of site names (order_in links slots all) ++ i ∷ []) → ((j : ℕ) → ¬ (j ≡ i) → IsOut j (slots_of site names (order_in links slots all)) → slice_get own' j ≡ slice_get own j) → length own' ≡ length own
     → ((other : List ℕ) → lookup (bytes_eq other) ends' ≡ given_ends site e' other (added_ends site other (lookup (bytes_eq other) ends)))
     → IsStored budget used' slots slots' names names' ends' links links' own' all all' free free' tags' (entry_of b site)
-stored_sound budget used used' slots slots' names names' ends ends' links links' own own' all all' free free' e' tags tags' i vacant b site s v u fits absent kept sl n ts c fc l oc of ol es =
+stored_sound budget used used' slots slots' names names' ends ends' links links' own own' all all' free free' e' tags tags' i vacant b site s v u fits absent kept sl n ts tn c fc l oc of ol es =
     let order = order_in links slots all in
     let before : IsTied slots names ends links own all free tags (order_in links slots all) (i ∷ vacant) = subst (λ w. IsTied slots names ends links own all free tags (order_in links slots all) w) v s.tied in
     let no = no_slot slots names ends links own all free tags order (i ∷ vacant) before b.tag s.kept absent in
+    let one : length tags' ≡ length tags + 1 = subst (λ (o : Option ℕ). length tags' ≡ length tags + (if is_some o then 0 else 1)) no tn in
     let t = stored_tied slots names ends links own all free tags order vacant i before b site links' own' all' free' e' ends' tags' no ts c fc l oc of ol es in
     let new = stored_entries slots names ends links own all free tags order vacant i before b site in
     let sum = total-append (entries_at slots names order) (entry_of b site ∷ []) in
@@ -189,7 +192,8 @@ stored_sound budget used used' slots slots' names names' ends ends' links links'
     rw (sl, n) (record {
       sound = sound_by (slice_set slots i (Some b)) (slice_set names i (Some site)) ends' links' own' all' free' tags' (order ++ i ∷ []) vacant t budget used'
         (omega (arith, u, was, sum, total_is)) (omega (arith, u, was, fits))
-        (subst AreKept (sym new) (kept-append (entries_at slots names order) (entry_of b site) s.kept kept absent));
+        (subst AreKept (sym new) (kept-append (entries_at slots names order) (entry_of b site) s.kept kept absent))
+        (let n0 = s.counted in let n1 = length_both order (i ∷ []) in omega (arith, one, n0, n1));
       entries = ap (entries_at (slice_set slots i (Some b)) (slice_set names i (Some site))) (order_is (slice_set slots i (Some b)) (slice_set names i (Some site)) ends' links' own' all' free' tags' (order ++ i ∷ []) vacant t) ∙ new;
       vacant = (let is = ap length (vacant_is (slice_set slots i (Some b)) (slice_set names i (Some site)) ends' links' own' all' free' tags' (order ++ i ∷ []) vacant t) in let old = ap length v in omega (arith, is, old));
     })
@@ -212,14 +216,14 @@ grown_sound budget used slots slots' names names' ends links links1 links' own o
     let t = grown_tied slots names ends links own all free tags order vacant s.tied links' own' free' l c (λ j d o. f j d o ∙ ap (λ xs. slice_get xs j) l1) (ll ∙ ap length l1) oe in
     let new = grown_entries slots names ends links own all free tags order vacant s.tied in
     rw (sl, n) (record {
-      sound = sound_by (slots ++ None ∷ []) (names ++ None ∷ []) ends links' own' all free' tags order (vacant ++ length slots ∷ []) t budget used (s.used_is ∙ sym (ap total new)) s.bounded (subst AreKept (sym new) s.kept);
+      sound = sound_by (slots ++ None ∷ []) (names ++ None ∷ []) ends links' own' all free' tags order (vacant ++ length slots ∷ []) t budget used (s.used_is ∙ sym (ap total new)) s.bounded (subst AreKept (sym new) s.kept) s.counted;
       entries = ap (entries_at (slots ++ None ∷ []) (names ++ None ∷ [])) (order_is (slots ++ None ∷ []) (names ++ None ∷ []) ends links' own' all free' tags order (vacant ++ length slots ∷ []) t) ∙ new;
       vacant = ap length (vacant_is (slots ++ None ∷ []) (names ++ None ∷ []) ends links' own' all free' tags order (vacant ++ length slots ∷ []) t) ∙ length_both vacant (length slots ∷ []);
     })
 
 -- No entries.
 pub none_sound : (budget : ℕ) → IsSound budget 0 [] [] [] [] [] (record { first = None; last = None }) (record { first = None; last = None }) []
-none_sound budget = sound_by [] [] [] [] [] (record { first = None; last = None }) (record { first = None; last = None }) [] [] [] none_tied budget 0 refl (omega arith) tt
+none_sound budget = sound_by [] [] [] [] [] (record { first = None; last = None }) (record { first = None; last = None }) [] [] [] none_tied budget 0 refl (omega arith) tt refl
 
 -- For the code's exits.
 
@@ -228,6 +232,25 @@ tag_at slots names tags order t i h f =
     let two : Some (Some f.body) ≡ Some (Some h.body) = sym f.at ∙ h.at in
     let same : f.body ≡ h.body = cc in
     ap (λ (x : Body). x.tag) same ∙ h.tag
+
+-- the place of a slot's tag is that of the slot
+pub tag_place : (slots : List (Option Body)) (names : List (Option (List ℕ))) (ends : List (List ℕ × Ends)) (links own : List Link) (all free : Ends) (tags : List (ℕ × ℕ)) (order vacant : List ℕ) (i : ℕ) (a : AtSlot slots names ends links own all free tags order vacant i) (tag : ℕ) → AreKept (entries_at slots names order) → a.full.body.tag ≡ tag → place (has_tag tag) (entries_at slots names order) ≡ Some (length a.left)
+tag_place slots names ends links own all free tags order vacant i a tag k e =
+    let here = entry_here slots names ends links own all free tags order vacant i a in
+    let has : (entry_at slots names i).tag ≡ tag = ap (λ (x : Entry). x.tag) (entry_form slots names ends links own all free tags order vacant i a) ∙ e in
+    place_first (has_tag tag) (entries_at slots names order) 0 (length a.left) (kept_first (entries_at slots names order) (length a.left) tag (entry_at slots names i) k here has) ∙ ap Some (omega arith)
+
+-- the slot at a place of the order
+pub at_place : (slots : List (Option Body)) (names : List (Option (List ℕ))) (ends : List (List ℕ × Ends)) (links own : List Link) (all free : Ends) (tags : List (ℕ × ℕ)) (order vacant : List ℕ) → IsTied slots names ends links own all free tags order vacant → (n i : ℕ) → slice_get order n ≡ Some i → (a : AtSlot slots names ends links own all free tags order vacant i) × (length a.left ≡ n)
+at_place slots names ends links own all free tags order vacant t n i h =
+    let s = split_place order n i h in
+    (record {
+      left = s.left;
+      right = s.right;
+      whole = s.whole;
+      tied = subst (λ o. IsTied slots names ends links own all free tags o vacant) s.whole t;
+      full = t.full i (subst (IsIn i) (sym s.whole) (in_right i s.left (i ∷ s.right) (inl refl)));
+    }, s.place)
 
 -- a slot that stands in no part keeps its link through both steps
 pub both_steps : (l0 l1 l2 : List Link) (xs ys : List ℕ) (i : ℕ) → ((j : ℕ) → IsOut j (xs ++ i ∷ ys) → slice_get l1 j ≡ slice_get l0 j) → ((j : ℕ) → ¬ (j ≡ i) → IsOut j (xs ++ ys) → slice_get l2 j ≡ slice_get l1 j) → (j : ℕ) → IsOut j (xs ++ i ∷ ys) → slice_get l2 j ≡ slice_get l0 j

@@ -94,12 +94,13 @@ module _ (slots : List (Option Body)) (names : List (Option (List ℕ))) (ends :
   pub entry_is : (i : ℕ) (m : IsIn i order) → entry_at slots names i ≡ entry_of (t.full i m).body (t.full i m).site
   entry_is i m = ap₂ (λ b s. entry_of b s) (ap body_in (t.full i m).at) (ap site_in (t.full i m).name)
 
-  pub sound_by : (budget used : ℕ) → used ≡ total (entries_at slots names order) → used ≤ budget → AreKept (entries_at slots names order) → IsSound budget used slots names ends links own all free tags
-  sound_by budget used u b k = record {
+  pub sound_by : (budget used : ℕ) → used ≡ total (entries_at slots names order) → used ≤ budget → AreKept (entries_at slots names order) → length tags ≡ length order → IsSound budget used slots names ends links own all free tags
+  sound_by budget used u b k n = record {
     tied = subst (λ o. IsTied slots names ends links own all free tags o (order_in links slots free)) (sym order_is) (subst (λ v. IsTied slots names ends links own all free tags order v) (sym vacant_is) t);
     used_is = u ∙ ap (λ o. total (entries_at slots names o)) (sym order_is);
     bounded = b;
     kept = subst (λ o. AreKept (entries_at slots names o)) (sym order_is) k;
+    counted = n ∙ ap length (sym order_is);
   }
 
   -- a tag that the table hasn't got has no entry

@@ -109,3 +109,8 @@ pub data IsPartOf {A : Type 0} : List A → List A → Type 0 where
   part_none : IsPartOf [] []
   part_keep : {x : A} {xs ys : List A} → IsPartOf xs ys → IsPartOf (x ∷ xs) (x ∷ ys)
   part_skip : {y : A} {xs ys : List A} → IsPartOf xs ys → IsPartOf xs (y ∷ ys)
+
+-- this is the tag of the entry at a place, if there is a place
+abbrev pub IsTagAt : Option ℕ → List Entry → Option ℕ → Type 0
+IsTagAt o es None = o ≡ None
+IsTagAt o es (Some tag) = (i : ℕ) × (o ≡ Some i) × (place (has_tag tag) es ≡ Some i)

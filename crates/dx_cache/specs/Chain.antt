@@ -48,3 +48,12 @@ abbrev pub walk : List Link → ℕ → Option ℕ → List ℕ
 walk links zero o = []
 walk links (suc n) None = []
 walk links (suc n) (Some i) = i ∷ walk links n (next_of (slice_get links i))
+
+abbrev pub next_in : List Link → Option ℕ → Option ℕ
+next_in links None = None
+next_in links (Some i) = next_of (slice_get links i)
+
+-- the slot that so many steps lead to
+abbrev pub along : List Link → ℕ → Option ℕ → Option ℕ
+along links zero o = o
+along links (suc n) o = next_in links (along links n o)

@@ -93,6 +93,7 @@ pub record IsSound (budget used : ℕ) (slots : List (Option Body)) (names : Lis
   pub used_is : used ≡ total (entries_at slots names (order_in links slots all))
   pub bounded : used ≤ budget
   pub kept : AreKept (entries_at slots names (order_in links slots all))
+  pub counted : length tags ≡ length (order_in links slots all)
 
 -- the next slot that is taken out before an entry of this attribute and size is stored, by the ends of its site's chain
 abbrev pub first_in : Option Ends → Option ℕ
@@ -107,3 +108,9 @@ next_slot found attribute size budget used first =
     if attribute == 0 then None
     else if attribute == 2 then or_place (first_in found) (front_slot size budget used first)
     else front_slot size budget used first
+
+-- the tag of what a slot has
+abbrev pub tag_in : Option (Option Body) → Option ℕ
+tag_in None = None
+tag_in (Some None) = None
+tag_in (Some (Some b)) = Some b.tag

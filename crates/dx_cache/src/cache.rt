@@ -4,13 +4,13 @@
 ghost use Rattle.std.specs.Prelude.{◌≡◌, ◌⊎◌, ℕ, ◌+◌, ◌-◌, ◌<◌, ◌≤◌, ◌↔◌, [], ◌∷◌, ◌++◌, Some, None, length, OnOk, OnErr, IfSome, IfNone, OnSome, IsTrue, IsSome, MatchOption, ◌==◌, true, false, vec_len, vec_capacity, is_some, slice_get};
 ghost use Rattle.std.specs.List.{remove};
 ghost use Rattle.dx_base.specs.Object.{results_size};
-ghost use Rattle.dx_cache.specs.Cached.{Cached, total, find, moved, place, has_tag, of_site, next_place, Drops};
+ghost use Rattle.dx_cache.specs.Cached.{Cached, total, find, moved, place, has_tag, of_site, next_place, Drops, IsTagAt};
 ghost use Rattle.dx_cache.specs.Sound.{AreKept, IsKept};
 
 use dx_base::Bytes;
-use crate::chains::{Ends, Link, no_ends, put_last, take_out};
+use crate::chains::{Ends, Link, after_steps, no_ends, put_last, take_out};
 use crate::entry::Entry;
-use crate::slots::{Body, fill, grow, lift, next};
+use crate::slots::{Body, fill, grow, lift, next, tag_of};
 use indexmap::IndexMap;
 use crate::names::Names;
 use dx_objects::Outs;
@@ -102,6 +102,20 @@ impl Cache {
         }
     }
 
+    /// Whether an entry has the tag. Nothing is moved.
+    pub fn has(&self, tag: u64) -> bool
+        ensures { result ≡ is_some (find tag self.now.entries) }
+    {
+        self.outs(tag).is_some()
+    }
+
+    /// The number of entries.
+    pub fn len(&self) -> u64
+        ensures { result ≡ length self.now.entries }
+    {
+        self.tags.len() as u64
+    }
+
     /// Moves the entry of a tag to the end, and says whether there is one.
     pub fn get(&mut self, tag: u64) -> bool
         ensures found { result ≡ is_some (find tag self.old.entries) }
@@ -149,6 +163,16 @@ impl Cache {
     pub fn make_room(&mut self, site: &Bytes, attribute: u8, size: u64) -> Option<Entry>
         ensures { Drops (next_place site.now attribute size self.old.budget self.old.entries) self.old result self.new }
     {
+        match self.next_tag(site, attribute, size) {
+            None => None,
+            Some(tag) => Some(self.take(tag)),
+        }
+    }
+
+    // The tag of the next entry that is dropped.
+    fn next_tag(&self, site: &Bytes, attribute: u8, size: u64) -> Option<u64>
+        ensures { IsTagAt (next_place site.now attribute size self.now.budget self.now.entries) self.now.entries result }
+    {
         match next(
             &self.names,
             self.all.first,
@@ -159,6 +183,17 @@ impl Cache {
             size,
         ) {
             None => None,
+            Some(i) => tag_of(&self.slots, i),
+        }
+    }
+
+    // Takes out the entry of a tag.
+    fn take(&mut self, tag: u64) -> Entry
+        requires found { (i : ℕ) × (place (has_tag tag) self.old.entries ≡ Some i) }
+        ensures { Drops (place (has_tag tag) self.old.entries) self.old (Some result) self.new }
+    {
+        match self.tags.swap_remove(&tag) {
+            None => unreachable!(),
             Some(i) => match lift(&mut self.slots, i) {
                 None => unreachable!(),
                 Some(body) => {
@@ -169,22 +204,46 @@ impl Cache {
                         outs,
                     } = body;
                     self.used -= size;
-                    self.tags.swap_remove(&tag);
                     take_out(&mut self.links, &mut self.all, i);
                     put_last(&mut self.links, &mut self.free, i);
                     let mut ends = self.names.ends_at(i);
                     take_out(&mut self.own, &mut ends, i);
                     self.names.set_ends(i, ends);
                     let site = self.names.take(i, ends.first);
-                    Some(Entry {
+                    Entry {
                         tag,
                         site,
                         attribute,
                         size,
                         outs,
-                    })
+                    }
                 }
             },
+        }
+    }
+
+    /// Takes out an entry by its place, counted from 0 at the oldest, in time of the place.
+    pub fn remove(&mut self, i: u64) -> Entry
+        requires within { i < length self.old.entries }
+        ensures entry { slice_get self.old.entries i ≡ Some result }
+        ensures entries { self.new.entries ≡ remove self.old.entries i }
+        ensures budget { self.new.budget ≡ self.old.budget }
+        ensures room { self.old.room ≤ self.new.room }
+    {
+        match self.tag_at(i) {
+            None => unreachable!(),
+            Some(tag) => self.take(tag),
+        }
+    }
+
+    // The tag of the entry at a place.
+    fn tag_at(&self, i: u64) -> Option<u64>
+        requires within { i < length self.now.entries }
+        ensures { IsTagAt (Some i) self.now.entries result }
+    {
+        match after_steps(&self.links, self.all.first, i) {
+            None => None,
+            Some(slot) => tag_of(&self.slots, slot),
         }
     }
 

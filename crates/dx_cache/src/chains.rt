@@ -2,7 +2,7 @@
 
 ghost use Rattle.std.specs.Prelude.{◌≡◌, ◌<◌, ℕ, Option, Some, None, IfSome, vec_len, vec_capacity, slice_get};
 ghost use Rattle.std.specs.Prelude.{List, ◌∷◌, ◌++◌, [], length};
-ghost use Rattle.dx_cache.specs.Chain.{IsChain, AreApart, IsOut};
+ghost use Rattle.dx_cache.specs.Chain.{IsChain, AreApart, IsOut, along, next_in};
 ghost use Rattle.dx_cache.specs.Changed.{set_after, set_before, attached, attached_ends, detached, detached_ends};
 
 /// The neighbours of a slot in its chain.
@@ -98,6 +98,30 @@ pub fn put_last(links: &mut Vec<Link>, ends: &mut Ends, i: usize)
     ensures len { length links.new.items ≡ length links.old.items }
 {
     attach(links, ends, i);
+}
+
+// The slot that so many steps from one lead to, and none where the chain ends before.
+pub fn after_steps(links: &[Link], first: Option<usize>, steps: u64) -> Option<usize>
+    ensures { result ≡ along links.now steps first }
+{
+    let mut slot = first;
+    for _ in 0..steps {
+        slot = after(links, slot);
+    }
+    slot
+}
+
+// The slot behind another.
+fn after(links: &[Link], slot: Option<usize>) -> Option<usize>
+    ensures { result ≡ next_in links.now slot }
+{
+    match slot {
+        None => None,
+        Some(i) => match links.get(i) {
+            None => None,
+            Some(link) => link.after,
+        },
+    }
 }
 
 // Sets what comes after a slot.

@@ -3,7 +3,7 @@
 ghost use Rattle.std.specs.Prelude.{◌≡◌, ◌∷◌, ◌++◌, ◌<◌, ◌≤◌, ◌+◌, List, ℕ, None, Some, [], OnOk, OnErr, IfSome, length, slice_get, slice_set, vec_len, vec_capacity, bytes_eq};
 ghost use Rattle.std.specs.Map.{lookup};
 ghost use Rattle.dx_cache.specs.Chain.{IsChain, AreApart, IsOut};
-ghost use Rattle.dx_cache.specs.Tied.{next_slot};
+ghost use Rattle.dx_cache.specs.Tied.{next_slot, tag_in};
 
 use dx_base::Bytes;
 use crate::chains::{Ends, Link, alone, put_last};
@@ -36,6 +36,19 @@ pub(crate) fn fill(slots: &mut Vec<Option<Body>>, i: usize, body: Body)
     ensures { slots.new.items ≡ slice_set slots.old.items i (Some body) }
 {
     slots[i] = Some(body);
+}
+
+// The tag of what a slot has.
+pub(crate) fn tag_of(slots: &[Option<Body>], i: usize) -> Option<u64>
+    ensures { result ≡ tag_in (slice_get slots.now i) }
+{
+    match slots.get(i) {
+        None => None,
+        Some(slot) => match slot {
+            None => None,
+            Some(body) => Some(body.tag),
+        },
+    }
 }
 
 // The next slot that is taken out.

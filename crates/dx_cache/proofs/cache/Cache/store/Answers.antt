@@ -1,5 +1,5 @@
 use Rattle.std.proofs.Common.{◌≡◌, ◌∙◌, ◌<◌, ◌≤◌, ◌+◌, ◌-◌, ℕ, List, [], ◌∷◌, ◌++◌, length, min, sym, ap, ap₂, subst, Option, Some, None, refl, arith, is_some, inl, inr, true, false}
-use Rattle.std.specs.Prelude.{slice_get, slice_set, nat_eq, bytes_eq}
+use Rattle.std.specs.Prelude.{slice_get, slice_set, nat_eq, bytes_eq, if◌then◌else◌}
 use Rattle.std.specs.Map.{lookup}
 use Rattle.std.proofs.lemmas.Option.{slice_get_read}
 use Rattle.indexmap.specs.IndexMap.{spare}
@@ -101,7 +101,7 @@ invariant_of-self c =
     let fits = c.requires.fits in
     let b : Body = record { tag = c.args.entry.tag; attribute = c.args.entry.attribute; size = c.args.entry.size; outs = c.args.entry.outs } in
     let m = stored_sound _ _ (c.self.inside.used + c.args.entry.size) _ c.fill.new.slots.items _ c.set_ends.new.self.names _ c.set_ends.new.self.ends _ c.put_last.new.links.items _ c.put_last-in-Some.new.links.items _ c.put_last.new.ends _ c.take_out.new.ends c.put_last-in-Some.new.ends _ c.insert.new.self.entries i f.rest b site c.self.invariant f.whole refl (omega (arith, fits, size, budget))
-          (subst (λ es. find c.args.entry.tag es ≡ None) (ap (λ (x : Cached). x.entries) (sym c.self.view_is)) c.requires.absent) c.requires.kept c.fill.ensures (c.set_ends.ensures.names ∙ c.add.ensures.names) c.in-Ok.ensures.updates.0
+          (subst (λ es. find c.args.entry.tag es ≡ None) (ap (λ (x : Cached). x.entries) (sym c.self.view_is)) c.requires.absent) c.requires.kept c.fill.ensures (c.set_ends.ensures.names ∙ c.add.ensures.names) c.in-Ok.ensures.updates.0 (subst (λ (o : Option ℕ). length c.insert.new.self.entries ≡ length c.self.inside.tags.entries + (if is_some o then 0 else 1)) c.in-Ok.ensures.old c.in-Ok.ensures.len)
           (c.put_last.ensures.chain (order_in c.self.inside.links.items c.self.inside.slots.items c.self.inside.all) chain1 c.self.invariant.tied.apart (new_out _ _ _ _ _ _ _ _ _ _ i f.tied))
           (rest_kept _ _ _ _ _ _ _ _ _ _ i f.tied _ _ _ (λ j n o. c.put_last.ensures.others (order_in c.self.inside.links.items c.self.inside.slots.items c.self.inside.all) j chain1 n o) (c.take_out.ensures.chain [] f.rest f.tied.free_chain f.tied.free_apart))
           (c.put_last.ensures.len ∙ c.take_out.ensures.len)
@@ -126,7 +126,7 @@ returns-clause-entries c =
     let fits = c.requires.fits in
     let b : Body = record { tag = c.args.entry.tag; attribute = c.args.entry.attribute; size = c.args.entry.size; outs = c.args.entry.outs } in
     let m = stored_sound _ _ (c.self.inside.used + c.args.entry.size) _ c.fill.new.slots.items _ c.set_ends.new.self.names _ c.set_ends.new.self.ends _ c.put_last.new.links.items _ c.put_last-in-Some.new.links.items _ c.put_last.new.ends _ c.take_out.new.ends c.put_last-in-Some.new.ends _ c.insert.new.self.entries i f.rest b site c.self.invariant f.whole refl (omega (arith, fits, size, budget))
-          (subst (λ es. find c.args.entry.tag es ≡ None) (ap (λ (x : Cached). x.entries) (sym c.self.view_is)) c.requires.absent) c.requires.kept c.fill.ensures (c.set_ends.ensures.names ∙ c.add.ensures.names) c.in-Ok.ensures.updates.0
+          (subst (λ es. find c.args.entry.tag es ≡ None) (ap (λ (x : Cached). x.entries) (sym c.self.view_is)) c.requires.absent) c.requires.kept c.fill.ensures (c.set_ends.ensures.names ∙ c.add.ensures.names) c.in-Ok.ensures.updates.0 (subst (λ (o : Option ℕ). length c.insert.new.self.entries ≡ length c.self.inside.tags.entries + (if is_some o then 0 else 1)) c.in-Ok.ensures.old c.in-Ok.ensures.len)
           (c.put_last.ensures.chain (order_in c.self.inside.links.items c.self.inside.slots.items c.self.inside.all) chain1 c.self.invariant.tied.apart (new_out _ _ _ _ _ _ _ _ _ _ i f.tied))
           (rest_kept _ _ _ _ _ _ _ _ _ _ i f.tied _ _ _ (λ j n o. c.put_last.ensures.others (order_in c.self.inside.links.items c.self.inside.slots.items c.self.inside.all) j chain1 n o) (c.take_out.ensures.chain [] f.rest f.tied.free_chain f.tied.free_apart))
           (c.put_last.ensures.len ∙ c.take_out.ensures.len)
@@ -151,7 +151,7 @@ returns-clause-room c =
     let fits = c.requires.fits in
     let b : Body = record { tag = c.args.entry.tag; attribute = c.args.entry.attribute; size = c.args.entry.size; outs = c.args.entry.outs } in
     let m = stored_sound _ _ (c.self.inside.used + c.args.entry.size) _ c.fill.new.slots.items _ c.set_ends.new.self.names _ c.set_ends.new.self.ends _ c.put_last.new.links.items _ c.put_last-in-Some.new.links.items _ c.put_last.new.ends _ c.take_out.new.ends c.put_last-in-Some.new.ends _ c.insert.new.self.entries i f.rest b site c.self.invariant f.whole refl (omega (arith, fits, size, budget))
-          (subst (λ es. find c.args.entry.tag es ≡ None) (ap (λ (x : Cached). x.entries) (sym c.self.view_is)) c.requires.absent) c.requires.kept c.fill.ensures (c.set_ends.ensures.names ∙ c.add.ensures.names) c.in-Ok.ensures.updates.0
+          (subst (λ es. find c.args.entry.tag es ≡ None) (ap (λ (x : Cached). x.entries) (sym c.self.view_is)) c.requires.absent) c.requires.kept c.fill.ensures (c.set_ends.ensures.names ∙ c.add.ensures.names) c.in-Ok.ensures.updates.0 (subst (λ (o : Option ℕ). length c.insert.new.self.entries ≡ length c.self.inside.tags.entries + (if is_some o then 0 else 1)) c.in-Ok.ensures.old c.in-Ok.ensures.len)
           (c.put_last.ensures.chain (order_in c.self.inside.links.items c.self.inside.slots.items c.self.inside.all) chain1 c.self.invariant.tied.apart (new_out _ _ _ _ _ _ _ _ _ _ i f.tied))
           (rest_kept _ _ _ _ _ _ _ _ _ _ i f.tied _ _ _ (λ j n o. c.put_last.ensures.others (order_in c.self.inside.links.items c.self.inside.slots.items c.self.inside.all) j chain1 n o) (c.take_out.ensures.chain [] f.rest f.tied.free_chain f.tied.free_apart))
           (c.put_last.ensures.len ∙ c.take_out.ensures.len)
