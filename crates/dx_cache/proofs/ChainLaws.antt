@@ -1,11 +1,11 @@
 -- What putting a slot into a chain and taking one out leaves of the chains.
-use Rattle.std.proofs.Common.{◌≡◌, ℕ, zero, suc, ◌+◌, ◌<◌, ◌≤◌, List, [], ◌∷◌, ◌++◌, length, Option, Some, None, refl, sym, ap, ap₂, ◌∙◌, subst, arith, ◌⊎◌, inl, inr}
+use Rattle.std.proofs.Common.{◌≡◌, ℕ, zero, suc, ◌<◌, ◌≤◌, List, [], ◌∷◌, ◌++◌, length, Option, Some, None, refl, sym, ap, ◌∙◌, subst, arith, inl, inr}
 use Rattle.std.specs.Prelude.{slice_get, slice_set, IfSome}
 use Rattle.dx_cache.specs.declared.chains.Link.{Link}
 use Rattle.dx_cache.specs.declared.chains.Ends.{Ends}
 use Rattle.dx_cache.specs.Changed.{with_after, set_after, with_before, set_before, after_it, before_it, attached, first_unless, attached_ends, detached, in_place_of, detached_ends}
 use Rattle.dx_cache.specs.Chain.{first_or, last_or, Leads, IsChain, IsIn, IsOut, AreApart, next_of, next_in, walk, along}
-use Rattle.dx_cache.proofs.SlotLaws.{cases, same_or_not, get_set_same, get_set_other, length_set, within, out_not_in, not_in_out, in_left, in_right, in_either, out_left, out_right, apart_left, apart_right, apart_cross, apart_middle}
+use Rattle.dx_cache.proofs.SlotLaws.{get_set_same, get_set_other, within, out_not_in, in_left, in_right, out_left, out_right, apart_left, apart_right, apart_cross}
 
 -- One link.
 
@@ -93,9 +93,10 @@ pub leads_end : (links links' : List Link) (b : Option ℕ) (xs : List ℕ) (a a
     → Leads links b xs a → Leads links' b xs a'
 leads_end links links' b [] a a' p s l h = tt
 leads_end links links' b (i ∷ []) a a' p s l h = (l i (record { before = b; after = a }) refl h.0, tt)
-leads_end links links' b (i ∷ j ∷ js) a a' p s l h =
-    (s i (inl refl) (λ e. out_not_in i (j ∷ js) p.0 (last_in j js i e)) ∙ h.0,
-    leads_end links links' (Some i) (j ∷ js) a a' p.1 (λ m n d. s m (inr n) d) l h.1)
+leads_end links links' b (i ∷ j ∷ js) a a' p s l h = (
+  s i (inl refl) (λ e. out_not_in i (j ∷ js) p.0 (last_in j js i e)) ∙ h.0,
+  leads_end links links' (Some i) (j ∷ js) a a' p.1 (λ m n d. s m (inr n) d) l h.1,
+)
 
 -- where only what comes before the first changes
 pub leads_begin : (links links' : List Link) (b b' : Option ℕ) (xs : List ℕ) (a : Option ℕ) → AreApart xs
@@ -103,9 +104,10 @@ pub leads_begin : (links links' : List Link) (b b' : Option ℕ) (xs : List ℕ)
     → ((f : ℕ) (k : Link) → first_or xs None ≡ Some f → slice_get links f ≡ Some k → slice_get links' f ≡ Some (record { before = b'; after = k.after }))
     → Leads links b xs a → Leads links' b' xs a
 leads_begin links links' b b' [] a p s f h = tt
-leads_begin links links' b b' (i ∷ is) a p s f h =
-    (f i (record { before = b; after = first_or is a }) refl h.0,
-    leads_same links links' (Some i) is a (λ j n. s j (inr n) (λ e. let same : j ≡ i = cc in out_not_in i is p.0 (subst (λ k. IsIn k is) same n))) h.1)
+leads_begin links links' b b' (i ∷ is) a p s f h = (
+  f i (record { before = b; after = first_or is a }) refl h.0,
+  leads_same links links' (Some i) is a (λ j n. s j (inr n) (λ e. let same : j ≡ i = cc in out_not_in i is p.0 (subst (λ k. IsIn k is) same n))) h.1,
+)
 
 -- each slot of a chain has a link
 pub leads_link : (links : List Link) (b : Option ℕ) (xs : List ℕ) (a : Option ℕ) (i : ℕ) → Leads links b xs a → IsIn i xs → (l : Link) × (slice_get links i ≡ Some l)
@@ -145,11 +147,11 @@ module _ (links : List Link) (e : Ends) (xs : List ℕ) (c : IsChain links e xs)
     first = ap (first_unless e.last i) c.first ∙ first_attached i xs e.last c.last;
     last = sym (last_append None xs (i ∷ []));
     leads = leads_join (attached links e.last i) None xs (i ∷ []) None
-      (leads_end links (attached links e.last i) None xs None (Some i) p
+        (leads_end links (attached links e.last i) None xs None (Some i) p
         (λ j n d. attached_other links e.last i j (λ q. out_not_in i xs o (subst (λ k. IsIn k xs) q n)) (λ q. d (sym c.last ∙ q)))
         (λ l k q g. attached_last links e.last i l k (c.last ∙ q) (λ r. out_not_in i xs o (subst (λ m. IsIn m xs) r (last_is_in xs l q))) g)
         c.leads)
-      (subst (λ b. slice_get (attached links e.last i) i ≡ Some (record { before = b; after = None })) c.last (attached_new links e.last i w (λ q. out_not_in i xs o (last_is_in xs i (sym c.last ∙ q)))), tt);
+        (subst (λ b. slice_get (attached links e.last i) i ≡ Some (record { before = b; after = None })) c.last (attached_new links e.last i w (λ q. out_not_in i xs o (last_is_in xs i (sym c.last ∙ q)))), tt);
   }
 
   -- a slot of no part in it keeps its link
@@ -211,11 +213,11 @@ module _ (links : List Link) (e : Ends) (xs ys : List ℕ) (i : ℕ) (c : IsChai
         first = ap (in_place_of (last_or None xs) (first_or ys None)) c.first ∙ first_detached xs ys i;
         last = ap (in_place_of (first_or ys None) (last_or None xs)) c.last ∙ last_detached xs ys i;
         leads = leads_join (detached links l) None xs ys None
-          (leads_end links (detached links l) None xs (Some i) (first_or ys None) (apart_left xs (i ∷ ys) p)
+            (leads_end links (detached links l) None xs (Some i) (first_or ys None) (apart_left xs (i ∷ ys) p)
             (λ j n d. detached_other links l j d (λ q. apart_cross xs (i ∷ ys) j p n (inr (first_is_in ys j q))))
             (λ b k q g. detached_before links l b k q (not_both b q) g)
             s.0)
-          (leads_begin links (detached links l) (Some i) (last_or None xs) ys None (apart_right xs (i ∷ ys) p).1
+            (leads_begin links (detached links l) (Some i) (last_or None xs) ys None (apart_right xs (i ∷ ys) p).1
             (λ j n d. detached_other links l j (λ q. apart_cross xs (i ∷ ys) j p (last_is_in xs j q) (inr n)) d)
             (λ a k q g. detached_after links l a k q (λ r. not_both a r q) g)
             s.1.1);

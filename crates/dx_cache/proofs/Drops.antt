@@ -1,12 +1,11 @@
 -- One entry after the other is dropped.
-use Rattle.std.proofs.Common.{◌≡◌, ℕ, zero, suc, ◌+◌, ◌<◌, ◌≤◌, List, [], ◌∷◌, ◌++◌, length, Bool, true, false, cond, Option, Some, None, refl, sym, ap, ap₂, ◌∙◌, subst, arith, true≢false}
-use Rattle.std.specs.Prelude.{slice_get, filter, not, ◌==◌, nat_le, if◌then◌else◌, ◌&&◌}
+use Rattle.std.proofs.Common.{◌≡◌, ℕ, zero, suc, ◌+◌, ◌≤◌, List, [], ◌∷◌, Bool, true, false, Option, Some, None, refl, sym, ap, ◌∙◌, subst, arith}
+use Rattle.std.specs.Prelude.{slice_get, filter, not, ◌==◌, nat_le}
 use Rattle.std.specs.List.{remove}
-use Rattle.std.specs.Cmp.{unsigned_Decides}
 use Rattle.std.proofs.lemmas.Bool.Decides.{nat_tests}
 use Rattle.dx_cache.specs.declared.entry.Entry.{Entry}
-use Rattle.dx_cache.specs.Cached.{Cached, Drops, total, has_tag, of_site, find, place, front_place, or_place, next_place, fitting, passed, others, own_site, left_for, dropped_for, stays, IsPartOf, part_none, part_keep, part_skip}
-use Rattle.dx_cache.proofs.Places.{cases, IsFirst, NonePass, first_place, none_place, none_filter, all_filter, first_passes, first_slot}
+use Rattle.dx_cache.specs.Cached.{Cached, Drops, total, of_site, find, place, front_place, or_place, next_place, fitting, passed, left_for, dropped_for, stays, IsPartOf, part_none, part_keep, part_skip}
+use Rattle.dx_cache.proofs.Places.{cases, IsFirst, NonePass, first_place, none_place, none_filter, all_filter, first_slot}
 
 -- What the front leaves.
 
@@ -22,12 +21,12 @@ front_some size budget [] i e h g = cc
 front_some size budget (x ∷ es) i e h g =
     cases (nat_le size budget)
     (λ w. cases (nat_le (total (x ∷ es) + size) budget)
-      (λ q. let h1 : None ≡ Some i = rw (w, q) at h in cc)
-      (λ q. let h1 : Some 0 ≡ Some i = rw (w, q) at h in
-        let at : 0 ≡ i = cc in
-        let same : Some x ≡ Some e = subst (λ j. slice_get (x ∷ es) j ≡ Some e) (sym at) g in
-        let xe : x ≡ e = cc in
-        (w, subst (λ j. fitting budget size (remove (x ∷ es) j) ≡ fitting budget size (x ∷ es)) at (rw q refl), subst (λ j. passed budget size (x ∷ es) ≡ e ∷ passed budget size (remove (x ∷ es) j)) at (rw q (ap (λ y. y ∷ passed budget size es) xe)))))
+    (λ q. let h1 : None ≡ Some i = rw (w, q) at h in cc)
+    (λ q. let h1 : Some 0 ≡ Some i = rw (w, q) at h in
+    let at : 0 ≡ i = cc in
+    let same : Some x ≡ Some e = subst (λ j. slice_get (x ∷ es) j ≡ Some e) (sym at) g in
+    let xe : x ≡ e = cc in
+    (w, subst (λ j. fitting budget size (remove (x ∷ es) j) ≡ fitting budget size (x ∷ es)) at (rw q refl), subst (λ j. passed budget size (x ∷ es) ≡ e ∷ passed budget size (remove (x ∷ es) j)) at (rw q (ap (λ y. y ∷ passed budget size es) xe)))))
     (λ w. let h1 : None ≡ Some i = rw w at h in cc)
 
 -- What the oldest of a site leaves.
@@ -55,12 +54,12 @@ next_none site attribute size budget es h =
     cases (attribute == 0)
     (λ a. (rw a refl, rw a refl))
     (λ a. cases (attribute == 2)
-      (λ b. let h1 : or_place (place (of_site site) es) (front_place size budget es) ≡ None = rw (a, b) at h in
-        by_place a b (place (of_site site) es) refl h1)
-      (λ b. let h1 : front_place size budget es ≡ None = rw (a, b) at h in
-        cases (nat_le size budget)
-        (λ w. let f = front_none size budget es h1 w in (rw (a, w, b) f.0, rw (a, w, b) f.1))
-        (λ w. (rw (a, w, b) refl, rw (a, w, b) refl))))
+    (λ b. let h1 : or_place (place (of_site site) es) (front_place size budget es) ≡ None = rw (a, b) at h in
+    by_place a b (place (of_site site) es) refl h1)
+    (λ b. let h1 : front_place size budget es ≡ None = rw (a, b) at h in
+    cases (nat_le size budget)
+    (λ w. let f = front_none size budget es h1 w in (rw (a, w, b) f.0, rw (a, w, b) f.1))
+    (λ w. (rw (a, w, b) refl, rw (a, w, b) refl))))
   where
     by_place : (attribute == 0) ≡ false → (attribute == 2) ≡ true → (o : Option ℕ) → place (of_site site) es ≡ o → or_place o (front_place size budget es) ≡ None → (left_for site attribute size budget es ≡ es) × (dropped_for site attribute size budget es ≡ [])
     by_place a b (Some i) e h = cc
@@ -68,7 +67,7 @@ next_none site attribute size budget es h =
         let n = none_place (of_site site) es 0 e in
         cases (nat_le size budget)
         (λ w. let f = front_none size budget es h w in
-          (rw (a, w, b, all_filter (of_site site) es n) f.0, rw (a, w, b, all_filter (of_site site) es n, none_filter (of_site site) es n) f.1))
+        (rw (a, w, b, all_filter (of_site site) es n) f.0, rw (a, w, b, all_filter (of_site site) es n, none_filter (of_site site) es n) f.1))
         (λ w. (rw (a, w, b) (all_filter (of_site site) es n), rw (a, w, b) (none_filter (of_site site) es n)))
 
 pub next_some : (site : List ℕ) (attribute size budget : ℕ) (es : List Entry) (i : ℕ) (e : Entry) → next_place site attribute size budget es ≡ Some i → slice_get es i ≡ Some e → (left_for site attribute size budget (remove es i) ≡ left_for site attribute size budget es) × (dropped_for site attribute size budget es ≡ e ∷ dropped_for site attribute size budget (remove es i))
@@ -76,11 +75,11 @@ next_some site attribute size budget es i e h g =
     cases (attribute == 0)
     (λ a. let h1 : None ≡ Some i = rw a at h in cc)
     (λ a. cases (attribute == 2)
-      (λ b. let h1 : or_place (place (of_site site) es) (front_place size budget es) ≡ Some i = rw (a, b) at h in
-        by_place a b (place (of_site site) es) refl h1)
-      (λ b. let h1 : front_place size budget es ≡ Some i = rw (a, b) at h in
-        let f = front_some size budget es i e h1 g in
-        (rw (a, f.0, b) f.1, rw (a, f.0, b) f.2)))
+    (λ b. let h1 : or_place (place (of_site site) es) (front_place size budget es) ≡ Some i = rw (a, b) at h in
+    by_place a b (place (of_site site) es) refl h1)
+    (λ b. let h1 : front_place size budget es ≡ Some i = rw (a, b) at h in
+    let f = front_some size budget es i e h1 g in
+    (rw (a, f.0, b) f.1, rw (a, f.0, b) f.2)))
   where
     by_place : (attribute == 0) ≡ false → (attribute == 2) ≡ true → (o : Option ℕ) → place (of_site site) es ≡ o → or_place o (front_place size budget es) ≡ Some i → (left_for site attribute size budget (remove es i) ≡ left_for site attribute size budget es) × (dropped_for site attribute size budget es ≡ e ∷ dropped_for site attribute size budget (remove es i))
     by_place a b (Some j) p h =
@@ -93,8 +92,7 @@ next_some site attribute size budget es i e h g =
     by_place a b None p h =
         let n = none_place (of_site site) es 0 p in
         let m = none-remove (of_site site) es i n in
-        let f = front_some size budget es i e h g in
-        (
+        let f = front_some size budget es i e h g in (
           rw (a, f.0, b, all_filter (of_site site) es n, all_filter (of_site site) (remove es i) m) f.1,
           rw (a, f.0, b, all_filter (of_site site) es n, all_filter (of_site site) (remove es i) m, none_filter (of_site site) es n, none_filter (of_site site) (remove es i) m) f.2,
         )
@@ -107,8 +105,8 @@ front_slot size budget [] i h =
 front_slot size budget (x ∷ es) i h =
     cases (nat_le size budget)
     (λ w. cases (nat_le (total (x ∷ es) + size) budget)
-      (λ q. let h1 : None ≡ Some i = rw (w, q) at h in cc)
-      (λ q. let h1 : Some 0 ≡ Some i = rw (w, q) at h in let at : 0 ≡ i = cc in (x, subst (λ j. slice_get (x ∷ es) j ≡ Some x) at refl)))
+    (λ q. let h1 : None ≡ Some i = rw (w, q) at h in cc)
+    (λ q. let h1 : Some 0 ≡ Some i = rw (w, q) at h in let at : 0 ≡ i = cc in (x, subst (λ j. slice_get (x ∷ es) j ≡ Some x) at refl)))
     (λ w. let h1 : None ≡ Some i = rw w at h in cc)
 
 -- there is an entry to be dropped
@@ -117,9 +115,9 @@ next_slot site attribute size budget es i h =
     cases (attribute == 0)
     (λ a. let h1 : None ≡ Some i = rw a at h in cc)
     (λ a. cases (attribute == 2)
-      (λ b. let h1 : or_place (place (of_site site) es) (front_place size budget es) ≡ Some i = rw (a, b) at h in
-        by_place (place (of_site site) es) refl h1)
-      (λ b. let h1 : front_place size budget es ≡ Some i = rw (a, b) at h in front_slot size budget es i h1))
+    (λ b. let h1 : or_place (place (of_site site) es) (front_place size budget es) ≡ Some i = rw (a, b) at h in
+    by_place (place (of_site site) es) refl h1)
+    (λ b. let h1 : front_place size budget es ≡ Some i = rw (a, b) at h in front_slot size budget es i h1))
   where
     by_place : (o : Option ℕ) → place (of_site site) es ≡ o → or_place o (front_place size budget es) ≡ Some i → (e : Entry) × (slice_get es i ≡ Some e)
     by_place (Some j) p h =
@@ -169,15 +167,16 @@ none_fits site attribute size budget es h s =
     cases (attribute == 0)
     (λ a. let s1 : false ≡ true = rw a at s in cc)
     (λ a. cases (nat_le size budget)
-      (λ w. cases (attribute == 2)
-        (λ b. let h1 : or_place (place (of_site site) es) (front_place size budget es) ≡ None = rw (a, b) at h in
-          by_front w (or_none (place (of_site site) es) (front_place size budget es) h1))
-        (λ b. let h1 : front_place size budget es ≡ None = rw (a, b) at h in by_front w h1))
-      (λ w. let s1 : false ≡ true = rw (a, w) at s in cc))
+    (λ w. cases (attribute == 2)
+    (λ b. let h1 : or_place (place (of_site site) es) (front_place size budget es) ≡ None = rw (a, b) at h in
+    by_front w (or_none (place (of_site site) es) (front_place size budget es) h1))
+    (λ b. let h1 : front_place size budget es ≡ None = rw (a, b) at h in by_front w h1))
+    (λ w. let s1 : false ≡ true = rw (a, w) at s in cc))
   where
     or_none : (o p : Option ℕ) → or_place o p ≡ None → p ≡ None
     or_none None p e = e
     or_none (Some i) p e = cc
+
     by_front : nat_le size budget ≡ true → front_place size budget es ≡ None → total es + size ≤ budget
     by_front w h =
         cases (nat_le (total es + size) budget)

@@ -16,9 +16,9 @@ use Rattle.dx_cache.proofs.SlotLaws.{cases, same_or_not, get_set_same, get_set_o
 use Rattle.dx_cache.specs.declared.names.Name.{Name}
 use Rattle.dx_cache.specs.declared.names.Name.TheVariants.{Own, Shared}
 use Rattle.dx_cache.specs.declared.names.Group.{Group}
-use Rattle.dx_cache.specs.Named.{HasName, IsHeir, or_no_ends, added_ends, given_ends, taken_ends}
+use Rattle.dx_cache.specs.Named.{HasName, or_no_ends, added_ends, given_ends, taken_ends}
 use Rattle.dx_cache.specs.Held.{name_in, ends_in, IsHeld, moved_to, Removed, Holds, place_of, name_place}
-use Rattle.dx_cache.proofs.Lists.{same_lists, get_map, map_set, map_where, set_itself, get_left, get_last, get_past, get_within, swapped_other, swapped_moved, swapped_past, get_keys, keys_past, entry_of_value, keys_set, get_value_same, get_value_other, found_set, found_more, lookup_map, keys_map, lookup_stays, lookup_new, lookup_same, none_some}
+use Rattle.dx_cache.proofs.Lists.{same_lists, get_map, map_set, map_where, set_itself, get_left, get_last, get_past, get_within, swapped_other, swapped_moved, swapped_past, get_keys, entry_of_value, keys_set, get_value_same, get_value_other, found_set, found_more, lookup_map, keys_map, lookup_new, lookup_same}
 
 abbrev pub names_in : List (List ℕ × Group) → List (Option Name) → List (Option (List ℕ))
 names_in es held = map (name_in (keys_of es)) held
@@ -55,17 +55,17 @@ pub own_held : (held : List (Option Name)) (es : List (List ℕ × Group)) → I
 own_held held es h i site f there = record {
   unique = h.unique;
   holder = λ k p g.
-    let old = h.holder k p g in
-    get_set_other held i p.1.holder (Some (Own site)) (λ e. let at : slice_get held i ≡ Some (Some (Shared k)) = subst (λ j. slice_get held j ≡ Some (Some (Shared k))) e old in cc) ∙ old;
+      let old = h.holder k p g in
+      get_set_other held i p.1.holder (Some (Own site)) (λ e. let at : slice_get held i ≡ Some (Some (Shared k)) = subst (λ j. slice_get held j ≡ Some (Some (Shared k))) e old in cc) ∙ old;
   shared = λ j k g.
-    same_or_not j i
-    (λ e. let at : Some (Some (Own site)) ≡ Some (Some (Shared k)) = sym (get_set_same held i (Some (Own site)) (within held i None f)) ∙ subst (λ m. slice_get (slice_set held i (Some (Own site))) m ≡ Some (Some (Shared k))) e g in cc)
-    (λ n. h.shared j k (sym (get_set_other held i j (Some (Own site)) n) ∙ g));
+      same_or_not j i
+      (λ e. let at : Some (Some (Own site)) ≡ Some (Some (Shared k)) = sym (get_set_same held i (Some (Own site)) (within held i None f)) ∙ subst (λ m. slice_get (slice_set held i (Some (Own site))) m ≡ Some (Some (Shared k))) e g in cc)
+      (λ n. h.shared j k (sym (get_set_other held i j (Some (Own site)) n) ∙ g));
   own = λ j s g.
-    same_or_not j i
-    (λ e. let at : Some (Some (Own site)) ≡ Some (Some (Own s)) = sym (get_set_same held i (Some (Own site)) (within held i None f)) ∙ subst (λ m. slice_get (slice_set held i (Some (Own site))) m ≡ Some (Some (Own s))) e g in
+      same_or_not j i
+      (λ e. let at : Some (Some (Own site)) ≡ Some (Some (Own s)) = sym (get_set_same held i (Some (Own site)) (within held i None f)) ∙ subst (λ m. slice_get (slice_set held i (Some (Own site))) m ≡ Some (Some (Own s))) e g in
       let same : site ≡ s = cc in subst (λ t. IsSome (lookup (bytes_eq t) es)) same there)
-    (λ n. h.own j s (sym (get_set_other held i j (Some (Own site)) n) ∙ g));
+      (λ n. h.own j s (sym (get_set_other held i j (Some (Own site)) n) ∙ g));
 }
 
 -- A slot gets a new site.
@@ -78,36 +78,37 @@ module _ (held : List (Option Name)) (es : List (List ℕ × Group)) (h : IsHeld
   new_held u = record {
     unique = u;
     holder = λ k p e.
-      same_or_not k (length es)
-      (λ q.
+        same_or_not k (length es)
+        (λ q.
         let at : Some (site, g) ≡ Some p = sym (get_last es (site, g)) ∙ subst (λ m. slice_get (es ++ (site, g) ∷ []) m ≡ Some p) q e in
         let is : (site, g) ≡ p = cc in
         let place : p.1.holder ≡ i = ap (λ (x : List ℕ × Group). x.1.holder) (sym is) ∙ own_holder in
         subst (λ m. slice_get (slice_set held i (Some (Shared (length es)))) m ≡ Some (Some (Shared k))) (sym place)
         (get_set_same held i (Some (Shared (length es))) (within held i None f) ∙ ap (λ m. Some (Some (Shared m))) (sym q)))
-      (λ n.
+        (λ n.
         let w = within (es ++ (site, g) ∷ []) k p e in
         let at : slice_get es k ≡ Some p = sym (get_left es ((site, g) ∷ []) k (below k w n)) ∙ e in
         let old = h.holder k p at in
         get_set_other held i p.1.holder (Some (Shared (length es))) (λ q. let no : slice_get held i ≡ Some (Some (Shared k)) = subst (λ j. slice_get held j ≡ Some (Some (Shared k))) q old in cc) ∙ old);
     shared = λ j k e.
-      same_or_not j i
-      (λ q.
+        same_or_not j i
+        (λ q.
         let at : Some (Some (Shared (length es))) ≡ Some (Some (Shared k)) = sym (get_set_same held i (Some (Shared (length es))) (within held i None f)) ∙ subst (λ m. slice_get (slice_set held i (Some (Shared (length es)))) m ≡ Some (Some (Shared k))) q e in
         let is : length es ≡ k = cc in
         ((site, g), subst (λ m. slice_get (es ++ (site, g) ∷ []) m ≡ Some (site, g)) is (get_last es (site, g)), own_holder ∙ sym q))
-      (λ n.
+        (λ n.
         let s = h.shared j k (sym (get_set_other held i j (Some (Shared (length es))) n) ∙ e) in
         (s.0, get_left es ((site, g) ∷ []) k (within es k s.0 s.1) ∙ s.1, s.2));
     own = λ j s e.
-      same_or_not j i
-      (λ q. let at : Some (Some (Shared (length es))) ≡ Some (Some (Own s)) = sym (get_set_same held i (Some (Shared (length es))) (within held i None f)) ∙ subst (λ m. slice_get (slice_set held i (Some (Shared (length es)))) m ≡ Some (Some (Own s))) q e in cc)
-      (λ n. found_more (bytes_eq s) es ((site, g) ∷ []) (h.own j s (sym (get_set_other held i j (Some (Shared (length es))) n) ∙ e)));
+        same_or_not j i
+        (λ q. let at : Some (Some (Shared (length es))) ≡ Some (Some (Own s)) = sym (get_set_same held i (Some (Shared (length es))) (within held i None f)) ∙ subst (λ m. slice_get (slice_set held i (Some (Shared (length es)))) m ≡ Some (Some (Own s))) q e in cc)
+        (λ n. found_more (bytes_eq s) es ((site, g) ∷ []) (h.own j s (sym (get_set_other held i j (Some (Shared (length es))) n) ∙ e)));
   }
     where
       length_more : (xs : List (List ℕ × Group)) (x : List ℕ × Group) → length (xs ++ x ∷ []) ≡ suc (length xs)
       length_more [] x = refl
       length_more (y ∷ xs) x = ap suc (length_more xs x)
+
       below : (k : ℕ) → k < length (es ++ (site, g) ∷ []) → ¬ (k ≡ length es) → k < length es
       below k w n = let l = length_more es (site, g) in omega (arith, w, l, n)
 
@@ -131,21 +132,21 @@ pub given_held : (held : List (Option Name)) (es : List (List ℕ × Group)) →
 given_held held es h k p ends at = record {
   unique = subst (IsDistinct bytes_eq) (sym (keys_set es k g)) h.unique;
   holder = λ m q e.
-    same_or_not m k
-    (λ s.
+      same_or_not m k
+      (λ s.
       let is : Some (p.0, g) ≡ Some q = sym (get_value_same es k p g at) ∙ subst (λ n. slice_get (set_value_at es k g) n ≡ Some q) s e in
       let same : (p.0, g) ≡ q = cc in
       let place : p.1.holder ≡ q.1.holder = ap (λ (x : List ℕ × Group). x.1.holder) same in
       subst (λ n. slice_get held n ≡ Some (Some (Shared m))) place (h.holder m p (subst (λ n. slice_get es n ≡ Some p) (sym s) at)))
-    (λ n. h.holder m q (sym (get_value_other es k m g n) ∙ e));
+      (λ n. h.holder m q (sym (get_value_other es k m g n) ∙ e));
   shared = λ i m e.
-    let s = h.shared i m e in
-    same_or_not m k
-    (λ q.
+      let s = h.shared i m e in
+      same_or_not m k
+      (λ q.
       let is : Some s.0 ≡ Some p = sym s.1 ∙ subst (λ n. slice_get es n ≡ Some p) (sym q) at in
       let same : s.0 ≡ p = cc in
       ((p.0, g), subst (λ n. slice_get (set_value_at es k g) n ≡ Some (p.0, g)) (sym q) (get_value_same es k p g at), ap (λ (x : List ℕ × Group). x.1.holder) (sym same) ∙ s.2))
-    (λ n. (s.0, get_value_other es k m g n ∙ s.1, s.2));
+      (λ n. (s.0, get_value_other es k m g n ∙ s.1, s.2));
   own = λ i site e. found_set (bytes_eq site) es k g ∙ h.own i site e;
 }
   where
@@ -158,8 +159,8 @@ pub own_taken : (held : List (Option Name)) (es : List (List ℕ × Group)) → 
 own_taken held es h i site at = record {
   unique = h.unique;
   holder = λ k p g.
-    let old = h.holder k p g in
-    get_set_other held i p.1.holder None (λ e. let no : slice_get held i ≡ Some (Some (Shared k)) = subst (λ j. slice_get held j ≡ Some (Some (Shared k))) e old in cc) ∙ old;
+      let old = h.holder k p g in
+      get_set_other held i p.1.holder None (λ e. let no : slice_get held i ≡ Some (Some (Shared k)) = subst (λ j. slice_get held j ≡ Some (Some (Shared k))) e old in cc) ∙ old;
   shared = λ j k g. h.shared j k (others j (Shared k) g);
   own = λ j s g. h.own j s (others j (Own s) g);
 }
@@ -208,34 +209,34 @@ module _ (held : List (Option Name)) (es : List (List ℕ × Group)) (h : IsHeld
   inherit_held = record {
     unique = subst (IsDistinct bytes_eq) (sym (keys_set es k (record { holder = j; ends = ends }))) h.unique;
     holder = λ m q e.
-      same_or_not m k
-      (λ s.
+        same_or_not m k
+        (λ s.
         let is : Some (p.0, record { holder = j; ends = ends }) ≡ Some q = sym (get_value_same es k p (record { holder = j; ends = ends }) at) ∙ subst (λ n. slice_get (set_value_at es k (record { holder = j; ends = ends })) n ≡ Some q) s e in
         let same : (p.0, record { holder = j; ends = ends }) ≡ q = cc in
         let place : j ≡ q.1.holder = ap (λ (x : List ℕ × Group). x.1.holder) same in
         subst (λ n. slice_get (slice_set (slice_set held i None) j (Some (Shared k))) n ≡ Some (Some (Shared m))) place (at_heir ∙ ap (λ n. Some (Some (Shared n))) (sym s)))
-      (λ n.
+        (λ n.
         let old = h.holder m q (sym (get_value_other es k m (record { holder = j; ends = ends }) n) ∙ e) in
         at_others q.1.holder
         (λ s. let no : Some (Some (Shared k)) ≡ Some (Some (Shared m)) = sym is_holder ∙ subst (λ x. slice_get held x ≡ Some (Some (Shared m))) s old in let same : m ≡ k = cc in n same)
         (λ s. let no : Some (Some (Own site)) ≡ Some (Some (Shared m)) = sym heir ∙ subst (λ x. slice_get held x ≡ Some (Some (Shared m))) s old in cc)
         ∙ old);
     shared = λ m b e.
-      same_or_not m j
-      (λ q.
+        same_or_not m j
+        (λ q.
         let is : Some (Some (Shared k)) ≡ Some (Some (Shared b)) = sym at_heir ∙ subst (λ x. slice_get (slice_set (slice_set held i None) j (Some (Shared k))) x ≡ Some (Some (Shared b))) q e in
         let same : k ≡ b = cc in
         ((p.0, record { holder = j; ends = ends }), subst (λ x. slice_get (set_value_at es k (record { holder = j; ends = ends })) x ≡ Some (p.0, record { holder = j; ends = ends })) same (get_value_same es k p (record { holder = j; ends = ends }) at), sym q))
-      (λ n. same_or_not m i
+        (λ n. same_or_not m i
         (λ q. let no : Some None ≡ Some (Some (Shared b)) = sym at_left ∙ subst (λ x. slice_get (slice_set (slice_set held i None) j (Some (Shared k))) x ≡ Some (Some (Shared b))) q e in cc)
         (λ d.
-          let old = sym (at_others m d n) ∙ e in
-          let s = h.shared m b old in
-          (s.0, get_value_other es k b (record { holder = j; ends = ends }) (holder_here m b old d) ∙ s.1, s.2)));
+        let old = sym (at_others m d n) ∙ e in
+        let s = h.shared m b old in
+        (s.0, get_value_other es k b (record { holder = j; ends = ends }) (holder_here m b old d) ∙ s.1, s.2)));
     own = λ m s e.
-      same_or_not m j
-      (λ q. let no : Some (Some (Shared k)) ≡ Some (Some (Own s)) = sym at_heir ∙ subst (λ x. slice_get (slice_set (slice_set held i None) j (Some (Shared k))) x ≡ Some (Some (Own s))) q e in cc)
-      (λ n. same_or_not m i
+        same_or_not m j
+        (λ q. let no : Some (Some (Shared k)) ≡ Some (Some (Own s)) = sym at_heir ∙ subst (λ x. slice_get (slice_set (slice_set held i None) j (Some (Shared k))) x ≡ Some (Some (Own s))) q e in cc)
+        (λ n. same_or_not m i
         (λ q. let no : Some None ≡ Some (Some (Own s)) = sym at_left ∙ subst (λ x. slice_get (slice_set (slice_set held i None) j (Some (Shared k))) x ≡ Some (Some (Own s))) q e in cc)
         (λ d. found_set (bytes_eq s) es k (record { holder = j; ends = ends }) ∙ h.own m s (sym (at_others m d n) ∙ e)));
   }
@@ -247,7 +248,7 @@ module _ (held : List (Option Name)) (es : List (List ℕ × Group)) (h : IsHeld
       ∙ ap (λ ns. slice_set ns j (slice_get (keys_of es) k)) (map_set (name_in (keys_of es)) held i None)
       ∙ ap (slice_set (slice_set (names_in es held) i None) j) (get_keys es k p at ∙ ap Some key)
       ∙ set_itself (slice_set (names_in es held) i None) j (Some site)
-        (get_set_other (names_in es held) i j None apart ∙ held_name held es j (Own site) site heir refl)
+      (get_set_other (names_in es held) i j None apart ∙ held_name held es j (Own site) site heir refl)
 
 -- A site goes.
 
@@ -288,7 +289,7 @@ module _ (held : List (Option Name)) (es : List (List ℕ × Group)) (h : IsHeld
       cases (bytes_eq site s)
       (λ q. absurd (other_site m s e (sym ((bytes_decides site s).0 q))))
       (λ q. let found : lookup (bytes_eq s) (swap_remove es k (site, g)) ≡ lookup (bytes_eq s) es = l s ∙ ap (λ b. cond b None (lookup (bytes_eq s) es)) q in
-        ap is_some found ∙ h.own m s e)
+      ap is_some found ∙ h.own m s e)
 
   not_holder : (a m : ℕ) → ¬ (a ≡ k) → slice_get held m ≡ Some (Some (Shared a)) → ¬ (m ≡ i)
   not_holder a m n e q =
@@ -303,7 +304,7 @@ module _ (held : List (Option Name)) (es : List (List ℕ × Group)) (h : IsHeld
       same_lists (names_in es' held') (slice_set (names_in es held) i None) (λ j.
       same_or_not j i
       (λ q. subst (λ x. slice_get (names_in es' held') x ≡ slice_get (slice_set (names_in es held) i None) x) (sym q)
-        (get_map (name_in (keys_of es')) held' i ∙ ap (option_map (name_in (keys_of es'))) left ∙ sym (get_set_same (names_in es held) i None (within (names_in es held) i (slice_get (keys_of es) k) (get_map (name_in (keys_of es)) held i ∙ ap (option_map (name_in (keys_of es))) is_holder)))))
+      (get_map (name_in (keys_of es')) held' i ∙ ap (option_map (name_in (keys_of es'))) left ∙ sym (get_set_same (names_in es held) i None (within (names_in es held) i (slice_get (keys_of es) k) (get_map (name_in (keys_of es)) held i ∙ ap (option_map (name_in (keys_of es))) is_holder)))))
       (λ n. get_map (name_in (keys_of es')) held' j ∙ f j n ∙ sym (get_map (name_in (keys_of es)) held j) ∙ sym (get_set_other (names_in es held) i j None n)))
 
   same_name : (es' : List (List ℕ × Group)) (o : Option (Option Name)) → ((b : ℕ) → o ≡ Some (Some (Shared b)) → slice_get (keys_of es') b ≡ slice_get (keys_of es) b) → option_map (name_in (keys_of es')) o ≡ option_map (name_in (keys_of es)) o
@@ -333,14 +334,14 @@ module _ (held : List (Option Name)) (es : List (List ℕ × Group)) (h : IsHeld
     last_held u l = record {
       unique = u;
       holder = λ a p e.
-        same_or_not a k
-        (λ q. let no : None ≡ Some p = sym (swapped_past es k (site, g) k last) ∙ subst (λ x. slice_get (swap_remove es k (site, g)) x ≡ Some p) q e in cc)
-        (λ n. let old = h.holder a p (sym (entries_same a n) ∙ e) in
+          same_or_not a k
+          (λ q. let no : None ≡ Some p = sym (swapped_past es k (site, g) k last) ∙ subst (λ x. slice_get (swap_remove es k (site, g)) x ≡ Some p) q e in cc)
+          (λ n. let old = h.holder a p (sym (entries_same a n) ∙ e) in
           others_back p.1.holder (not_holder a p.1.holder n old) ∙ old);
       shared = λ m b e.
-        let o = others m (Shared b) e in
-        let s = h.shared m b o.1 in
-        (s.0, entries_same b (place_here m b o.1 o.0) ∙ s.1, s.2);
+          let o = others m (Shared b) e in
+          let s = h.shared m b o.1 in
+          (s.0, entries_same b (place_here m b o.1 o.0) ∙ s.1, s.2);
       own = λ m s e. still_found l m s (others m (Own s) e).1;
     }
 
@@ -348,9 +349,9 @@ module _ (held : List (Option Name)) (es : List (List ℕ × Group)) (h : IsHeld
     last_names =
         names_there (swap_remove es k (site, g)) (slice_set held i None)
         (λ j n. ap (option_map (name_in (keys_of (swap_remove es k (site, g))))) (others_back j n)
-          ∙ same_name (swap_remove es k (site, g)) (slice_get held j) (λ b e.
-            let s = h.shared j b e in
-            get_keys (swap_remove es k (site, g)) b s.0 (entries_same b (place_here j b e n) ∙ s.1) ∙ sym (get_keys es b s.0 s.1)))
+        ∙ same_name (swap_remove es k (site, g)) (slice_get held j) (λ b e.
+        let s = h.shared j b e in
+        get_keys (swap_remove es k (site, g)) b s.0 (entries_same b (place_here j b e n) ∙ s.1) ∙ sym (get_keys es b s.0 s.1)))
         (get_set_same held i None (within held i (Some (Shared k)) is_holder))
 
   -- where another was the last, which moves to the place
@@ -396,50 +397,50 @@ module _ (held : List (Option Name)) (es : List (List ℕ × Group)) (h : IsHeld
     moved_held u l = record {
       unique = u;
       holder = λ a p e.
-        same_or_not a k
-        (λ r.
+          same_or_not a k
+          (λ r.
           let is : Some q ≡ Some p = sym at_k ∙ subst (λ x. slice_get (swap_remove es k (site, g)) x ≡ Some p) r e in
           let same : q ≡ p = cc in
           let place : q.1.holder ≡ p.1.holder = ap (λ (x : List ℕ × Group). x.1.holder) same in
           subst (λ x. slice_get (slice_set (slice_set held i None) q.1.holder (Some (Shared k))) x ≡ Some (Some (Shared a))) place (at_holder ∙ ap (λ x. Some (Some (Shared x))) (sym r)))
-        (λ n. less_or_not (a + 1) (length es)
+          (λ n. less_or_not (a + 1) (length es)
           (λ w.
-            let old = h.holder a p (sym (swapped_other es k (site, g) a n w) ∙ e) in
-            elsewhere p.1.holder
-            (λ r.
-              let no : Some (Some (Shared (length es - 1))) ≡ Some (Some (Shared a)) = sym at_moved ∙ subst (λ x. slice_get held x ≡ Some (Some (Shared a))) r old in
-              let same : length es - 1 ≡ a = cc in
-              absurd (let z : 0 < 0 = omega (arith, same, w) in omega (arith, z)))
-            ∙ others_back p.1.holder (not_holder a p.1.holder n old) ∙ old)
+          let old = h.holder a p (sym (swapped_other es k (site, g) a n w) ∙ e) in
+          elsewhere p.1.holder
+          (λ r.
+          let no : Some (Some (Shared (length es - 1))) ≡ Some (Some (Shared a)) = sym at_moved ∙ subst (λ x. slice_get held x ≡ Some (Some (Shared a))) r old in
+          let same : length es - 1 ≡ a = cc in
+          absurd (let z : 0 < 0 = omega (arith, same, w) in omega (arith, z)))
+          ∙ others_back p.1.holder (not_holder a p.1.holder n old) ∙ old)
           (λ w. let no : None ≡ Some p = sym (swapped_past es k (site, g) a w) ∙ e in cc));
       shared = λ m b e.
-        same_or_not m q.1.holder
-        (λ r.
+          same_or_not m q.1.holder
+          (λ r.
           let is : Some (Some (Shared k)) ≡ Some (Some (Shared b)) = sym at_holder ∙ subst (λ x. slice_get (slice_set (slice_set held i None) q.1.holder (Some (Shared k))) x ≡ Some (Some (Shared b))) r e in
           let same : k ≡ b = cc in
           (q, subst (λ x. slice_get (swap_remove es k (site, g)) x ≡ Some q) same at_k, sym r))
-        (λ n.
+          (λ n.
           let o = others m (Shared b) (sym (elsewhere m n) ∙ e) in
           let s = h.shared m b o.1 in
           (s.0, entry_stays m b o.0 n o.1 ∙ s.1, s.2));
       own = λ m s e.
-        same_or_not m q.1.holder
-        (λ r. let no : Some (Some (Shared k)) ≡ Some (Some (Own s)) = sym at_holder ∙ subst (λ x. slice_get (slice_set (slice_set held i None) q.1.holder (Some (Shared k))) x ≡ Some (Some (Own s))) r e in cc)
-        (λ n. still_found l m s (others m (Own s) (sym (elsewhere m n) ∙ e)).1);
+          same_or_not m q.1.holder
+          (λ r. let no : Some (Some (Shared k)) ≡ Some (Some (Own s)) = sym at_holder ∙ subst (λ x. slice_get (slice_set (slice_set held i None) q.1.holder (Some (Shared k))) x ≡ Some (Some (Own s))) r e in cc)
+          (λ n. still_found l m s (others m (Own s) (sym (elsewhere m n) ∙ e)).1);
     }
 
     pub moved_names : names_in (swap_remove es k (site, g)) (slice_set (slice_set held i None) q.1.holder (Some (Shared k))) ≡ slice_set (names_in es held) i None
     moved_names =
         names_there (swap_remove es k (site, g)) (slice_set (slice_set held i None) q.1.holder (Some (Shared k)))
         (λ j n. same_or_not j q.1.holder
-          (λ r. subst (λ x. option_map (name_in (keys_of (swap_remove es k (site, g)))) (slice_get (slice_set (slice_set held i None) q.1.holder (Some (Shared k))) x) ≡ option_map (name_in (keys_of es)) (slice_get held x)) (sym r)
-            (ap (option_map (name_in (keys_of (swap_remove es k (site, g))))) at_holder
-              ∙ ap Some (get_keys (swap_remove es k (site, g)) k q at_k ∙ sym (get_keys es (length es - 1) q moved))
-              ∙ sym (ap (option_map (name_in (keys_of es))) at_moved)))
-          (λ o. ap (option_map (name_in (keys_of (swap_remove es k (site, g))))) (elsewhere j o ∙ others_back j n)
-            ∙ same_name (swap_remove es k (site, g)) (slice_get held j) (λ b e.
-              let s = h.shared j b e in
-              get_keys (swap_remove es k (site, g)) b s.0 (entry_stays j b n o e ∙ s.1) ∙ sym (get_keys es b s.0 s.1))))
+        (λ r. subst (λ x. option_map (name_in (keys_of (swap_remove es k (site, g)))) (slice_get (slice_set (slice_set held i None) q.1.holder (Some (Shared k))) x) ≡ option_map (name_in (keys_of es)) (slice_get held x)) (sym r)
+        (ap (option_map (name_in (keys_of (swap_remove es k (site, g))))) at_holder
+        ∙ ap Some (get_keys (swap_remove es k (site, g)) k q at_k ∙ sym (get_keys es (length es - 1) q moved))
+        ∙ sym (ap (option_map (name_in (keys_of es))) at_moved)))
+        (λ o. ap (option_map (name_in (keys_of (swap_remove es k (site, g))))) (elsewhere j o ∙ others_back j n)
+        ∙ same_name (swap_remove es k (site, g)) (slice_get held j) (λ b e.
+        let s = h.shared j b e in
+        get_keys (swap_remove es k (site, g)) b s.0 (entry_stays j b n o e ∙ s.1) ∙ sym (get_keys es b s.0 s.1))))
         (get_set_other (slice_set held i None) q.1.holder i (Some (Shared k)) (λ e. moved_apart (sym e)) ∙ get_set_same held i None (within held i (Some (Shared k)) is_holder))
 
   -- in both cases
@@ -450,10 +451,10 @@ module _ (held : List (Option Name)) (es : List (List ℕ × Group)) (h : IsHeld
   removed_held u l =
       less_or_not (k + 1) (length es)
       (λ w.
-        let q = get_or es (length es - 1) (site, g) in
-        let moved : slice_get es (length es - 1) ≡ Some q = get_within es (length es - 1) (site, g) (omega (arith, w)) in
-        let here = swapped_moved es k (site, g) w ∙ moved in
-        rw here (moved_held q w moved u l, moved_names q w moved))
+      let q = get_or es (length es - 1) (site, g) in
+      let moved : slice_get es (length es - 1) ≡ Some q = get_within es (length es - 1) (site, g) (omega (arith, w)) in
+      let here = swapped_moved es k (site, g) w ∙ moved in
+      rw here (moved_held q w moved u l, moved_names q w moved))
       (λ w. let here = swapped_past es k (site, g) k w in rw here (last_held w u l, last_names w))
 
 -- Ends.
@@ -504,7 +505,7 @@ held_holds held held' es es' h i site f (Some g) l r u =
       holds = own_held held es h i site f (ap is_some l);
       names_are = map_set (name_in (keys_of es)) held i (Some (Own site));
       ends_are = λ other. added_same site other (lookup (bytes_eq other) (ends_list es)) (λ q.
-        ap is_some (lookup_ends (bytes_eq other) es ∙ ap (λ s. option_map (λ (x : Group). x.ends) (lookup (bytes_eq s) es)) (sym ((bytes_decides site other).0 q)) ∙ ap (option_map (λ (x : Group). x.ends)) l));
+          ap is_some (lookup_ends (bytes_eq other) es ∙ ap (λ s. option_map (λ (x : Group). x.ends) (lookup (bytes_eq s) es)) (sym ((bytes_decides site other).0 q)) ∙ ap (option_map (λ (x : Group). x.ends)) l));
     })
 held_holds held held' es es' h i site f None l r u =
     let g : Group = record { holder = i; ends = record { first = None; last = None } } in
@@ -513,12 +514,12 @@ held_holds held held' es es' h i site f None l r u =
       holds = new_held held es h i site g f refl u';
       names_are = new_names held es h i site g f refl;
       ends_are = λ other. lookup_ends (bytes_eq other) (es ++ (site, g) ∷ []) ∙ cases (bytes_eq site other)
-        (λ q.
+          (λ q.
           let same = (bytes_decides site other).0 q in
           let none : lookup (bytes_eq other) es ≡ None = subst (λ s. lookup (bytes_eq s) es ≡ None) same l in
           let back : bytes_eq other site ≡ true = (bytes_decides other site).1 (sym same) in
           rw q (ap (option_map (λ (x : Group). x.ends)) (lookup_new (bytes_eq other) es (site, g) none back) ∙ sym (ap (λ o. Some (or_no_ends o)) (lookup_ends (bytes_eq other) es ∙ ap (option_map (λ (x : Group). x.ends)) none))))
-        (λ q.
+          (λ q.
           let back : bytes_eq other site ≡ false = nat_list_eq_equiv.symm other site ∙ q in
           rw q (ap (option_map (λ (x : Group). x.ends)) (lookup_same (bytes_eq other) es (site, g) back) ∙ sym (lookup_ends (bytes_eq other) es)));
     })
@@ -568,6 +569,7 @@ heir_owns held es h i k j site at name d other = by n.0 n.1 n.2
   where
     n : (n : Name) × (slice_get held j ≡ Some (Some n)) × (name_in (keys_of es) (Some n) ≡ Some site)
     n = name_held held es j site other
+
     by : (m : Name) → slice_get held j ≡ Some (Some m) → name_in (keys_of es) (Some m) ≡ Some site → slice_get held j ≡ Some (Some (Own site))
     by (Own s) e f = let same : Some s ≡ Some site = f in let is : s ≡ site = cc in subst (λ x. slice_get held j ≡ Some (Some (Own x))) is e
     by (Shared b) e f =
@@ -616,11 +618,13 @@ inherit_taken held held1 held' es es' h i k j site at e1 name heir e2 en =
     let named : Some (slice_get (keys_of es) k) ≡ Some (Some site) = sym (get_map (name_in (keys_of es)) held i ∙ ap (option_map (name_in (keys_of es))) at) ∙ name in
     let key : slice_get (keys_of es) k ≡ Some site = cc in
     let key_k : Some s.0.0 ≡ Some site = sym (get_keys es k s.0 s.1) ∙ key in
-    let is : s.0.0 ≡ site = cc in
-    (rw (held_is, entries) (record {
-      holds = inherit_held held es h i j k site s.0 s.0.1.ends at own s.1 is;
-      names_are = inherit_names held es h i j k site s.0 s.0.1.ends at own s.1 is;
-    }), ap ends_list entries ∙ ends_set es k j s.0 s.1)
+    let is : s.0.0 ≡ site = cc in (
+      rw (held_is, entries) (record {
+        holds = inherit_held held es h i j k site s.0 s.0.1.ends at own s.1 is;
+        names_are = inherit_names held es h i j k site s.0 s.0.1.ends at own s.1 is;
+      }),
+      ap ends_list entries ∙ ends_set es k j s.0 s.1,
+    )
 
 -- Where the key of a slot's site is.
 

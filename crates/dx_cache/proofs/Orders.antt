@@ -1,13 +1,12 @@
 -- Lists of slots, and the entries that they give.
-use Rattle.std.proofs.Common.{◌≡◌, ℕ, zero, suc, ◌+◌, ◌<◌, ◌≤◌, List, [], ◌∷◌, ◌++◌, length, map, Bool, true, false, cond, Option, Some, None, refl, sym, ap, ap₂, ◌∙◌, subst, arith, ◌⊎◌, inl, inr, true≢false}
-use Rattle.std.specs.Prelude.{slice_get, filter, not, ◌==◌}
+use Rattle.std.proofs.Common.{◌≡◌, ℕ, zero, suc, ◌+◌, ◌<◌, List, [], ◌∷◌, ◌++◌, length, map, Bool, true, false, Some, None, refl, sym, ap, ap₂, ◌∙◌, arith, inl, inr}
+use Rattle.std.specs.Prelude.{slice_get, filter, ◌==◌}
 use Rattle.std.specs.List.{remove}
 use Rattle.dx_cache.specs.Chain.{IsIn, IsOut, AreApart, first_or}
-use Rattle.dx_cache.proofs.SlotLaws.{cases, in_left, in_right, not_in_out, out_not_in}
+use Rattle.dx_cache.proofs.SlotLaws.{cases, not_in_out, out_not_in}
 use Rattle.dx_cache.specs.declared.entry.Entry.{Entry}
-use Rattle.dx_cache.specs.Cached.{total, has_tag, find, place_from}
-use Rattle.dx_cache.specs.Sound.{IsKept, AreKept}
-use Rattle.dx_cache.proofs.Places.{IsFirst, NonePass}
+use Rattle.dx_cache.specs.Cached.{has_tag, place_from}
+use Rattle.dx_cache.proofs.Places.{NonePass}
 
 -- Filters.
 
@@ -112,15 +111,15 @@ first_placed p q f (x ∷ xs) i n s e =
     let here = s x (inl refl) in
     cases (p x)
     (λ r.
-      let e1 : Some x ≡ Some i = rw r at e in
-      let same : x ≡ i = cc in
-      let passes : q (f x) ≡ true = here ∙ r in
-      record { left = []; right = xs; whole = ap (λ y. y ∷ xs) same; place = rw passes (ap Some (omega arith)) })
+    let e1 : Some x ≡ Some i = rw r at e in
+    let same : x ≡ i = cc in
+    let passes : q (f x) ≡ true = here ∙ r in
+    record { left = []; right = xs; whole = ap (λ y. y ∷ xs) same; place = rw passes (ap Some (omega arith)) })
     (λ r.
-      let e1 : first_or (filter p xs) None ≡ Some i = rw r at e in
-      let rest = first_placed p q f xs i (suc n) (λ j m. s j (inr m)) e1 in
-      let fails : q (f x) ≡ false = here ∙ r in
-      record { left = x ∷ rest.left; right = rest.right; whole = ap (λ ys. x ∷ ys) rest.whole; place = rw fails (rest.place ∙ ap Some (omega arith)) })
+    let e1 : first_or (filter p xs) None ≡ Some i = rw r at e in
+    let rest = first_placed p q f xs i (suc n) (λ j m. s j (inr m)) e1 in
+    let fails : q (f x) ≡ false = here ∙ r in
+    record { left = x ∷ rest.left; right = rest.right; whole = ap (λ ys. x ∷ ys) rest.whole; place = rw fails (rest.place ∙ ap Some (omega arith)) })
 
 pub none_placed : (p : ℕ → Bool) (q : Entry → Bool) (f : ℕ → Entry) (order : List ℕ) (n : ℕ) → ((j : ℕ) → IsIn j order → q (f j) ≡ p j) → first_or (filter p order) None ≡ None → place_from n q (map f order) ≡ None
 none_placed p q f [] n s e = refl
@@ -129,9 +128,9 @@ none_placed p q f (x ∷ xs) n s e =
     cases (p x)
     (λ r. let e1 : Some x ≡ None = rw r at e in cc)
     (λ r.
-      let e1 : first_or (filter p xs) None ≡ None = rw r at e in
-      let fails : q (f x) ≡ false = here ∙ r in
-      rw fails (none_placed p q f xs (suc n) (λ j m. s j (inr m)) e1))
+    let e1 : first_or (filter p xs) None ≡ None = rw r at e in
+    let fails : q (f x) ≡ false = here ∙ r in
+    rw fails (none_placed p q f xs (suc n) (λ j m. s j (inr m)) e1))
 
 -- The slot at a place.
 

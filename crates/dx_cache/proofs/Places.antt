@@ -1,10 +1,10 @@
 -- Places of entries, and what taking one out or adding one leaves.
-use Rattle.std.proofs.Common.{◌≡◌, ℕ, zero, suc, ◌+◌, ◌<◌, ◌≤◌, List, [], ◌∷◌, ◌++◌, length, take, drop, Bool, true, false, cond, Option, Some, None, refl, sym, ap, ap₂, ◌∙◌, subst, arith, is_some, true≢false, get_or, ◌⊎◌, inl, inr, ⊎_elim, append-nil}
-use Rattle.std.specs.Prelude.{slice_get, filter, not, ◌==◌, nat_le, if◌then◌else◌, ◌&&◌, IfSome}
+use Rattle.std.proofs.Common.{◌≡◌, ℕ, zero, suc, ◌+◌, List, [], ◌∷◌, ◌++◌, Bool, true, false, Some, None, refl, sym, ap, ap₂, ◌∙◌, subst, arith, true≢false, append-nil}
+use Rattle.std.specs.Prelude.{slice_get, filter, not, ◌==◌}
 use Rattle.std.specs.List.{remove}
 use Rattle.std.specs.Cmp.{unsigned_Decides}
 use Rattle.dx_cache.specs.declared.entry.Entry.{Entry}
-use Rattle.dx_cache.specs.Cached.{total, has_tag, of_site, find, moved, place_from, place}
+use Rattle.dx_cache.specs.Cached.{total, has_tag, find, moved, place_from, place}
 use Rattle.dx_cache.specs.Sound.{IsKept, AreKept}
 
 -- by what a test says
@@ -28,7 +28,7 @@ place_gives p (x ∷ es) n i e =
     cases (p x)
     (λ h. let e1 : Some n ≡ Some i = rw h at e in (0, (let same : n ≡ i = cc in omega arith), h))
     (λ h. let e1 : place_from (suc n) p es ≡ Some i = rw h at e in
-      let r = place_gives p es (suc n) i e1 in (suc r.0, (let f = r.1 in omega arith), (h, r.2)))
+    let r = place_gives p es (suc n) i e1 in (suc r.0, (let f = r.1 in omega arith), (h, r.2)))
 
 pub first_place : (p : Entry → Bool) (es : List Entry) (i : ℕ) → place p es ≡ Some i → IsFirst p es i
 first_place p es i e = let r = place_gives p es 0 i e in subst (IsFirst p es) (let f = r.1 in omega arith) r.2

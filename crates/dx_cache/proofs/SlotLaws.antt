@@ -1,6 +1,6 @@
 -- Lists of slots.
-use Rattle.std.proofs.Common.{◌≡◌, ℕ, zero, suc, ◌+◌, ◌<◌, ◌≤◌, List, [], ◌∷◌, ◌++◌, length, map, Bool, true, false, cond, Option, Some, None, refl, sym, ap, ap₂, ◌∙◌, subst, arith, ◌⊎◌, inl, inr, true≢false}
-use Rattle.std.specs.Prelude.{slice_get, slice_set, filter, not, ◌==◌}
+use Rattle.std.proofs.Common.{◌≡◌, ℕ, zero, suc, ◌<◌, List, [], ◌∷◌, ◌++◌, length, Bool, true, false, Some, refl, sym, ap, ◌∙◌, subst, arith, ◌⊎◌, inl, inr, true≢false}
+use Rattle.std.specs.Prelude.{slice_get, slice_set, ◌==◌}
 use Rattle.std.specs.Cmp.{unsigned_Decides}
 use Rattle.dx_cache.specs.Chain.{IsIn, IsOut, AreApart}
 

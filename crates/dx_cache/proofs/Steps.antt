@@ -1,25 +1,24 @@
 -- Each call as a step of the list of entries.
-use Rattle.std.proofs.Common.{◌≡◌, ℕ, zero, suc, ◌+◌, ◌-◌, ◌<◌, ◌≤◌, List, [], ◌∷◌, ◌++◌, length, map, Bool, true, false, cond, Option, Some, None, refl, sym, ap, ap₂, ◌∙◌, subst, arith, ◌⊎◌, inl, inr, true≢false, is_some}
-use Rattle.std.specs.Prelude.{slice_get, slice_set, filter, not, ◌==◌, nat_eq, bytes_eq, IfSome, if◌then◌else◌}
+use Rattle.std.proofs.Common.{◌≡◌, ℕ, ◌+◌, ◌<◌, ◌≤◌, List, [], ◌∷◌, ◌++◌, length, true, cond, Option, Some, None, refl, sym, ap, ap₂, ◌∙◌, subst, arith, inl, inr, is_some}
+use Rattle.std.specs.Prelude.{slice_get, slice_set, nat_eq, bytes_eq, if◌then◌else◌}
 use Rattle.std.specs.List.{remove}
 use Rattle.std.specs.Map.{lookup}
-use Rattle.std.specs.Cmp.{unsigned_Decides}
 use Rattle.std.specs.Cmp.Lexicographic.{bytes_decides}
 use Rattle.dx_cache.proofs.ChainLaws.{chain_same, chain_within}
 use Rattle.dx_cache.proofs.Lists.{get_left}
 use Rattle.dx_cache.specs.declared.chains.Link.{Link}
 use Rattle.dx_cache.specs.declared.chains.Ends.{Ends}
 use Rattle.dx_cache.specs.Chain.{IsChain, IsIn, IsOut, AreApart, first_or}
-use Rattle.dx_cache.proofs.SlotLaws.{within, get_set_same, in_others, in_right, not_in_out, out_not_in, out_left, out_right, out_both, apart_others, apart_middle, IsSplit, split_at}
+use Rattle.dx_cache.proofs.SlotLaws.{within, get_set_same, in_others, in_right, not_in_out, out_not_in, out_left, out_right, out_both, apart_others, apart_middle, split_at}
 use Rattle.dx_cache.specs.Named.{HasName, given_ends, added_ends, taken_ends, or_no_ends}
 use Rattle.dx_cache.specs.declared.entry.Entry.{Entry}
 use Rattle.dx_cache.specs.declared.slots.Body.{Body}
-use Rattle.dx_cache.specs.Cached.{Cached, total, place, has_tag, of_site, find, moved, next_place, Drops}
-use Rattle.dx_cache.specs.Sound.{IsKept, AreKept}
-use Rattle.dx_cache.specs.Tied.{body_in, site_in, entry_of, entry_at, entries_at, slots_of, IsFull, IsFree, HasTag, IsTied, order_in, IsSound, next_slot}
-use Rattle.dx_cache.proofs.Places.{place_first, first_moved, total-moved, kept-moved, total-remove, kept-remove, kept_at, total-append, kept-append, found_none, none_found, none_filter}
+use Rattle.dx_cache.specs.Cached.{Cached, total, place, has_tag, find, moved, Drops}
+use Rattle.dx_cache.specs.Sound.{IsKept, AreKept, IsBounded}
+use Rattle.dx_cache.specs.Tied.{body_in, site_in, entry_of, entry_at, entries_at, slots_of, IsFull, HasTag, IsTied, order_in, IsSound}
+use Rattle.dx_cache.proofs.Places.{place_first, first_moved, total-moved, kept-moved, total-remove, kept-remove, total-append, kept-append}
 use Rattle.dx_cache.proofs.Orders.{get_middle, remove_middle, map_both, length_both, split_place}
-use Rattle.dx_cache.proofs.Tying.{kept_first, kept_found, not_both, order_is, vacant_is, order_within, vacant_within, entry_is, sound_by, no_tag, no_slot, site_chain, middle_out, middle_apart, site_split, site_apart, moved_tied, left_entries, heir_of, removed_tied, is_free, new_out, added_chain, site_new_out, site_now_apart, stored_entries, stored_tied, grown_tied, grown_entries, none_tied, IsNext, next_none_of, next_some_of}
+use Rattle.dx_cache.proofs.Tying.{kept_first, kept_found, not_both, order_is, vacant_is, vacant_within, sound_by, no_slot, site_chain, middle_out, middle_apart, site_split, site_apart, moved_tied, left_entries, removed_tied, is_free, stored_entries, stored_tied, grown_tied, grown_entries, none_tied, IsNext}
 
 -- A slot of the list, with what stands round it.
 pub record AtSlot (slots : List (Option Body)) (names : List (Option (List ℕ))) (ends : List (List ℕ × Ends)) (links own : List Link) (all free : Ends) (tags : List (ℕ × ℕ)) (order vacant : List ℕ) (i : ℕ) : Type 0 where
@@ -111,14 +110,14 @@ moved_sound budget used tag slots names names' ends ends' links links' own own' 
     let has : (entry_at slots names i).tag ≡ tag = ap (λ (x : Entry). x.tag) (entry_form slots names ends links own all free tags order vacant i a) ∙ tag_is in
     let old = entries_at slots names order in
     let new : entries_at slots names ((a.left ++ a.right) ++ i ∷ []) ≡ remove (entries_at slots names order) (length a.left) ++ entry_at slots names i ∷ [] =
-      map_both (entry_at slots names) (a.left ++ a.right) (i ∷ []) ∙ ap (λ xs. xs ++ entry_at slots names i ∷ []) (sym (removed_here slots names ends links own all free tags order vacant i a)) in
+    map_both (entry_at slots names) (a.left ++ a.right) (i ∷ []) ∙ ap (λ xs. xs ++ entry_at slots names i ∷ []) (sym (removed_here slots names ends links own all free tags order vacant i a)) in
     let sum = total-moved (entries_at slots names order) (length a.left) (entry_at slots names i) here in
     let kept = kept-moved (entries_at slots names order) (length a.left) (entry_at slots names i) s.kept here in
     let first = kept_first (entries_at slots names order) (length a.left) tag (entry_at slots names i) s.kept here has in
     let is_moved = first_moved tag (entries_at slots names order) (length a.left) (entry_at slots names i) s.kept first here in
     rw n (record {
       sound = sound_by slots names ends' links' own' all' free tags ((a.left ++ a.right) ++ i ∷ []) vacant t budget used (s.used_is ∙ sym sum ∙ sym (ap total new)) s.bounded (subst AreKept (sym new) kept)
-        (let n0 = s.counted in let n1 = ap length a.whole in let n2 = length_both a.left (i ∷ a.right) in let n3 = length_both (a.left ++ a.right) (i ∷ []) in let n4 = length_both a.left a.right in omega (arith, n0, n1, n2, n3, n4));
+          (let n0 = s.counted in let n1 = ap length a.whole in let n2 = length_both a.left (i ∷ a.right) in let n3 = length_both (a.left ++ a.right) (i ∷ []) in let n4 = length_both a.left a.right in omega (arith, n0, n1, n2, n3, n4));
       found = ap is_some (kept_found (entries_at slots names order) (length a.left) tag (entry_at slots names i) s.kept here has);
       entries = ap (entries_at slots names) (order_is slots names ends' links' own' all' free tags ((a.left ++ a.right) ++ i ∷ []) vacant t) ∙ new ∙ sym is_moved;
       vacant = vacant_is slots names ends' links' own' all' free tags ((a.left ++ a.right) ++ i ∷ []) vacant t;
@@ -151,12 +150,12 @@ removed_sound budget used used' slots slots' names names' ends ends' links links
     let was = s.used_is in
     let bounded = s.bounded in
     let new : entries_at (slice_set slots i None) (slice_set names i None) (a.left ++ a.right) ≡ remove (entries_at slots names order) (length a.left) =
-      left_entries slots names ends links own all free tags a.left a.right vacant i a.tied ∙ sym (removed_here slots names ends links own all free tags order vacant i a) in
+    left_entries slots names ends links own all free tags a.left a.right vacant i a.tied ∙ sym (removed_here slots names ends links own all free tags order vacant i a) in
     let total_is = ap total new in
     rw (sl, n) (record {
       sound = sound_by (slice_set slots i None) (slice_set names i None) ends' links' own' all' free' tags' (a.left ++ a.right) (vacant ++ i ∷ []) t budget used'
-        (omega (arith, u, was, sum, size, total_is)) (omega (arith, u, bounded)) (subst AreKept (sym new) (kept-remove (entries_at slots names order) (length a.left) s.kept))
-        (let n0 = s.counted in let n1 = ap length a.whole in let n2 = length_both a.left (i ∷ a.right) in let n3 = length_both a.left a.right in omega (arith, tn, n0, n1, n2, n3));
+          (omega (arith, u, was, sum, size, total_is)) (omega (arith, u, bounded)) (subst AreKept (sym new) (kept-remove (entries_at slots names order) (length a.left) s.kept))
+          (let n0 = s.counted in let n1 = ap length a.whole in let n2 = length_both a.left (i ∷ a.right) in let n3 = length_both a.left a.right in omega (arith, tn, n0, n1, n2, n3));
       entries = ap (entries_at (slice_set slots i None) (slice_set names i None)) (order_is (slice_set slots i None) (slice_set names i None) ends' links' own' all' free' tags' (a.left ++ a.right) (vacant ++ i ∷ []) t) ∙ new;
       vacant = ap length (vacant_is (slice_set slots i None) (slice_set names i None) ends' links' own' all' free' tags' (a.left ++ a.right) (vacant ++ i ∷ []) t) ∙ length_both vacant (i ∷ []);
     })
@@ -191,9 +190,9 @@ stored_sound budget used used' slots slots' names names' ends ends' links links'
     let was = s.used_is in
     rw (sl, n) (record {
       sound = sound_by (slice_set slots i (Some b)) (slice_set names i (Some site)) ends' links' own' all' free' tags' (order ++ i ∷ []) vacant t budget used'
-        (omega (arith, u, was, sum, total_is)) (omega (arith, u, was, fits))
-        (subst AreKept (sym new) (kept-append (entries_at slots names order) (entry_of b site) s.kept kept absent))
-        (let n0 = s.counted in let n1 = length_both order (i ∷ []) in omega (arith, one, n0, n1));
+          (omega (arith, u, was, sum, total_is)) (omega (arith, u, was, fits))
+          (subst AreKept (sym new) (kept-append (entries_at slots names order) (entry_of b site) s.kept kept absent))
+          (let n0 = s.counted in let n1 = length_both order (i ∷ []) in omega (arith, one, n0, n1));
       entries = ap (entries_at (slice_set slots i (Some b)) (slice_set names i (Some site))) (order_is (slice_set slots i (Some b)) (slice_set names i (Some site)) ends' links' own' all' free' tags' (order ++ i ∷ []) vacant t) ∙ new;
       vacant = (let is = ap length (vacant_is (slice_set slots i (Some b)) (slice_set names i (Some site)) ends' links' own' all' free' tags' (order ++ i ∷ []) vacant t) in let old = ap length v in omega (arith, is, old));
     })
@@ -227,6 +226,9 @@ none_sound budget = sound_by [] [] [] [] [] (record { first = None; last = None 
 
 -- For the code's exits.
 
+pub sound_bounded : (budget used : ℕ) (slots : List (Option Body)) (names : List (Option (List ℕ))) (ends : List (List ℕ × Ends)) (links own : List Link) (all free : Ends) (tags : List (ℕ × ℕ)) (room : ℕ) → IsSound budget used slots names ends links own all free tags → IsBounded (record { budget = budget; entries = entries_at slots names (order_in links slots all); room = room })
+sound_bounded budget used slots names ends links own all free tags room s = record { bounded = subst (λ u. u ≤ budget) s.used_is s.bounded; kept = s.kept }
+
 pub tag_at : (slots : List (Option Body)) (names : List (Option (List ℕ))) (tags : List (ℕ × ℕ)) (order : List ℕ) (t i : ℕ) (h : HasTag slots order t i) (f : IsFull slots names tags i) → f.body.tag ≡ t
 tag_at slots names tags order t i h f =
     let two : Some (Some f.body) ≡ Some (Some h.body) = sym f.at ∙ h.at in
@@ -243,14 +245,16 @@ tag_place slots names ends links own all free tags order vacant i a tag k e =
 -- the slot at a place of the order
 pub at_place : (slots : List (Option Body)) (names : List (Option (List ℕ))) (ends : List (List ℕ × Ends)) (links own : List Link) (all free : Ends) (tags : List (ℕ × ℕ)) (order vacant : List ℕ) → IsTied slots names ends links own all free tags order vacant → (n i : ℕ) → slice_get order n ≡ Some i → (a : AtSlot slots names ends links own all free tags order vacant i) × (length a.left ≡ n)
 at_place slots names ends links own all free tags order vacant t n i h =
-    let s = split_place order n i h in
-    (record {
-      left = s.left;
-      right = s.right;
-      whole = s.whole;
-      tied = subst (λ o. IsTied slots names ends links own all free tags o vacant) s.whole t;
-      full = t.full i (subst (IsIn i) (sym s.whole) (in_right i s.left (i ∷ s.right) (inl refl)));
-    }, s.place)
+    let s = split_place order n i h in (
+      record {
+        left = s.left;
+        right = s.right;
+        whole = s.whole;
+        tied = subst (λ o. IsTied slots names ends links own all free tags o vacant) s.whole t;
+        full = t.full i (subst (IsIn i) (sym s.whole) (in_right i s.left (i ∷ s.right) (inl refl)));
+      },
+      s.place,
+    )
 
 -- a slot that stands in no part keeps its link through both steps
 pub both_steps : (l0 l1 l2 : List Link) (xs ys : List ℕ) (i : ℕ) → ((j : ℕ) → IsOut j (xs ++ i ∷ ys) → slice_get l1 j ≡ slice_get l0 j) → ((j : ℕ) → ¬ (j ≡ i) → IsOut j (xs ++ ys) → slice_get l2 j ≡ slice_get l1 j) → (j : ℕ) → IsOut j (xs ++ i ∷ ys) → slice_get l2 j ≡ slice_get l0 j
@@ -258,13 +262,16 @@ both_steps l0 l1 l2 xs ys i f g j o = g j (out_right j xs (i ∷ ys) o).0 (out_b
 
 -- the next that is dropped
 pub at_next : (slots : List (Option Body)) (names : List (Option (List ℕ))) (ends : List (List ℕ × Ends)) (links own : List Link) (all free : Ends) (tags : List (ℕ × ℕ)) (order vacant : List ℕ) (i : ℕ) (site : List ℕ) (attribute size budget : ℕ) → IsTied slots names ends links own all free tags order vacant → (n : IsNext site attribute size budget (entry_at slots names) order i) → (a : AtSlot slots names ends links own all free tags order vacant i) × (n.left ≡ a.left)
-at_next slots names ends links own all free tags order vacant i site attribute size budget t n = (record {
-  left = n.left;
-  right = n.right;
-  whole = n.whole;
-  tied = subst (λ o. IsTied slots names ends links own all free tags o vacant) n.whole t;
-  full = t.full i (subst (IsIn i) (sym n.whole) (in_right i n.left (i ∷ n.right) (inl refl)));
-}, refl)
+at_next slots names ends links own all free tags order vacant i site attribute size budget t n = (
+  record {
+    left = n.left;
+    right = n.right;
+    whole = n.whole;
+    tied = subst (λ o. IsTied slots names ends links own all free tags o vacant) n.whole t;
+    full = t.full i (subst (IsIn i) (sym n.whole) (in_right i n.left (i ∷ n.right) (inl refl)));
+  },
+  refl,
+)
 
 -- the first of the free slots
 pub record IsFirstFree (slots : List (Option Body)) (names : List (Option (List ℕ))) (ends : List (List ℕ × Ends)) (links own : List Link) (all free : Ends) (tags : List (ℕ × ℕ)) (order vacant : List ℕ) (i : ℕ) : Type 0 where

@@ -1,5 +1,5 @@
 -- The entries of a cache, and how one is found, moved, dropped and kept.
-use Rattle.std.specs.Prelude.{◌≡◌, ℕ, zero, suc, ◌&&◌, slice_get, ◌+◌, ◌≤◌, ◌<◌, List, [], ◌∷◌, ◌++◌, map, filter, Bool, true, false, not, ◌||◌, ◌==◌, nat_le, if◌then◌else◌, bytes_eq, Option, Some, None}
+use Rattle.std.specs.Prelude.{◌≡◌, ℕ, suc, ◌&&◌, slice_get, ◌+◌, ◌≤◌, List, [], ◌∷◌, ◌++◌, filter, Bool, not, ◌==◌, nat_le, if◌then◌else◌, bytes_eq, Option, Some, None}
 use Rattle.std.specs.List.{remove}
 use Rattle.dx_cache.specs.declared.entry.Entry.{Entry}
 

@@ -1,5 +1,5 @@
 -- The code of a cache's value.
-use Rattle.std.specs.Prelude.{◌≡◌, ℕ, List, Option, refl}
+use Rattle.std.specs.Prelude.{ℕ, List, Option, refl}
 use Rattle.std.specs.Coded.{Coded, code_by, coded×, coded_ℕ, coded_list, coded_option}
 use Rattle.dx_base.specs.Object.{Tree}
 use Rattle.dx_base.specs.ObjectCode.{coded_tree}

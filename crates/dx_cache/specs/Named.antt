@@ -1,5 +1,5 @@
 -- The sites of slots, and the ends of their chains.
-use Rattle.std.specs.Prelude.{◌≡◌, ℕ, List, Bool, Option, Some, None, slice_get, bytes_eq, if◌then◌else◌, MatchOption}
+use Rattle.std.specs.Prelude.{◌≡◌, ℕ, List, Option, Some, None, slice_get, bytes_eq, if◌then◌else◌}
 use Rattle.dx_cache.specs.declared.chains.Ends.{Ends}
 
 -- the site of each slot that has one, the ends of each site's chain, and the room for more sites

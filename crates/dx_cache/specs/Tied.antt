@@ -1,5 +1,5 @@
 -- How slots, chains and tables hold the list of entries.
-use Rattle.std.specs.Prelude.{◌≡◌, ℕ, ◌+◌, ◌≤◌, List, [], ◌∷◌, length, map, filter, Bool, true, false, ◌&&◌, not, ◌==◌, nat_eq, nat_le, if◌then◌else◌, bytes_eq, Option, Some, None, slice_get}
+use Rattle.std.specs.Prelude.{◌≡◌, ℕ, ◌+◌, ◌≤◌, List, [], length, map, filter, Bool, false, ◌&&◌, not, ◌==◌, nat_eq, nat_le, if◌then◌else◌, bytes_eq, Option, Some, None, slice_get}
 use Rattle.std.specs.Map.{lookup}
 use Rattle.dx_cache.specs.declared.chains.Link.{Link}
 use Rattle.dx_cache.specs.declared.chains.Ends.{Ends}

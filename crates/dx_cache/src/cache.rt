@@ -1,28 +1,31 @@
-// The entries of a cache, the oldest first: slots, of which the entries are a chain and those of each site are another, and tables that
-// lead from tags to slots and from sites to the ends of their chains.
+//! The cache: entries stand in slots, over which a chain of all entries and one of each site's run, the oldest first; a
+//! table leads from tags to slots, and one from sites to the ends of their chains.
 
 ghost use Rattle.std.specs.Prelude.{◌≡◌, ◌⊎◌, ℕ, ◌+◌, ◌-◌, ◌<◌, ◌≤◌, ◌↔◌, [], ◌∷◌, ◌++◌, Some, None, length, OnOk, OnErr, IfSome, IfNone, OnSome, IsTrue, IsSome, MatchOption, ◌==◌, true, false, vec_len, vec_capacity, is_some, slice_get};
 ghost use Rattle.std.specs.List.{remove};
 ghost use Rattle.dx_base.specs.Object.{results_size};
 ghost use Rattle.dx_cache.specs.Cached.{Cached, total, find, moved, place, has_tag, of_site, next_place, Drops, IsTagAt};
-ghost use Rattle.dx_cache.specs.Sound.{AreKept, IsKept};
+ghost use Rattle.dx_cache.specs.Sound.{AreKept, IsBounded, IsKept};
 
-use dx_base::Bytes;
 use crate::chains::{Ends, Link, after_steps, no_ends, put_last, take_out};
 use crate::entry::Entry;
-use crate::slots::{Body, fill, grow, lift, next, tag_of};
-use indexmap::IndexMap;
 use crate::names::Names;
+use crate::slots::{Body, fill, grow, lift, next, tag_of};
+use dx_base::Bytes;
 use dx_objects::Outs;
+use indexmap::IndexMap;
 use std::alloc::{AllocError, Global};
 use std::marker::Model;
 
-/// A bounded cache.
+/// A bounded cache of results. Contracts see its budget, its entries from the oldest to the newest, and the room that is
+/// reserved. At every exit of each call the sum of the stated sizes is at most the budget, each entry has the size of its
+/// results, attribute 1 or 2 and a site, and no tag stands twice. All calls but `reserve_one` take no memory; all but
+/// `remove` and `clear` cost the same with a million entries as with ten.
 #[derive(Drop)]
 pub struct Cache {
     budget: u64,
     used: u64,
-    // What each slot has, its site, and its neighbours among all entries or the free slots, and among the entries of its site.
+    // What each slot has, its site, and its neighbours: among all entries or the free slots, and among its site's.
     slots: Vec<Option<Body>>,
     names: Names,
     links: Vec<Link>,
@@ -55,10 +58,11 @@ impl Model for Cache {
 }
 
 impl Cache {
-    /// An empty cache of this budget.
+    /// An empty cache of this budget in bytes of stated size, which takes no memory.
     pub fn new(alloc: Global, budget: u64) -> Cache
         ensures budget { result.budget ≡ budget }
         ensures entries { result.entries ≡ [] }
+        ensures sound { IsBounded result }
     {
         Cache {
             budget,
@@ -73,7 +77,7 @@ impl Cache {
         }
     }
 
-    /// The budget.
+    /// The budget that the cache was made with.
     pub fn budget(&self) -> u64
         ensures { result ≡ self.now.budget }
     {
@@ -89,7 +93,7 @@ impl Cache {
         self.used
     }
 
-    /// The results that are kept for a tag.
+    /// The results that are kept for a tag, and none exactly where no entry has it. Nothing is moved.
     pub fn outs(&self, tag: u64) -> Option<&Outs>
         ensures { MatchOption result (find tag self.now.entries ≡ None) (λ outs. (e : _) × (find tag self.now.entries ≡ Some e) × (e.outs ≡ outs.now)) }
     {
@@ -116,10 +120,11 @@ impl Cache {
         self.tags.len() as u64
     }
 
-    /// Moves the entry of a tag to the end, and says whether there is one.
+    /// Moves the entry of a tag behind all others, and says whether there is one.
     pub fn get(&mut self, tag: u64) -> bool
         ensures found { result ≡ is_some (find tag self.old.entries) }
         ensures entries { self.new.entries ≡ moved tag self.old.entries }
+        ensures sound { IsBounded self.new }
         ensures budget { self.new.budget ≡ self.old.budget }
         ensures room { self.old.room ≤ self.new.room }
     {
@@ -137,9 +142,10 @@ impl Cache {
         }
     }
 
-    /// Makes room for one more entry.
+    /// Makes room for one more entry, in the slots and in both tables. No entry changes, also where memory runs out.
     pub fn reserve_one(&mut self) -> Result<(), AllocError>
         ensures entries { self.new.entries ≡ self.old.entries }
+        ensures sound { IsBounded self.new }
         ensures budget { self.new.budget ≡ self.old.budget }
         ensures room { self.old.room ≤ self.new.room }
         ensures spare { OnOk result (0 < self.new.room) }
@@ -159,9 +165,12 @@ impl Cache {
         Ok(())
     }
 
-    /// Takes out the next entry that is dropped before one of this site, attribute and size is kept.
+    /// Takes out and hands back the next entry that is dropped before one of this site, attribute and size is stored, and
+    /// none exactly where none is dropped. Under attribute 0 none is; under 2 the oldest entry of the site is, where there
+    /// is one; else the oldest of all is, where the size is within the budget and with the sum above it.
     pub fn make_room(&mut self, site: &Bytes, attribute: u8, size: u64) -> Option<Entry>
-        ensures { Drops (next_place site.now attribute size self.old.budget self.old.entries) self.old result self.new }
+        ensures drops { Drops (next_place site.now attribute size self.old.budget self.old.entries) self.old result self.new }
+        ensures sound { IsBounded self.new }
     {
         match self.next_tag(site, attribute, size) {
             None => None,
@@ -171,7 +180,8 @@ impl Cache {
 
     // The tag of the next entry that is dropped.
     fn next_tag(&self, site: &Bytes, attribute: u8, size: u64) -> Option<u64>
-        ensures { IsTagAt (next_place site.now attribute size self.now.budget self.now.entries) self.now.entries result }
+        ensures tag { IsTagAt (next_place site.now attribute size self.now.budget self.now.entries) self.now.entries result }
+        ensures sound { IsBounded self.now }
     {
         match next(
             &self.names,
@@ -190,7 +200,8 @@ impl Cache {
     // Takes out the entry of a tag.
     fn take(&mut self, tag: u64) -> Entry
         requires found { (i : ℕ) × (place (has_tag tag) self.old.entries ≡ Some i) }
-        ensures { Drops (place (has_tag tag) self.old.entries) self.old (Some result) self.new }
+        ensures drops { Drops (place (has_tag tag) self.old.entries) self.old (Some result) self.new }
+        ensures sound { IsBounded self.new }
     {
         match self.tags.swap_remove(&tag) {
             None => unreachable!(),
@@ -222,11 +233,12 @@ impl Cache {
         }
     }
 
-    /// Takes out an entry by its place, counted from 0 at the oldest, in time of the place.
+    /// Takes out and hands back entry number `i`, counted from 0 at the oldest, in time of `i`.
     pub fn remove(&mut self, i: u64) -> Entry
         requires within { i < length self.old.entries }
         ensures entry { slice_get self.old.entries i ≡ Some result }
         ensures entries { self.new.entries ≡ remove self.old.entries i }
+        ensures sound { IsBounded self.new }
         ensures budget { self.new.budget ≡ self.old.budget }
         ensures room { self.old.room ≤ self.new.room }
     {
@@ -247,7 +259,8 @@ impl Cache {
         }
     }
 
-    /// Keeps an entry, the newest.
+    /// Puts an entry behind all others. Room for it was reserved, no entry has its tag, its size is that of its results,
+    /// its attribute is 1 or 2, its site isn't empty, and nothing has to be dropped for it.
     pub fn store(&mut self, entry: Entry)
         requires spare { 0 < self.old.room }
         requires absent { find entry.tag self.old.entries ≡ None }
@@ -255,6 +268,7 @@ impl Cache {
         requires fits { total self.old.entries + entry.size ≤ self.old.budget }
         requires none_to_drop { next_place entry.site entry.attribute entry.size self.old.budget self.old.entries ≡ None }
         ensures entries { self.new.entries ≡ self.old.entries ++ entry ∷ [] }
+        ensures sound { IsBounded self.new }
         ensures budget { self.new.budget ≡ self.old.budget }
         ensures room { self.old.room ≤ self.new.room + 1 }
     {
@@ -296,6 +310,7 @@ impl Cache {
     /// Drops all entries.
     pub fn clear(&mut self)
         ensures entries { self.new.entries ≡ [] }
+        ensures sound { IsBounded self.new }
         ensures budget { self.new.budget ≡ self.old.budget }
     {
         self.slots.clear();

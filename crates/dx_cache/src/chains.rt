@@ -1,4 +1,4 @@
-// Chains of slot numbers: any number of chains over one vector of links.
+//! Chains of slot numbers: any number of chains run over one vector of links.
 
 ghost use Rattle.std.specs.Prelude.{◌≡◌, ◌<◌, ℕ, Option, Some, None, IfSome, vec_len, vec_capacity, slice_get};
 ghost use Rattle.std.specs.Prelude.{List, ◌∷◌, ◌++◌, [], length};

@@ -1,9 +1,9 @@
-// A cached result.
+//! An entry of the cache.
 
 use dx_base::Bytes;
 use dx_objects::Outs;
 
-/// The results of a call, with the site, the attribute and the stated size that they were kept with.
+/// The results of a call by the tag of its term, with the call's site, its cache attribute and the results' stated size.
 #[derive(Drop)]
 pub struct Entry {
     pub tag: u64,

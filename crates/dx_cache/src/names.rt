@@ -1,5 +1,5 @@
-// The sites of slots, each with the ends of its chain. A site's bytes stand once in a table, and the slot that gave them knows their
-// place there; each other slot of the site keeps its own. So a site goes in and comes out with no copy.
+//! The sites of slots, each with the ends of its chain. The table's key is the bytes of one of the site's slots, and that
+//! slot knows their place there; each other slot of the site keeps its own. So a site goes in and comes out with no copy.
 
 ghost use Rattle.std.specs.Prelude.{◌≡◌, ◌+◌, ◌≤◌, ◌<◌, ℕ, [], ◌∷◌, ◌++◌, List, Some, None, OnOk, OnErr, IfSome, slice_get, slice_set, bytes_eq, vec_len, map};
 ghost use Rattle.std.specs.Prelude.{if◌then◌else◌};
@@ -10,8 +10,8 @@ ghost use Rattle.dx_cache.specs.declared.names.Name.TheVariants.{Own, Shared};
 ghost use Rattle.dx_cache.specs.Held.{Removed, Holds, place_of, name_place};
 ghost use Rattle.dx_cache.specs.Named.{Named, HasName, IsNamed, HasHeir, added_ends, given_ends, taken_ends};
 
-use dx_base::Bytes;
 use crate::chains::{Ends, no_ends};
+use dx_base::Bytes;
 use indexmap::IndexMap;
 use std::alloc::{AllocError, Global};
 use std::marker::Model;
@@ -213,12 +213,7 @@ fn lift(held: &mut Vec<Option<Name>>, i: usize) -> Option<Name>
 }
 
 // A slot gets a site.
-fn hold(
-    table: &mut IndexMap<Bytes, Group>,
-    held: &mut Vec<Option<Name>>,
-    i: usize,
-    site: Bytes,
-)
+fn hold(table: &mut IndexMap<Bytes, Group>, held: &mut Vec<Option<Name>>, i: usize, site: Bytes)
     requires spare { 0 < spare table.old }
     requires within { i < vec_len held.old }
     ensures holds { Holds table.old.entries held.old.items i site (lookup (bytes_eq site) table.old.entries) table.new.entries held.new.items }
@@ -243,11 +238,7 @@ fn hold(
 }
 
 // Takes out a site that no slot has any more.
-fn remove(
-    table: &mut IndexMap<Bytes, Group>,
-    held: &mut Vec<Option<Name>>,
-    k: usize,
-) -> Bytes
+fn remove(table: &mut IndexMap<Bytes, Group>, held: &mut Vec<Option<Name>>, k: usize) -> Bytes
     requires within { k < index_map_len table.old }
     requires holders { (m : ℕ) (p : _) → slice_get table.old.entries m ≡ Some p → p.1.holder < vec_len held.old }
     ensures removed { Removed table.old.entries held.old.items k result table.new.entries held.new.items }

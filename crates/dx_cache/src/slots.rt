@@ -1,13 +1,13 @@
-// The slots of a cache, and what is done to them.
+//! The slots of a cache, and what is done to them.
 
 ghost use Rattle.std.specs.Prelude.{◌≡◌, ◌∷◌, ◌++◌, ◌<◌, ◌≤◌, ◌+◌, List, ℕ, None, Some, [], OnOk, OnErr, IfSome, length, slice_get, slice_set, vec_len, vec_capacity, bytes_eq};
 ghost use Rattle.std.specs.Map.{lookup};
 ghost use Rattle.dx_cache.specs.Chain.{IsChain, AreApart, IsOut};
 ghost use Rattle.dx_cache.specs.Tied.{next_slot, tag_in};
 
-use dx_base::Bytes;
 use crate::chains::{Ends, Link, alone, put_last};
 use crate::names::Names;
+use dx_base::Bytes;
 use dx_objects::Outs;
 use std::alloc::AllocError;
 use std::mem;

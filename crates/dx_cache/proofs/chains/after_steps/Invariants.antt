@@ -1,4 +1,4 @@
-use Rattle.std.proofs.Common.{◌≡◌, ℕ, Option}
+use Rattle.std.proofs.Common.{◌≡◌}
 use Rattle.dx_cache.specs.Chain.{along}
 use Rattle.dx_cache.proofs.chains.after_steps.Given as goal
 

@@ -1,9 +1,5 @@
-use Rattle.std.proofs.Common.{◌≡◌, ◌∙◌, ◌<◌, inl, inr, ℕ, List, [], ◌∷◌, ◌++◌, sym, ap, subst, Option, Some, None, refl, length, arith, get_or, vec_len}
-use Rattle.std.specs.Prelude.{slice_get, IfSome}
-use Rattle.dx_cache.specs.declared.chains.Link.{Link}
-use Rattle.dx_cache.specs.declared.chains.Ends.{Ends}
-use Rattle.dx_cache.specs.Changed.{attached, attached_ends}
-use Rattle.dx_cache.specs.Chain.{IsChain, AreApart, IsIn, IsOut}
+use Rattle.std.proofs.Common.{◌≡◌, ◌<◌, subst, length, arith, vec_len}
+use Rattle.std.specs.Prelude.{IfSome}
 use Rattle.dx_cache.proofs.ChainLaws.{chain_attached, attached_elsewhere, chain_last}
 use Rattle.dx_cache.proofs.chains.put_last.Goals as goal
 

@@ -1,11 +1,11 @@
-use Rattle.std.proofs.Common.{◌≡◌, ◌∙◌, ◌<◌, inl, inr, ℕ, List, [], ◌∷◌, ◌++◌, sym, ap, subst, Option, Some, None, refl, length, arith, get_or, vec_len}
-use Rattle.std.specs.Prelude.{slice_get, IfSome}
+use Rattle.std.proofs.Common.{◌≡◌, ◌∙◌, ◌<◌, inl, ℕ, List, ◌∷◌, ◌++◌, sym, ap, subst, None, refl, length, arith, get_or, vec_len}
+use Rattle.std.specs.Prelude.{IfSome}
 use Rattle.std.proofs.lemmas.Option.{get_or_from_slice_get}
 use Rattle.dx_cache.specs.declared.chains.Link.{Link}
 use Rattle.dx_cache.specs.declared.chains.Ends.{Ends}
 use Rattle.dx_cache.specs.Changed.{detached, detached_ends}
-use Rattle.dx_cache.specs.Chain.{IsChain, AreApart, IsIn, IsOut, first_or, last_or}
-use Rattle.dx_cache.proofs.SlotLaws.{within, in_right}
+use Rattle.dx_cache.specs.Chain.{IsChain, first_or, last_or}
+use Rattle.dx_cache.proofs.SlotLaws.{in_right}
 use Rattle.dx_cache.proofs.ChainLaws.{chain_within, link_middle, chain_detached, detached_elsewhere, before_within, after_within}
 use Rattle.dx_cache.proofs.chains.take_out.Goals as goal
 

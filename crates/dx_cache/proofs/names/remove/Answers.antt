@@ -1,11 +1,9 @@
-use Rattle.std.proofs.Common.{◌≡◌, ◌∙◌, ◌<◌, ◌≤◌, ◌+◌, ◌-◌, ℕ, List, sym, ap, ap₂, subst, Some, None, refl, arith, length, get_or}
+use Rattle.std.proofs.Common.{◌≡◌, ◌∙◌, ◌<◌, ◌+◌, ◌-◌, ℕ, List, sym, ap, Some, arith, length}
 use Rattle.std.specs.Prelude.{slice_get}
 use Rattle.std.specs.List.{swap_remove}
 use Rattle.dx_cache.specs.declared.names.Group.{Group}
-use Rattle.dx_cache.specs.declared.names.Name.TheVariants.{Own, Shared}
 use Rattle.dx_cache.specs.Held.{moved_to}
-use Rattle.dx_cache.proofs.Lists.{entry_of_value, swapped_moved, get_within, get_past}
-use Rattle.dx_cache.proofs.Holding.{removed_held}
+use Rattle.dx_cache.proofs.Lists.{entry_of_value, swapped_moved, get_past}
 use Rattle.dx_cache.proofs.names.remove.Goals as goal
 
 holder_there : (es es' : List (List ℕ × Group)) (k : ℕ) (p q : List ℕ × Group) (n : ℕ) → es' ≡ swap_remove es k p → length es' + 1 ≡ length es → k < length es' → slice_get es' k ≡ Some q

@@ -1,20 +1,12 @@
-use Rattle.std.proofs.Common.{◌≡◌, ◌∙◌, ◌<◌, ◌≤◌, ◌+◌, ◌-◌, ℕ, List, [], ◌∷◌, ◌++◌, length, min, sym, ap, ap₂, subst, Option, Some, None, refl, arith, is_some, inl, inr, true, false}
-use Rattle.std.specs.Prelude.{slice_get, slice_set, nat_eq, bytes_eq}
+use Rattle.std.proofs.Common.{◌≡◌, ◌∙◌, ◌++◌, length, sym, ap, subst, Some, None, arith, is_some}
+use Rattle.std.specs.Prelude.{nat_eq}
 use Rattle.std.specs.Map.{lookup}
-use Rattle.std.proofs.lemmas.Option.{slice_get_read}
-use Rattle.indexmap.specs.IndexMap.{spare}
-use Rattle.dx_cache.specs.Chain.{IsChain, IsOut, AreApart}
-use Rattle.dx_cache.specs.declared.chains.Ends.{Ends}
-use Rattle.dx_cache.proofs.SlotLaws.{within}
-use Rattle.dx_cache.specs.Named.{HasName, given_ends, added_ends, taken_ends, or_no_ends}
-use Rattle.dx_cache.specs.declared.entry.Entry.{Entry}
-use Rattle.dx_cache.specs.declared.slots.Body.{Body}
-use Rattle.dx_cache.specs.Cached.{Cached, total, find, moved, next_place, Drops}
-use Rattle.dx_cache.specs.Sound.{AreKept, IsKept}
-use Rattle.dx_cache.specs.Tied.{slots_of, order_in, entries_at, next_slot, entry_of}
+use Rattle.dx_cache.specs.Cached.{Cached, find, moved}
+use Rattle.dx_cache.specs.Sound.{IsBounded}
+use Rattle.dx_cache.specs.Tied.{slots_of}
 use Rattle.dx_cache.proofs.Places.{none_moved}
-use Rattle.dx_cache.proofs.Tying.{no_tag, added_chain, site_now_apart, site_new_out, new_out, heir_of, next_none_of, next_some_of, kept_found}
-use Rattle.dx_cache.proofs.Steps.{AtSlot, at_slot, at_next, here_within, here_own_within, here_chain, here_apart, others_apart, here_out, all_out, all_apart, kept_own, entry_here, entry_form, moved_sound, removed_sound, stored_sound, grown_sound, tag_at, both_steps, first_free, none_free, free_within, free_own_within, free_slot_within, order_kept, rest_kept, named_now, vacant_kept, left_kept, here_vacant_out, added_own, drops_at, drops_none}
+use Rattle.dx_cache.proofs.Tying.{no_tag}
+use Rattle.dx_cache.proofs.Steps.{at_slot, here_within, here_own_within, here_chain, here_apart, others_apart, here_out, all_out, all_apart, kept_own, moved_sound, tag_at, both_steps, sound_bounded}
 use Rattle.dx_cache.proofs.cache.Cache.get.Goals as goal
 
 pub take_out-requires : goal.take_out-requires
@@ -103,13 +95,13 @@ invariant_of-self c =
     let chain1 = c.take_out.ensures.chain a.left a.right a.tied.chain a.tied.apart in
     let chain2 = c.take_out-in-Some.ensures.chain (slots_of a.full.site c.self.inside.names.names a.left) (slots_of a.full.site c.self.inside.names.names a.right) hc ha in
     let m = moved_sound _ _ c.args.tag _ _ c.set_ends.new.self.names _ c.set_ends.new.self.ends _ c.put_last.new.links.items _ c.put_last-in-Some.new.links.items _ c.put_last.new.ends _ c.put_last-in-Some.new.ends _ i c.self.invariant a (tag_at _ _ _ _ _ _ h a.full)
-          (c.put_last.ensures.chain (a.left ++ a.right) chain1 (all_apart _ _ _ _ _ _ _ _ _ _ _ a) (all_out _ _ _ _ _ _ _ _ _ _ _ a))
-          (both_steps _ _ _ a.left a.right i (λ j o. c.take_out.ensures.others a.left a.right j a.tied.chain a.tied.apart o) (λ j n o. c.put_last.ensures.others (a.left ++ a.right) j chain1 n o))
-          (c.put_last.ensures.len ∙ c.take_out.ensures.len)
-          (c.put_last-in-Some.ensures.chain (slots_of a.full.site c.self.inside.names.names a.left ++ slots_of a.full.site c.self.inside.names.names a.right) chain2 (others_apart _ _ _ _ _ _ _ _ _ _ _ a) (here_out _ _ _ _ _ _ _ _ _ _ _ a))
-          (kept_own _ _ _ _ _ _ _ _ _ _ _ a _ _ (λ j o. c.take_out-in-Some.ensures.others (slots_of a.full.site c.self.inside.names.names a.left) (slots_of a.full.site c.self.inside.names.names a.right) j hc ha o) (λ j n o. c.put_last-in-Some.ensures.others (slots_of a.full.site c.self.inside.names.names a.left ++ slots_of a.full.site c.self.inside.names.names a.right) j chain2 n o))
-          (c.put_last-in-Some.ensures.len ∙ c.take_out-in-Some.ensures.len)
-          c.set_ends.ensures.names (λ other. c.set_ends.ensures.ends a.full.site other a.full.name) in
+    (c.put_last.ensures.chain (a.left ++ a.right) chain1 (all_apart _ _ _ _ _ _ _ _ _ _ _ a) (all_out _ _ _ _ _ _ _ _ _ _ _ a))
+    (both_steps _ _ _ a.left a.right i (λ j o. c.take_out.ensures.others a.left a.right j a.tied.chain a.tied.apart o) (λ j n o. c.put_last.ensures.others (a.left ++ a.right) j chain1 n o))
+    (c.put_last.ensures.len ∙ c.take_out.ensures.len)
+    (c.put_last-in-Some.ensures.chain (slots_of a.full.site c.self.inside.names.names a.left ++ slots_of a.full.site c.self.inside.names.names a.right) chain2 (others_apart _ _ _ _ _ _ _ _ _ _ _ a) (here_out _ _ _ _ _ _ _ _ _ _ _ a))
+    (kept_own _ _ _ _ _ _ _ _ _ _ _ a _ _ (λ j o. c.take_out-in-Some.ensures.others (slots_of a.full.site c.self.inside.names.names a.left) (slots_of a.full.site c.self.inside.names.names a.right) j hc ha o) (λ j n o. c.put_last-in-Some.ensures.others (slots_of a.full.site c.self.inside.names.names a.left ++ slots_of a.full.site c.self.inside.names.names a.right) j chain2 n o))
+    (c.put_last-in-Some.ensures.len ∙ c.take_out-in-Some.ensures.len)
+    c.set_ends.ensures.names (λ other. c.set_ends.ensures.ends a.full.site other a.full.name) in
     m.sound
 
 pub returns-in-None-clause-found : goal.returns-in-None-clause-found
@@ -136,13 +128,13 @@ returns-in-Some-clause-found c =
     let chain1 = c.take_out.ensures.chain a.left a.right a.tied.chain a.tied.apart in
     let chain2 = c.take_out-in-Some.ensures.chain (slots_of a.full.site c.self.inside.names.names a.left) (slots_of a.full.site c.self.inside.names.names a.right) hc ha in
     let m = moved_sound _ _ c.args.tag _ _ c.set_ends.new.self.names _ c.set_ends.new.self.ends _ c.put_last.new.links.items _ c.put_last-in-Some.new.links.items _ c.put_last.new.ends _ c.put_last-in-Some.new.ends _ i c.self.invariant a (tag_at _ _ _ _ _ _ h a.full)
-          (c.put_last.ensures.chain (a.left ++ a.right) chain1 (all_apart _ _ _ _ _ _ _ _ _ _ _ a) (all_out _ _ _ _ _ _ _ _ _ _ _ a))
-          (both_steps _ _ _ a.left a.right i (λ j o. c.take_out.ensures.others a.left a.right j a.tied.chain a.tied.apart o) (λ j n o. c.put_last.ensures.others (a.left ++ a.right) j chain1 n o))
-          (c.put_last.ensures.len ∙ c.take_out.ensures.len)
-          (c.put_last-in-Some.ensures.chain (slots_of a.full.site c.self.inside.names.names a.left ++ slots_of a.full.site c.self.inside.names.names a.right) chain2 (others_apart _ _ _ _ _ _ _ _ _ _ _ a) (here_out _ _ _ _ _ _ _ _ _ _ _ a))
-          (kept_own _ _ _ _ _ _ _ _ _ _ _ a _ _ (λ j o. c.take_out-in-Some.ensures.others (slots_of a.full.site c.self.inside.names.names a.left) (slots_of a.full.site c.self.inside.names.names a.right) j hc ha o) (λ j n o. c.put_last-in-Some.ensures.others (slots_of a.full.site c.self.inside.names.names a.left ++ slots_of a.full.site c.self.inside.names.names a.right) j chain2 n o))
-          (c.put_last-in-Some.ensures.len ∙ c.take_out-in-Some.ensures.len)
-          c.set_ends.ensures.names (λ other. c.set_ends.ensures.ends a.full.site other a.full.name) in
+    (c.put_last.ensures.chain (a.left ++ a.right) chain1 (all_apart _ _ _ _ _ _ _ _ _ _ _ a) (all_out _ _ _ _ _ _ _ _ _ _ _ a))
+    (both_steps _ _ _ a.left a.right i (λ j o. c.take_out.ensures.others a.left a.right j a.tied.chain a.tied.apart o) (λ j n o. c.put_last.ensures.others (a.left ++ a.right) j chain1 n o))
+    (c.put_last.ensures.len ∙ c.take_out.ensures.len)
+    (c.put_last-in-Some.ensures.chain (slots_of a.full.site c.self.inside.names.names a.left ++ slots_of a.full.site c.self.inside.names.names a.right) chain2 (others_apart _ _ _ _ _ _ _ _ _ _ _ a) (here_out _ _ _ _ _ _ _ _ _ _ _ a))
+    (kept_own _ _ _ _ _ _ _ _ _ _ _ a _ _ (λ j o. c.take_out-in-Some.ensures.others (slots_of a.full.site c.self.inside.names.names a.left) (slots_of a.full.site c.self.inside.names.names a.right) j hc ha o) (λ j n o. c.put_last-in-Some.ensures.others (slots_of a.full.site c.self.inside.names.names a.left ++ slots_of a.full.site c.self.inside.names.names a.right) j chain2 n o))
+    (c.put_last-in-Some.ensures.len ∙ c.take_out-in-Some.ensures.len)
+    c.set_ends.ensures.names (λ other. c.set_ends.ensures.ends a.full.site other a.full.name) in
     sym m.found ∙ ap (λ (x : Cached). is_some (find c.args.tag x.entries)) c.self.view_is
 
 pub returns-in-Some-clause-entries : goal.returns-in-Some-clause-entries
@@ -157,13 +149,13 @@ returns-in-Some-clause-entries c =
     let chain1 = c.take_out.ensures.chain a.left a.right a.tied.chain a.tied.apart in
     let chain2 = c.take_out-in-Some.ensures.chain (slots_of a.full.site c.self.inside.names.names a.left) (slots_of a.full.site c.self.inside.names.names a.right) hc ha in
     let m = moved_sound _ _ c.args.tag _ _ c.set_ends.new.self.names _ c.set_ends.new.self.ends _ c.put_last.new.links.items _ c.put_last-in-Some.new.links.items _ c.put_last.new.ends _ c.put_last-in-Some.new.ends _ i c.self.invariant a (tag_at _ _ _ _ _ _ h a.full)
-          (c.put_last.ensures.chain (a.left ++ a.right) chain1 (all_apart _ _ _ _ _ _ _ _ _ _ _ a) (all_out _ _ _ _ _ _ _ _ _ _ _ a))
-          (both_steps _ _ _ a.left a.right i (λ j o. c.take_out.ensures.others a.left a.right j a.tied.chain a.tied.apart o) (λ j n o. c.put_last.ensures.others (a.left ++ a.right) j chain1 n o))
-          (c.put_last.ensures.len ∙ c.take_out.ensures.len)
-          (c.put_last-in-Some.ensures.chain (slots_of a.full.site c.self.inside.names.names a.left ++ slots_of a.full.site c.self.inside.names.names a.right) chain2 (others_apart _ _ _ _ _ _ _ _ _ _ _ a) (here_out _ _ _ _ _ _ _ _ _ _ _ a))
-          (kept_own _ _ _ _ _ _ _ _ _ _ _ a _ _ (λ j o. c.take_out-in-Some.ensures.others (slots_of a.full.site c.self.inside.names.names a.left) (slots_of a.full.site c.self.inside.names.names a.right) j hc ha o) (λ j n o. c.put_last-in-Some.ensures.others (slots_of a.full.site c.self.inside.names.names a.left ++ slots_of a.full.site c.self.inside.names.names a.right) j chain2 n o))
-          (c.put_last-in-Some.ensures.len ∙ c.take_out-in-Some.ensures.len)
-          c.set_ends.ensures.names (λ other. c.set_ends.ensures.ends a.full.site other a.full.name) in
+    (c.put_last.ensures.chain (a.left ++ a.right) chain1 (all_apart _ _ _ _ _ _ _ _ _ _ _ a) (all_out _ _ _ _ _ _ _ _ _ _ _ a))
+    (both_steps _ _ _ a.left a.right i (λ j o. c.take_out.ensures.others a.left a.right j a.tied.chain a.tied.apart o) (λ j n o. c.put_last.ensures.others (a.left ++ a.right) j chain1 n o))
+    (c.put_last.ensures.len ∙ c.take_out.ensures.len)
+    (c.put_last-in-Some.ensures.chain (slots_of a.full.site c.self.inside.names.names a.left ++ slots_of a.full.site c.self.inside.names.names a.right) chain2 (others_apart _ _ _ _ _ _ _ _ _ _ _ a) (here_out _ _ _ _ _ _ _ _ _ _ _ a))
+    (kept_own _ _ _ _ _ _ _ _ _ _ _ a _ _ (λ j o. c.take_out-in-Some.ensures.others (slots_of a.full.site c.self.inside.names.names a.left) (slots_of a.full.site c.self.inside.names.names a.right) j hc ha o) (λ j n o. c.put_last-in-Some.ensures.others (slots_of a.full.site c.self.inside.names.names a.left ++ slots_of a.full.site c.self.inside.names.names a.right) j chain2 n o))
+    (c.put_last-in-Some.ensures.len ∙ c.take_out-in-Some.ensures.len)
+    c.set_ends.ensures.names (λ other. c.set_ends.ensures.ends a.full.site other a.full.name) in
     m.entries ∙ ap (λ (x : Cached). moved c.args.tag x.entries) c.self.view_is
 
 pub returns-in-Some-clause-room : goal.returns-in-Some-clause-room
@@ -178,14 +170,38 @@ returns-in-Some-clause-room c =
     let chain1 = c.take_out.ensures.chain a.left a.right a.tied.chain a.tied.apart in
     let chain2 = c.take_out-in-Some.ensures.chain (slots_of a.full.site c.self.inside.names.names a.left) (slots_of a.full.site c.self.inside.names.names a.right) hc ha in
     let m = moved_sound _ _ c.args.tag _ _ c.set_ends.new.self.names _ c.set_ends.new.self.ends _ c.put_last.new.links.items _ c.put_last-in-Some.new.links.items _ c.put_last.new.ends _ c.put_last-in-Some.new.ends _ i c.self.invariant a (tag_at _ _ _ _ _ _ h a.full)
-          (c.put_last.ensures.chain (a.left ++ a.right) chain1 (all_apart _ _ _ _ _ _ _ _ _ _ _ a) (all_out _ _ _ _ _ _ _ _ _ _ _ a))
-          (both_steps _ _ _ a.left a.right i (λ j o. c.take_out.ensures.others a.left a.right j a.tied.chain a.tied.apart o) (λ j n o. c.put_last.ensures.others (a.left ++ a.right) j chain1 n o))
-          (c.put_last.ensures.len ∙ c.take_out.ensures.len)
-          (c.put_last-in-Some.ensures.chain (slots_of a.full.site c.self.inside.names.names a.left ++ slots_of a.full.site c.self.inside.names.names a.right) chain2 (others_apart _ _ _ _ _ _ _ _ _ _ _ a) (here_out _ _ _ _ _ _ _ _ _ _ _ a))
-          (kept_own _ _ _ _ _ _ _ _ _ _ _ a _ _ (λ j o. c.take_out-in-Some.ensures.others (slots_of a.full.site c.self.inside.names.names a.left) (slots_of a.full.site c.self.inside.names.names a.right) j hc ha o) (λ j n o. c.put_last-in-Some.ensures.others (slots_of a.full.site c.self.inside.names.names a.left ++ slots_of a.full.site c.self.inside.names.names a.right) j chain2 n o))
-          (c.put_last-in-Some.ensures.len ∙ c.take_out-in-Some.ensures.len)
-          c.set_ends.ensures.names (λ other. c.set_ends.ensures.ends a.full.site other a.full.name) in
+    (c.put_last.ensures.chain (a.left ++ a.right) chain1 (all_apart _ _ _ _ _ _ _ _ _ _ _ a) (all_out _ _ _ _ _ _ _ _ _ _ _ a))
+    (both_steps _ _ _ a.left a.right i (λ j o. c.take_out.ensures.others a.left a.right j a.tied.chain a.tied.apart o) (λ j n o. c.put_last.ensures.others (a.left ++ a.right) j chain1 n o))
+    (c.put_last.ensures.len ∙ c.take_out.ensures.len)
+    (c.put_last-in-Some.ensures.chain (slots_of a.full.site c.self.inside.names.names a.left ++ slots_of a.full.site c.self.inside.names.names a.right) chain2 (others_apart _ _ _ _ _ _ _ _ _ _ _ a) (here_out _ _ _ _ _ _ _ _ _ _ _ a))
+    (kept_own _ _ _ _ _ _ _ _ _ _ _ a _ _ (λ j o. c.take_out-in-Some.ensures.others (slots_of a.full.site c.self.inside.names.names a.left) (slots_of a.full.site c.self.inside.names.names a.right) j hc ha o) (λ j n o. c.put_last-in-Some.ensures.others (slots_of a.full.site c.self.inside.names.names a.left ++ slots_of a.full.site c.self.inside.names.names a.right) j chain2 n o))
+    (c.put_last-in-Some.ensures.len ∙ c.take_out-in-Some.ensures.len)
+    c.set_ends.ensures.names (λ other. c.set_ends.ensures.ends a.full.site other a.full.name) in
     let r = ap (λ (x : Cached). x.room) c.self.view_is in
     let v = ap length m.vacant in
     let n = c.set_ends.ensures.room in
     omega (arith, r, v, n)
+
+pub returns-in-Some-clause-sound : goal.returns-in-Some-clause-sound
+returns-in-Some-clause-sound c =
+    let i = c.in-Some.field-0.now in
+    let found : lookup (nat_eq c.args.tag) c.self.inside.tags.entries ≡ Some c.in-Some.field-0.now = sym c.in-Some.ensures.value in
+    let h = c.self.invariant.tied.tagged c.args.tag i found in
+    let a = at_slot _ _ _ _ _ _ _ _ _ _ c.self.invariant.tied i h.is_in in
+    let l = c.ends_at-ends.ensures.ends a.full.site a.full.name in
+    let hc = here_chain _ _ _ _ _ _ _ _ _ _ _ a c.ends_at-ends.result l in
+    let ha = here_apart _ _ _ _ _ _ _ _ _ _ _ a in
+    let chain1 = c.take_out.ensures.chain a.left a.right a.tied.chain a.tied.apart in
+    let chain2 = c.take_out-in-Some.ensures.chain (slots_of a.full.site c.self.inside.names.names a.left) (slots_of a.full.site c.self.inside.names.names a.right) hc ha in
+    let m = moved_sound _ _ c.args.tag _ _ c.set_ends.new.self.names _ c.set_ends.new.self.ends _ c.put_last.new.links.items _ c.put_last-in-Some.new.links.items _ c.put_last.new.ends _ c.put_last-in-Some.new.ends _ i c.self.invariant a (tag_at _ _ _ _ _ _ h a.full)
+    (c.put_last.ensures.chain (a.left ++ a.right) chain1 (all_apart _ _ _ _ _ _ _ _ _ _ _ a) (all_out _ _ _ _ _ _ _ _ _ _ _ a))
+    (both_steps _ _ _ a.left a.right i (λ j o. c.take_out.ensures.others a.left a.right j a.tied.chain a.tied.apart o) (λ j n o. c.put_last.ensures.others (a.left ++ a.right) j chain1 n o))
+    (c.put_last.ensures.len ∙ c.take_out.ensures.len)
+    (c.put_last-in-Some.ensures.chain (slots_of a.full.site c.self.inside.names.names a.left ++ slots_of a.full.site c.self.inside.names.names a.right) chain2 (others_apart _ _ _ _ _ _ _ _ _ _ _ a) (here_out _ _ _ _ _ _ _ _ _ _ _ a))
+    (kept_own _ _ _ _ _ _ _ _ _ _ _ a _ _ (λ j o. c.take_out-in-Some.ensures.others (slots_of a.full.site c.self.inside.names.names a.left) (slots_of a.full.site c.self.inside.names.names a.right) j hc ha o) (λ j n o. c.put_last-in-Some.ensures.others (slots_of a.full.site c.self.inside.names.names a.left ++ slots_of a.full.site c.self.inside.names.names a.right) j chain2 n o))
+    (c.put_last-in-Some.ensures.len ∙ c.take_out-in-Some.ensures.len)
+    c.set_ends.ensures.names (λ other. c.set_ends.ensures.ends a.full.site other a.full.name) in
+    sound_bounded _ _ _ _ _ _ _ _ _ _ _ m.sound
+
+pub returns-in-None-clause-sound : goal.returns-in-None-clause-sound
+returns-in-None-clause-sound c = subst IsBounded c.self.view_is (sound_bounded _ _ _ _ _ _ _ _ _ _ _ c.self.invariant)

@@ -1,20 +1,13 @@
-use Rattle.std.proofs.Common.{◌≡◌, ◌∙◌, ◌<◌, ◌≤◌, ◌+◌, ◌-◌, ℕ, List, [], ◌∷◌, ◌++◌, length, min, sym, ap, ap₂, subst, Option, Some, None, refl, arith, is_some, inl, inr, true, false}
-use Rattle.std.specs.Prelude.{slice_get, slice_set, nat_eq, bytes_eq}
+use Rattle.std.proofs.Common.{◌≡◌, ◌∙◌, length, sym, ap, Some, None, refl, arith}
+use Rattle.std.specs.Prelude.{nat_eq}
 use Rattle.std.specs.Map.{lookup}
 use Rattle.std.proofs.lemmas.Option.{slice_get_read}
-use Rattle.indexmap.specs.IndexMap.{spare}
-use Rattle.dx_cache.specs.Chain.{IsChain, IsOut, AreApart}
-use Rattle.dx_cache.specs.declared.chains.Ends.{Ends}
 use Rattle.dx_cache.proofs.SlotLaws.{within}
-use Rattle.dx_cache.specs.Named.{HasName, given_ends, added_ends, taken_ends, or_no_ends}
-use Rattle.dx_cache.specs.declared.entry.Entry.{Entry}
 use Rattle.dx_cache.specs.declared.slots.Body.{Body}
-use Rattle.dx_cache.specs.Cached.{Cached, total, find, moved, next_place, Drops}
-use Rattle.dx_cache.specs.Sound.{AreKept, IsKept}
-use Rattle.dx_cache.specs.Tied.{slots_of, order_in, entries_at, next_slot, entry_of}
-use Rattle.dx_cache.proofs.Places.{none_moved}
-use Rattle.dx_cache.proofs.Tying.{no_tag, added_chain, site_now_apart, site_new_out, new_out, heir_of, next_none_of, next_some_of, kept_found}
-use Rattle.dx_cache.proofs.Steps.{AtSlot, at_slot, at_next, here_within, here_own_within, here_chain, here_apart, others_apart, here_out, all_out, all_apart, kept_own, entry_here, entry_form, moved_sound, removed_sound, stored_sound, grown_sound, tag_at, both_steps, first_free, none_free, free_within, free_own_within, free_slot_within, order_kept, rest_kept, named_now, vacant_kept, left_kept, here_vacant_out, added_own, drops_at, drops_none}
+use Rattle.dx_cache.specs.Cached.{Cached, find}
+use Rattle.dx_cache.specs.Tied.{entry_of}
+use Rattle.dx_cache.proofs.Tying.{no_tag, kept_found}
+use Rattle.dx_cache.proofs.Steps.{at_slot, entry_here, entry_form, tag_at}
 use Rattle.dx_cache.proofs.cache.Cache.outs.Goals as goal
 
 pub index-requires : goal.index-requires

@@ -1,26 +1,9 @@
-use Rattle.std.proofs.Common.{◌≡◌, ◌∙◌, ◌<◌, ◌≤◌, ◌+◌, ◌-◌, ℕ, List, [], ◌∷◌, ◌++◌, length, min, sym, ap, ap₂, subst, Option, Some, None, refl, arith, is_some, inl, inr, true, false}
-use Rattle.std.specs.Prelude.{slice_get, slice_set, nat_eq, bytes_eq}
-use Rattle.std.specs.Map.{lookup}
-use Rattle.std.proofs.lemmas.Option.{slice_get_read}
-use Rattle.indexmap.specs.IndexMap.{spare}
-use Rattle.dx_cache.specs.Chain.{IsChain, IsOut, AreApart}
-use Rattle.dx_cache.specs.declared.chains.Ends.{Ends}
-use Rattle.dx_cache.proofs.SlotLaws.{within}
-use Rattle.dx_cache.proofs.Lists.{none_some}
-use Rattle.dx_cache.specs.Named.{HasHeir}
-use Rattle.std.specs.List.{remove}
-use Rattle.dx_cache.proofs.Places.{total-remove}
-use Rattle.dx_cache.proofs.Tying.{site_split}
+use Rattle.std.proofs.Common.{◌≡◌, ◌∙◌, [], ◌∷◌, ◌++◌, length, ap, subst, None, arith}
+use Rattle.dx_cache.specs.Chain.{IsChain}
 use Rattle.dx_cache.proofs.Steps.{chain_more, new_vacant_out}
-use Rattle.dx_cache.specs.Named.{HasName, given_ends, added_ends, taken_ends, or_no_ends}
-use Rattle.dx_cache.specs.declared.entry.Entry.{Entry}
-use Rattle.dx_cache.specs.declared.slots.Body.{Body}
-use Rattle.dx_cache.specs.Cached.{Cached, total, find, moved, next_place, Drops}
-use Rattle.dx_cache.specs.Sound.{AreKept, IsKept}
-use Rattle.dx_cache.specs.Tied.{slots_of, order_in, entries_at, next_slot, entry_of}
-use Rattle.dx_cache.proofs.Places.{none_moved}
-use Rattle.dx_cache.proofs.Tying.{no_tag, added_chain, site_now_apart, site_new_out, new_out, heir_of, next_none_of, next_some_of, kept_found}
-use Rattle.dx_cache.proofs.Steps.{AtSlot, at_slot, at_next, here_within, here_own_within, here_chain, here_apart, others_apart, here_out, all_out, all_apart, kept_own, entry_here, entry_form, moved_sound, removed_sound, stored_sound, grown_sound, tag_at, both_steps, first_free, none_free, free_within, free_own_within, free_slot_within, order_kept, rest_kept, named_now, vacant_kept, left_kept, here_vacant_out, added_own, drops_at, drops_none}
+use Rattle.dx_cache.specs.Cached.{Cached}
+use Rattle.dx_cache.specs.Tied.{order_in}
+use Rattle.dx_cache.proofs.Steps.{grown_sound, sound_bounded}
 use Rattle.dx_cache.proofs.cache.Cache.reserve_one.Goals as goal
 
 pub put_last-requires-clause-chain : goal.put_last-requires-clause-chain
@@ -36,8 +19,8 @@ invariant_of-self-then-is_none c =
     let out = new_vacant_out _ _ _ _ _ _ _ _ _ _ c.self.invariant.tied i li in
     let ends : c.grow.new.names.ends ≡ c.self.inside.names.ends = c.in_ok-grow.ensures.ends ∙ c.in_ok-reserve_one.ensures.ends in
     let m = grown_sound _ _ _ c.grow.new.slots.items _ c.grow.new.names.names _ _ c.grow.new.links.items c.put_last.new.links.items _ c.grow.new.own.items _ _ c.put_last.new.ends _ _ c.self.invariant c.in_ok-grow.ensures.ok (c.in_ok-grow.ensures.names_ok ∙ ap (λ ns. ns ++ None ∷ []) c.in_ok-reserve_one.ensures.names) c.in_ok-grow.ensures.links_ok c.in_ok-grow.ensures.own_ok
-          (subst (λ k. IsChain c.put_last.new.links.items c.put_last.new.ends ((order_in c.self.inside.links.items c.self.inside.slots.items c.self.inside.free) ++ k ∷ [])) li (c.put_last.ensures.chain (order_in c.self.inside.links.items c.self.inside.slots.items c.self.inside.free) vk c.self.invariant.tied.free_apart out))
-          (λ j d o. c.put_last.ensures.others (order_in c.self.inside.links.items c.self.inside.slots.items c.self.inside.free) j vk (λ e. d (e ∙ li)) o) c.put_last.ensures.len in
+    (subst (λ k. IsChain c.put_last.new.links.items c.put_last.new.ends ((order_in c.self.inside.links.items c.self.inside.slots.items c.self.inside.free) ++ k ∷ [])) li (c.put_last.ensures.chain (order_in c.self.inside.links.items c.self.inside.slots.items c.self.inside.free) vk c.self.invariant.tied.free_apart out))
+    (λ j d o. c.put_last.ensures.others (order_in c.self.inside.links.items c.self.inside.slots.items c.self.inside.free) j vk (λ e. d (e ∙ li)) o) c.put_last.ensures.len in
     rw (c.in_ok-reserve.ensures.entries, ends) m.sound
 
 pub invariant_of-self-else-is_none : goal.invariant_of-self-else-is_none
@@ -52,8 +35,8 @@ returns-in_ok-grow-clause-entries c =
     let out = new_vacant_out _ _ _ _ _ _ _ _ _ _ c.self.invariant.tied i li in
     let ends : c.grow.new.names.ends ≡ c.self.inside.names.ends = c.in_ok-grow.ensures.ends ∙ c.in_ok-reserve_one.ensures.ends in
     let m = grown_sound _ _ _ c.grow.new.slots.items _ c.grow.new.names.names _ _ c.grow.new.links.items c.put_last.new.links.items _ c.grow.new.own.items _ _ c.put_last.new.ends _ _ c.self.invariant c.in_ok-grow.ensures.ok (c.in_ok-grow.ensures.names_ok ∙ ap (λ ns. ns ++ None ∷ []) c.in_ok-reserve_one.ensures.names) c.in_ok-grow.ensures.links_ok c.in_ok-grow.ensures.own_ok
-          (subst (λ k. IsChain c.put_last.new.links.items c.put_last.new.ends ((order_in c.self.inside.links.items c.self.inside.slots.items c.self.inside.free) ++ k ∷ [])) li (c.put_last.ensures.chain (order_in c.self.inside.links.items c.self.inside.slots.items c.self.inside.free) vk c.self.invariant.tied.free_apart out))
-          (λ j d o. c.put_last.ensures.others (order_in c.self.inside.links.items c.self.inside.slots.items c.self.inside.free) j vk (λ e. d (e ∙ li)) o) c.put_last.ensures.len in
+    (subst (λ k. IsChain c.put_last.new.links.items c.put_last.new.ends ((order_in c.self.inside.links.items c.self.inside.slots.items c.self.inside.free) ++ k ∷ [])) li (c.put_last.ensures.chain (order_in c.self.inside.links.items c.self.inside.slots.items c.self.inside.free) vk c.self.invariant.tied.free_apart out))
+    (λ j d o. c.put_last.ensures.others (order_in c.self.inside.links.items c.self.inside.slots.items c.self.inside.free) j vk (λ e. d (e ∙ li)) o) c.put_last.ensures.len in
     m.entries ∙ ap (λ (x : Cached). x.entries) c.self.view_is
 
 pub returns-in_ok-grow-clause-room : goal.returns-in_ok-grow-clause-room
@@ -64,8 +47,8 @@ returns-in_ok-grow-clause-room c =
     let out = new_vacant_out _ _ _ _ _ _ _ _ _ _ c.self.invariant.tied i li in
     let ends : c.grow.new.names.ends ≡ c.self.inside.names.ends = c.in_ok-grow.ensures.ends ∙ c.in_ok-reserve_one.ensures.ends in
     let m = grown_sound _ _ _ c.grow.new.slots.items _ c.grow.new.names.names _ _ c.grow.new.links.items c.put_last.new.links.items _ c.grow.new.own.items _ _ c.put_last.new.ends _ _ c.self.invariant c.in_ok-grow.ensures.ok (c.in_ok-grow.ensures.names_ok ∙ ap (λ ns. ns ++ None ∷ []) c.in_ok-reserve_one.ensures.names) c.in_ok-grow.ensures.links_ok c.in_ok-grow.ensures.own_ok
-          (subst (λ k. IsChain c.put_last.new.links.items c.put_last.new.ends ((order_in c.self.inside.links.items c.self.inside.slots.items c.self.inside.free) ++ k ∷ [])) li (c.put_last.ensures.chain (order_in c.self.inside.links.items c.self.inside.slots.items c.self.inside.free) vk c.self.invariant.tied.free_apart out))
-          (λ j d o. c.put_last.ensures.others (order_in c.self.inside.links.items c.self.inside.slots.items c.self.inside.free) j vk (λ e. d (e ∙ li)) o) c.put_last.ensures.len in
+    (subst (λ k. IsChain c.put_last.new.links.items c.put_last.new.ends ((order_in c.self.inside.links.items c.self.inside.slots.items c.self.inside.free) ++ k ∷ [])) li (c.put_last.ensures.chain (order_in c.self.inside.links.items c.self.inside.slots.items c.self.inside.free) vk c.self.invariant.tied.free_apart out))
+    (λ j d o. c.put_last.ensures.others (order_in c.self.inside.links.items c.self.inside.slots.items c.self.inside.free) j vk (λ e. d (e ∙ li)) o) c.put_last.ensures.len in
     let r = ap (λ (x : Cached). x.room) c.self.view_is in
     let v = m.vacant in
     let t = c.in_ok-reserve.ensures.room.0 in
@@ -81,10 +64,22 @@ returns-in_ok-grow-clause-spare c =
     let out = new_vacant_out _ _ _ _ _ _ _ _ _ _ c.self.invariant.tied i li in
     let ends : c.grow.new.names.ends ≡ c.self.inside.names.ends = c.in_ok-grow.ensures.ends ∙ c.in_ok-reserve_one.ensures.ends in
     let m = grown_sound _ _ _ c.grow.new.slots.items _ c.grow.new.names.names _ _ c.grow.new.links.items c.put_last.new.links.items _ c.grow.new.own.items _ _ c.put_last.new.ends _ _ c.self.invariant c.in_ok-grow.ensures.ok (c.in_ok-grow.ensures.names_ok ∙ ap (λ ns. ns ++ None ∷ []) c.in_ok-reserve_one.ensures.names) c.in_ok-grow.ensures.links_ok c.in_ok-grow.ensures.own_ok
-          (subst (λ k. IsChain c.put_last.new.links.items c.put_last.new.ends ((order_in c.self.inside.links.items c.self.inside.slots.items c.self.inside.free) ++ k ∷ [])) li (c.put_last.ensures.chain (order_in c.self.inside.links.items c.self.inside.slots.items c.self.inside.free) vk c.self.invariant.tied.free_apart out))
-          (λ j d o. c.put_last.ensures.others (order_in c.self.inside.links.items c.self.inside.slots.items c.self.inside.free) j vk (λ e. d (e ∙ li)) o) c.put_last.ensures.len in
+    (subst (λ k. IsChain c.put_last.new.links.items c.put_last.new.ends ((order_in c.self.inside.links.items c.self.inside.slots.items c.self.inside.free) ++ k ∷ [])) li (c.put_last.ensures.chain (order_in c.self.inside.links.items c.self.inside.slots.items c.self.inside.free) vk c.self.invariant.tied.free_apart out))
+    (λ j d o. c.put_last.ensures.others (order_in c.self.inside.links.items c.self.inside.slots.items c.self.inside.free) j vk (λ e. d (e ∙ li)) o) c.put_last.ensures.len in
     let v = m.vacant in
     let t = c.in_ok-reserve.ensures.ok in
     let k = c.in_ok-grow.ensures.room in
     let z = c.in_ok-reserve_one.ensures.spare in
     omega (arith, v, t, k, z)
+
+pub returns-in_ok-grow-clause-sound : goal.returns-in_ok-grow-clause-sound
+returns-in_ok-grow-clause-sound c =
+    let vk = chain_more _ _ _ _ _ c.in_ok-grow.ensures.links_ok c.self.invariant.tied.free_chain in
+    let i = c.len-i.result in
+    let li : c.len-i.result ≡ length c.self.inside.slots.items = (let e = c.len-i.ensures in omega (arith, e)) in
+    let out = new_vacant_out _ _ _ _ _ _ _ _ _ _ c.self.invariant.tied i li in
+    let ends : c.grow.new.names.ends ≡ c.self.inside.names.ends = c.in_ok-grow.ensures.ends ∙ c.in_ok-reserve_one.ensures.ends in
+    let m = grown_sound _ _ _ c.grow.new.slots.items _ c.grow.new.names.names _ _ c.grow.new.links.items c.put_last.new.links.items _ c.grow.new.own.items _ _ c.put_last.new.ends _ _ c.self.invariant c.in_ok-grow.ensures.ok (c.in_ok-grow.ensures.names_ok ∙ ap (λ ns. ns ++ None ∷ []) c.in_ok-reserve_one.ensures.names) c.in_ok-grow.ensures.links_ok c.in_ok-grow.ensures.own_ok
+    (subst (λ k. IsChain c.put_last.new.links.items c.put_last.new.ends ((order_in c.self.inside.links.items c.self.inside.slots.items c.self.inside.free) ++ k ∷ [])) li (c.put_last.ensures.chain (order_in c.self.inside.links.items c.self.inside.slots.items c.self.inside.free) vk c.self.invariant.tied.free_apart out))
+    (λ j d o. c.put_last.ensures.others (order_in c.self.inside.links.items c.self.inside.slots.items c.self.inside.free) j vk (λ e. d (e ∙ li)) o) c.put_last.ensures.len in
+    sound_bounded _ _ _ _ _ _ _ _ _ _ _ m.sound

@@ -1,6 +1,5 @@
-use Rattle.std.proofs.Common.{◌≡◌, ◌∙◌, ◌<◌, ℕ, List, length, sym, ap, subst, Option, Some, None, refl, arith}
+use Rattle.std.proofs.Common.{◌≡◌, ◌∙◌, length, sym, ap, subst, Some, None, refl, arith}
 use Rattle.std.specs.Prelude.{slice_get}
-use Rattle.dx_cache.specs.declared.slots.Body.{Body}
 use Rattle.dx_cache.specs.Cached.{Cached, IsTagAt}
 use Rattle.dx_cache.specs.Chain.{along}
 use Rattle.dx_cache.specs.Tied.{order_in, entries_at, entry_at, tag_in}
@@ -30,4 +29,4 @@ returns-in-Some c =
     let tag : c.tag_of.result ≡ Some a.full.body.tag = c.tag_of.ensures ∙ ap (λ xs. tag_in (slice_get xs i)) c.deref-in-Some.ensures.value ∙ ap tag_in a.full.at in
     let here = tag_place _ _ _ _ _ _ _ _ _ _ _ a a.full.body.tag c.self.invariant.kept refl in
     subst (λ (x : Cached). IsTagAt (Some c.args.i) x.entries c.tag_of.result) c.self.view_is
-      (subst (λ r. IsTagAt (Some c.args.i) (entries_at c.self.inside.slots.items c.self.inside.names.names order) r) (sym tag) (length a.left, ap Some (sym found.1), here))
+    (subst (λ r. IsTagAt (Some c.args.i) (entries_at c.self.inside.slots.items c.self.inside.names.names order) r) (sym tag) (length a.left, ap Some (sym found.1), here))

@@ -1,10 +1,9 @@
-use Rattle.std.proofs.Common.{◌≡◌, ◌∙◌, ◌<◌, ℕ, List, sym, ap, subst, Option, Some, None, refl, map, length, arith}
+use Rattle.std.proofs.Common.{◌∙◌, ap, Some, None, refl, arith}
 use Rattle.std.specs.Prelude.{slice_get, slice_set, bytes_eq}
 use Rattle.std.specs.Map.{lookup}
 use Rattle.dx_cache.proofs.SlotLaws.{within}
 use Rattle.dx_cache.specs.Named.{Named, added_ends}
-use Rattle.dx_cache.specs.Held.{IsHeld}
-use Rattle.dx_cache.proofs.Holding.{names_in, ends_list, free_held, held_holds}
+use Rattle.dx_cache.proofs.Holding.{free_held, held_holds}
 use Rattle.dx_cache.proofs.names.Names.add.Goals as goal
 
 pub hold-requires-clause-within : goal.hold-requires-clause-within

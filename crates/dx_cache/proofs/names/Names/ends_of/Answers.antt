@@ -1,11 +1,11 @@
-use Rattle.std.proofs.Common.{◌≡◌, ◌∙◌, ℕ, List, sym, ap, Option, Some, None, refl}
-use Rattle.std.specs.Prelude.{slice_get, bytes_eq}
+use Rattle.std.proofs.Common.{◌∙◌, sym, ap}
+use Rattle.std.specs.Prelude.{bytes_eq}
 use Rattle.std.specs.Option.{option_map}
-use Rattle.std.specs.Map.{keys_of, values_of, lookup}
+use Rattle.std.specs.Map.{lookup}
 use Rattle.dx_cache.specs.declared.names.Group.{Group}
 use Rattle.dx_cache.specs.Named.{Named}
 use Rattle.dx_cache.proofs.Lists.{none_some}
-use Rattle.dx_cache.proofs.Holding.{ends_list, lookup_ends}
+use Rattle.dx_cache.proofs.Holding.{lookup_ends}
 use Rattle.dx_cache.proofs.names.Names.ends_of.Goals as goal
 
 pub returns-in-None : goal.returns-in-None

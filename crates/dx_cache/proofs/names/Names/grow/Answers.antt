@@ -1,5 +1,3 @@
-use Rattle.std.proofs.Common.{◌≡◌, sym, subst}
-use Rattle.dx_cache.specs.Held.{IsHeld}
 use Rattle.dx_cache.proofs.Holding.{grown_held}
 use Rattle.dx_cache.proofs.names.Names.grow.Goals as goal
 

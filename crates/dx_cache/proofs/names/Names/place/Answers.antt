@@ -1,11 +1,11 @@
-use Rattle.std.proofs.Common.{◌≡◌, ◌∙◌, ◌<◌, ℕ, List, sym, ap, subst, Option, Some, None, refl, map, length, arith}
-use Rattle.std.specs.Prelude.{slice_get, bytes_eq}
+use Rattle.std.proofs.Common.{◌≡◌, ◌∙◌, ◌<◌, ℕ, List, sym, ap, subst, Option, Some, map, length, arith}
+use Rattle.std.specs.Prelude.{slice_get}
 use Rattle.dx_cache.specs.declared.chains.Ends.{Ends}
 use Rattle.dx_cache.proofs.SlotLaws.{within}
 use Rattle.dx_cache.specs.declared.names.Group.{Group}
 use Rattle.dx_cache.specs.declared.names.Name.{Name}
 use Rattle.dx_cache.specs.Named.{Named, HasName, IsNamed}
-use Rattle.dx_cache.proofs.Holding.{names_in, ends_list, name_held, place_right, place_there}
+use Rattle.dx_cache.proofs.Holding.{names_in, name_held, place_right, place_there}
 use Rattle.dx_cache.proofs.names.Names.place.Goals as goal
 
 named_within : (held : List (Option Name)) (es : List (List ℕ × Group)) (names : List (Option (List ℕ))) (i : ℕ) → names ≡ names_in es held → IsNamed names i → i < length held
@@ -26,6 +26,6 @@ unreachable-requires c =
 pub returns : goal.returns
 returns c = record {
   place = λ site n.
-    ap (λ (x : Named). slice_get (map (λ (p : List ℕ × Ends). p.0) x.ends) c.in-Some.k) (sym c.self.view_is)
-    ∙ place_right c.self.inside.held.items c.self.inside.table.entries c.args.i c.in-Some.k site (ap (λ (x : Named). slice_get x.names c.args.i) c.self.view_is ∙ n) (sym c.in-Some.ensures);
+      ap (λ (x : Named). slice_get (map (λ (p : List ℕ × Ends). p.0) x.ends) c.in-Some.k) (sym c.self.view_is)
+      ∙ place_right c.self.inside.held.items c.self.inside.table.entries c.args.i c.in-Some.k site (ap (λ (x : Named). slice_get x.names c.args.i) c.self.view_is ∙ n) (sym c.in-Some.ensures);
 }

@@ -1,16 +1,14 @@
-use Rattle.std.proofs.Common.{◌≡◌, ◌∙◌, ◌<◌, ◌≤◌, ◌+◌, ◌-◌, ℕ, List, sym, ap, ap₂, subst, Option, Some, None, refl, arith, length, map, cond}
+use Rattle.std.proofs.Common.{◌≡◌, ◌∙◌, ℕ, List, sym, ap, ap₂, subst, Option, Some, None, refl, arith, length, map}
 use Rattle.std.specs.Prelude.{slice_get, slice_set, bytes_eq}
 use Rattle.std.specs.Option.{option_map}
 use Rattle.std.specs.Map.{keys_of, lookup}
-use Rattle.dx_cache.specs.declared.chains.Ends.{Ends}
 use Rattle.dx_cache.proofs.SlotLaws.{within, get_set_other, length_set}
 use Rattle.dx_cache.specs.declared.names.Group.{Group}
-use Rattle.dx_cache.specs.declared.names.Name.{Name}
 use Rattle.dx_cache.specs.declared.names.Name.TheVariants.{Own, Shared}
 use Rattle.dx_cache.specs.Named.{Named, HasName, IsHeir, taken_ends}
-use Rattle.dx_cache.specs.Held.{name_in, ends_in, IsHeld}
-use Rattle.dx_cache.proofs.Lists.{get_keys, map_set, get_map}
-use Rattle.dx_cache.proofs.Holding.{names_in, ends_list, lookup_ends, name_held, held_name, own_taken, own_not_alone, own_ends, taken_lookup, heir_owns, removed_taken, inherit_taken}
+use Rattle.dx_cache.specs.Held.{name_in, IsHeld}
+use Rattle.dx_cache.proofs.Lists.{get_keys, map_set}
+use Rattle.dx_cache.proofs.Holding.{names_in, ends_list, lookup_ends, held_name, own_taken, own_not_alone, own_ends, taken_lookup, heir_owns, removed_taken, inherit_taken}
 use Rattle.dx_cache.proofs.names.Names.take.Goals as goal
 
 no_heir : (names : List (Option (List ℕ))) (i : ℕ) (heir : Option ℕ) → heir ≡ None → ((site : List ℕ) → HasName names i site → IsHeir names i site heir) → (site : List ℕ) → HasName names i site → (j : ℕ) → HasName names j site → j ≡ i
@@ -58,8 +56,8 @@ returns-in-Some-Own-clause-ends c =
     let own = held_name c.self.inside.held.items c.self.inside.table.entries c.args.i (Own c.in-Some-Own.site) c.in-Some-Own.site at refl in
     ap (λ (x : Named). lookup (bytes_eq other) x.ends) c.self.view_is
     ∙ own_ends c.args.heir site other (lookup (bytes_eq other) c.args.self.now.ends)
-      (λ e. own_not_alone c.self.inside.held.items c.self.inside.table.entries c.self.invariant c.args.i c.in-Some-Own.site at
-        (λ j m. no_heir c.args.self.now.names c.args.i c.args.heir e c.requires.heir c.in-Some-Own.site (subst (λ ns. HasName ns c.args.i c.in-Some-Own.site) names own) j (subst (λ ns. HasName ns j c.in-Some-Own.site) names m)))
+    (λ e. own_not_alone c.self.inside.held.items c.self.inside.table.entries c.self.invariant c.args.i c.in-Some-Own.site at
+    (λ j m. no_heir c.args.self.now.names c.args.i c.args.heir e c.requires.heir c.in-Some-Own.site (subst (λ ns. HasName ns c.args.i c.in-Some-Own.site) names own) j (subst (λ ns. HasName ns j c.in-Some-Own.site) names m)))
 
 pub remove-requires-clause-within : goal.remove-requires-clause-within
 remove-requires-clause-within c =
@@ -98,7 +96,7 @@ inherit-requires-clause-own c =
     let names : c.args.self.now.names ≡ names_in c.self.inside.table.entries c.self.inside.held.items = ap (λ (x : Named). x.names) (sym c.self.view_is) in
     let heir = an_heir c.args.self.now.names c.args.i c.in-Some.j c.args.heir c.in-Some.is c.requires.heir c.requires.named.0 c.requires.named.1 in
     let own = heir_owns c.self.inside.held.items c.self.inside.table.entries c.self.invariant c.args.i c.in-Some-Shared.k c.in-Some.j c.requires.named.0 at
-      (subst (λ ns. HasName ns c.args.i c.requires.named.0) names c.requires.named.1) heir.0 (subst (λ ns. HasName ns c.in-Some.j c.requires.named.0) names heir.1) in
+    (subst (λ ns. HasName ns c.args.i c.requires.named.0) names c.requires.named.1) heir.0 (subst (λ ns. HasName ns c.in-Some.j c.requires.named.0) names heir.1) in
     (c.requires.named.0, ap (λ xs. slice_get xs c.in-Some.j) c.lift.ensures.held ∙ get_set_other c.self.inside.held.items c.args.i c.in-Some.j None heir.0 ∙ own)
 
 pub invariant_of-self-in-None-heir : goal.invariant_of-self-in-None-heir
@@ -110,8 +108,8 @@ invariant_of-self-in-None-heir c =
     let at : slice_get c.self.inside.held.items c.args.i ≡ Some (Some (Shared c.in-Some-Shared.k)) = cc in
     let names : names_in c.self.inside.table.entries c.self.inside.held.items ≡ c.args.self.now.names = ap (λ (x : Named). x.names) c.self.view_is in
     (removed_taken c.self.inside.held.items _ _ c.self.inside.table.entries _ c.self.invariant c.args.i c.in-Some-Shared.k c.remove.result at c.lift.ensures.held
-      (λ n j m. no_heir c.args.self.now.names c.args.i c.args.heir c.in-None-heir.is c.requires.heir c.remove.result (subst (λ ns. HasName ns c.args.i c.remove.result) names n) j (subst (λ ns. HasName ns j c.remove.result) names m))
-      c.remove.ensures.removed c.remove.ensures.unique c.remove.ensures.lookups).0.holds
+    (λ n j m. no_heir c.args.self.now.names c.args.i c.args.heir c.in-None-heir.is c.requires.heir c.remove.result (subst (λ ns. HasName ns c.args.i c.remove.result) names n) j (subst (λ ns. HasName ns j c.remove.result) names m))
+    c.remove.ensures.removed c.remove.ensures.unique c.remove.ensures.lookups).0.holds
 
 pub returns-in-None-heir-clause-site : goal.returns-in-None-heir-clause-site
 returns-in-None-heir-clause-site c =
@@ -122,8 +120,8 @@ returns-in-None-heir-clause-site c =
     let at : slice_get c.self.inside.held.items c.args.i ≡ Some (Some (Shared c.in-Some-Shared.k)) = cc in
     let names : names_in c.self.inside.table.entries c.self.inside.held.items ≡ c.args.self.now.names = ap (λ (x : Named). x.names) c.self.view_is in
     subst (λ ns. HasName ns c.args.i c.remove.result) names (removed_taken c.self.inside.held.items _ _ c.self.inside.table.entries _ c.self.invariant c.args.i c.in-Some-Shared.k c.remove.result at c.lift.ensures.held
-      (λ n j m. no_heir c.args.self.now.names c.args.i c.args.heir c.in-None-heir.is c.requires.heir c.remove.result (subst (λ ns. HasName ns c.args.i c.remove.result) names n) j (subst (λ ns. HasName ns j c.remove.result) names m))
-      c.remove.ensures.removed c.remove.ensures.unique c.remove.ensures.lookups).1
+    (λ n j m. no_heir c.args.self.now.names c.args.i c.args.heir c.in-None-heir.is c.requires.heir c.remove.result (subst (λ ns. HasName ns c.args.i c.remove.result) names n) j (subst (λ ns. HasName ns j c.remove.result) names m))
+    c.remove.ensures.removed c.remove.ensures.unique c.remove.ensures.lookups).1
 
 pub returns-in-None-heir-clause-names : goal.returns-in-None-heir-clause-names
 returns-in-None-heir-clause-names c =
@@ -134,8 +132,8 @@ returns-in-None-heir-clause-names c =
     let at : slice_get c.self.inside.held.items c.args.i ≡ Some (Some (Shared c.in-Some-Shared.k)) = cc in
     let names : names_in c.self.inside.table.entries c.self.inside.held.items ≡ c.args.self.now.names = ap (λ (x : Named). x.names) c.self.view_is in
     (removed_taken c.self.inside.held.items _ _ c.self.inside.table.entries _ c.self.invariant c.args.i c.in-Some-Shared.k c.remove.result at c.lift.ensures.held
-      (λ n j m. no_heir c.args.self.now.names c.args.i c.args.heir c.in-None-heir.is c.requires.heir c.remove.result (subst (λ ns. HasName ns c.args.i c.remove.result) names n) j (subst (λ ns. HasName ns j c.remove.result) names m))
-      c.remove.ensures.removed c.remove.ensures.unique c.remove.ensures.lookups).0.names_are ∙ ap (λ ns. slice_set ns c.args.i None) names
+    (λ n j m. no_heir c.args.self.now.names c.args.i c.args.heir c.in-None-heir.is c.requires.heir c.remove.result (subst (λ ns. HasName ns c.args.i c.remove.result) names n) j (subst (λ ns. HasName ns j c.remove.result) names m))
+    c.remove.ensures.removed c.remove.ensures.unique c.remove.ensures.lookups).0.names_are ∙ ap (λ ns. slice_set ns c.args.i None) names
 
 pub returns-in-None-heir-clause-ends : goal.returns-in-None-heir-clause-ends
 returns-in-None-heir-clause-ends c =
@@ -165,8 +163,8 @@ invariant_of-self-in-Some c =
     let names : c.args.self.now.names ≡ names_in c.self.inside.table.entries c.self.inside.held.items = ap (λ (x : Named). x.names) (sym c.self.view_is) in
     let heir = an_heir c.args.self.now.names c.args.i c.in-Some.j c.args.heir c.in-Some.is c.requires.heir c.requires.named.0 c.requires.named.1 in
     (inherit_taken c.self.inside.held.items _ _ c.self.inside.table.entries _ c.self.invariant c.args.i c.in-Some-Shared.k c.in-Some.j c.requires.named.0 at c.lift.ensures.held
-      (subst (λ ns. HasName ns c.args.i c.requires.named.0) names c.requires.named.1) (heir.0, subst (λ ns. HasName ns c.in-Some.j c.requires.named.0) names heir.1)
-      c.inherit.ensures.held c.inherit.ensures.entries).0.holds
+    (subst (λ ns. HasName ns c.args.i c.requires.named.0) names c.requires.named.1) (heir.0, subst (λ ns. HasName ns c.in-Some.j c.requires.named.0) names heir.1)
+    c.inherit.ensures.held c.inherit.ensures.entries).0.holds
 
 pub returns-in-Some-clause-site : goal.returns-in-Some-clause-site
 returns-in-Some-clause-site c =
@@ -178,7 +176,7 @@ returns-in-Some-clause-site c =
     let names : c.args.self.now.names ≡ names_in c.self.inside.table.entries c.self.inside.held.items = ap (λ (x : Named). x.names) (sym c.self.view_is) in
     let heir = an_heir c.args.self.now.names c.args.i c.in-Some.j c.args.heir c.in-Some.is c.requires.heir c.requires.named.0 c.requires.named.1 in
     let own = heir_owns c.self.inside.held.items c.self.inside.table.entries c.self.invariant c.args.i c.in-Some-Shared.k c.in-Some.j c.requires.named.0 at
-      (subst (λ ns. HasName ns c.args.i c.requires.named.0) names c.requires.named.1) heir.0 (subst (λ ns. HasName ns c.in-Some.j c.requires.named.0) names heir.1) in
+    (subst (λ ns. HasName ns c.args.i c.requires.named.0) names c.requires.named.1) heir.0 (subst (λ ns. HasName ns c.in-Some.j c.requires.named.0) names heir.1) in
     let there = ap (λ xs. slice_get xs c.in-Some.j) c.lift.ensures.held ∙ get_set_other c.self.inside.held.items c.args.i c.in-Some.j None heir.0 ∙ own in
     let both : Some (Some (Own c.inherit.result)) ≡ Some (Some (Own c.requires.named.0)) = sym c.inherit.ensures.site ∙ there in
     let same : c.requires.named.0 ≡ c.inherit.result = cc in
@@ -194,8 +192,8 @@ returns-in-Some-clause-names c =
     let names : c.args.self.now.names ≡ names_in c.self.inside.table.entries c.self.inside.held.items = ap (λ (x : Named). x.names) (sym c.self.view_is) in
     let heir = an_heir c.args.self.now.names c.args.i c.in-Some.j c.args.heir c.in-Some.is c.requires.heir c.requires.named.0 c.requires.named.1 in
     (inherit_taken c.self.inside.held.items _ _ c.self.inside.table.entries _ c.self.invariant c.args.i c.in-Some-Shared.k c.in-Some.j c.requires.named.0 at c.lift.ensures.held
-      (subst (λ ns. HasName ns c.args.i c.requires.named.0) names c.requires.named.1) (heir.0, subst (λ ns. HasName ns c.in-Some.j c.requires.named.0) names heir.1)
-      c.inherit.ensures.held c.inherit.ensures.entries).0.names_are ∙ ap (λ ns. slice_set ns c.args.i None) (sym names)
+    (subst (λ ns. HasName ns c.args.i c.requires.named.0) names c.requires.named.1) (heir.0, subst (λ ns. HasName ns c.in-Some.j c.requires.named.0) names heir.1)
+    c.inherit.ensures.held c.inherit.ensures.entries).0.names_are ∙ ap (λ ns. slice_set ns c.args.i None) (sym names)
 
 pub returns-in-Some-clause-ends : goal.returns-in-Some-clause-ends
 returns-in-Some-clause-ends c =
@@ -208,7 +206,7 @@ returns-in-Some-clause-ends c =
     let names : c.args.self.now.names ≡ names_in c.self.inside.table.entries c.self.inside.held.items = ap (λ (x : Named). x.names) (sym c.self.view_is) in
     let heir = an_heir c.args.self.now.names c.args.i c.in-Some.j c.args.heir c.in-Some.is c.requires.heir c.requires.named.0 c.requires.named.1 in
     let taken = inherit_taken c.self.inside.held.items _ _ c.self.inside.table.entries _ c.self.invariant c.args.i c.in-Some-Shared.k c.in-Some.j c.requires.named.0 at c.lift.ensures.held
-      (subst (λ ns. HasName ns c.args.i c.requires.named.0) names c.requires.named.1) (heir.0, subst (λ ns. HasName ns c.in-Some.j c.requires.named.0) names heir.1)
-      c.inherit.ensures.held c.inherit.ensures.entries in
+    (subst (λ ns. HasName ns c.args.i c.requires.named.0) names c.requires.named.1) (heir.0, subst (λ ns. HasName ns c.in-Some.j c.requires.named.0) names heir.1)
+    c.inherit.ensures.held c.inherit.ensures.entries in
     ap (lookup (bytes_eq other)) (taken.1 ∙ ap (λ (x : Named). x.ends) c.self.view_is)
     ∙ ap (λ o. taken_ends o site other (lookup (bytes_eq other) c.args.self.now.ends)) (sym c.in-Some.is)
