@@ -1,5 +1,7 @@
 // Entries of rows, and how one is kept.
-ghost use Rattle.std.specs.Prelude.{◌≡◌, ◌≤◌};
+ghost use Rattle.std.specs.Prelude.{◌≡◌, ◌≤◌, ◌<◌, None};
+ghost use Rattle.dx_cache.specs.Cached.{find};
+ghost use Rattle.dx_cache.specs.Sound.{IsKept};
 
 use crate::plain::Row;
 use dx_base::Bytes;
@@ -43,23 +45,41 @@ pub(crate) fn keep(
             Some(old) => dropped.push(old.tag)?,
         }
     }
-    if store(cache, entry)? { Ok(Some(dropped)) } else { Ok(None) }
+    if store(cache, entry)? {
+        Ok(Some(dropped))
+    } else {
+        Ok(None)
+    }
 }
 
-// Whether the entry could be kept with nothing dropped, and was.
+// Stores an entry that can be kept with nothing dropped, and says whether it could.
 fn store(cache: &mut Cache, entry: Entry) -> Result<bool, AllocError> {
     cache.reserve_one()?;
-    let is_sized = entry.size < u64::MAX && entry.size == entry.outs.size() && entry.size <= cache.budget();
-    let is_named = !entry.site.bytes().is_empty() && !cache.has(entry.tag);
-    let has_attribute = entry.attribute == 1 || entry.attribute == 2;
-    if !is_sized || !is_named || !has_attribute {
+    if cache.has(entry.tag) || entry.size > cache.budget() || entry.site.bytes().is_empty() {
         return Ok(false);
     }
+    if entry.size == u64::MAX || entry.size != entry.outs.size() {
+        return Ok(false);
+    }
+    if entry.attribute == 1 || entry.attribute == 2 {
+        Ok(put(cache, entry))
+    } else {
+        Ok(false)
+    }
+}
+
+// Stores an entry where nothing has to be dropped for it, and says whether that is so.
+fn put(cache: &mut Cache, entry: Entry) -> bool
+    requires spare { 0 < cache.old.room }
+    requires absent { find entry.tag cache.old.entries ≡ None }
+    requires kept { IsKept entry }
+    requires fits { entry.size ≤ cache.old.budget }
+{
     match cache.make_room(&entry.site, entry.attribute, entry.size) {
-        Some(_) => Ok(false),
+        Some(_) => false,
         None => {
             cache.store(entry);
-            Ok(true)
+            true
         }
     }
 }

@@ -1,4 +1,6 @@
 // Random calls against a plain list.
+ghost use Rattle.std.specs.Prelude.{◌<◌};
+
 use crate::made::{entry, keep};
 use crate::plain::{Plain, Row};
 use dx_cache::Cache;
@@ -12,12 +14,15 @@ struct Numbers {
 }
 
 impl Numbers {
-    fn below(&mut self, bound: u64) -> u64 {
+    fn below(&mut self, bound: u64) -> u64
+        requires { 0 < bound }
+        ensures { result < bound }
+    {
         self.state = self
             .state
             .wrapping_mul(6_364_136_223_846_793_005)
             .wrapping_add(1_442_695_040_888_963_407);
-        if bound == 0 { 0 } else { (self.state >> 33) % bound }
+        (self.state >> 33) % bound
     }
 }
 
