@@ -1,0 +1,9 @@
+pub mod ChainLaws
+pub mod Drops
+pub mod Holding
+pub mod Lists
+pub mod Orders
+pub mod Places
+pub mod SlotLaws
+pub mod Steps
+pub mod Tying

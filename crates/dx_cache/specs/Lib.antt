@@ -1,0 +1,9 @@
+pub mod Cached
+pub mod CachedCode
+pub mod Chain
+pub mod Changed
+pub mod Held
+pub mod Named
+pub mod NamedCode
+pub mod Sound
+pub mod Tied

@@ -1,0 +1,9 @@
+//! Tests of the cache: thousands of random calls against a plain list, and what the calls cost.
+#![tactic(auto)]
+
+#[cfg(test)]
+mod made;
+#[cfg(test)]
+mod plain;
+#[cfg(test)]
+mod random;
