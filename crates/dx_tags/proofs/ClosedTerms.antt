@@ -4,11 +4,8 @@ use Rattle.std.specs.Prelude.{slice_get}
 use Rattle.std.proofs.lemmas.Option.{slice_get-get_or}
 use Rattle.dx_tags.specs.declared.term.Term.{Term}
 use Rattle.dx_tags.specs.declared.term.Term.TheVariants.{Constant, Held, Call, File}
-use Rattle.dx_ast.specs.declared.constants.Const.{Const}
-use Rattle.dx_ast.specs.declared.constants.Const.TheVariants.{Null}
-use Rattle.dx_base.specs.declared.function.Module.{Module}
 use Rattle.dx_tags.specs.declared.term.ValueTag.{ValueTag}
-use Rattle.dx_tags.specs.Closed.{ValueTerm, ConstantTerm, HeldTerm, ResultTerm, CallTerm, CallOf, ValueTerms, NoTerm, AndTerm, Head, ConstantHead, HeldHead, CallHead, FileHead, head_at, result_of_head, value_term, value_terms, head_of, heads_after, heads_of, IsResultOf, AreEarlier, IsFormed, AreFormed, AreDistinct, NamesExactly}
+use Rattle.dx_tags.specs.Closed.{CallOf, AndTerm, Head, ConstantHead, HeldHead, CallHead, FileHead, head_at, result_of_head, value_term, value_terms, head_of, heads_after, heads_of, IsResultOf, AreEarlier, IsFormed, AreFormed, AreDistinct, NamesExactly}
 
 head_at-append : (hs is : List Head) (n : ℕ) → n < length hs → head_at (hs ++ is) n ≡ head_at hs n
 head_at-append [] is n h = absurd (omega arith)

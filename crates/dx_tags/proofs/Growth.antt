@@ -1,11 +1,11 @@
 -- Terms that are added leave what earlier tags name.
-use Rattle.std.proofs.Common.{◌≡◌, ℕ, zero, suc, ◌+◌, ◌<◌, ◌≤◌, List, [], ◌∷◌, ◌++◌, length, Option, Some, refl, sym, ap, ◌∙◌, subst, ◌⊎◌, ⊎_elim, arith, append_assoc, append-nil, length-append, add-suc, suc-add}
+use Rattle.std.proofs.Common.{◌≡◌, ℕ, suc, ◌+◌, ◌<◌, ◌≤◌, List, [], ◌∷◌, ◌++◌, length, Some, refl, sym, ap, ◌∙◌, subst, ◌⊎◌, ⊎_elim, arith, append_assoc, append-nil, length-append}
 use Rattle.std.specs.Prelude.{slice_get}
 use Rattle.std.proofs.lemmas.Option.{slice_get_within}
 use Rattle.dx_tags.specs.declared.term.Term.{Term}
 use Rattle.dx_tags.specs.declared.term.Term.TheVariants.{Constant, Held, Call, File}
 use Rattle.dx_tags.specs.declared.term.ValueTag.{ValueTag}
-use Rattle.dx_tags.specs.Closed.{ValueTerm, Head, head_at, result_of_head, value_term, value_terms, head_of, heads_after, heads_of, IsResultOf, AreEarlier, IsFormed, AreFormed}
+use Rattle.dx_tags.specs.Closed.{Head, head_at, value_terms, head_of, heads_after, heads_of, IsResultOf, AreEarlier, IsFormed, AreFormed}
 use Rattle.std.specs.Prelude.{Result, Ok, Err, OnOk, OnErr, IfOk}
 use Rattle.dx_tags.proofs.ClosedTerms.{head_at-heads_after, head_unfolds, same_head, same_values}
 use Rattle.dx_tags.specs.Closed.{Fits, GoesOn, AllFormed, NamesHead}

@@ -4,8 +4,8 @@ use Rattle.std.specs.Bool.{Decides}
 use Rattle.std.specs.Cmp.{first_so, second_so, signed_Decides, unsigned_Decides}
 use Rattle.std.specs.Cmp.Lexicographic.{pointwise, pointwise_decides, bytes_decides}
 use Rattle.std.proofs.Common.{true≢false}
-use Rattle.std.proofs.Common.{List, [], ◌∷◌, ◌++◌, length, ◌<◌, ◌≤◌, ◌⊎◌, ⊎_elim, inl, inr, Some, get_or, arith}
-use Rattle.std.specs.Prelude.{slice_get, ◌&&◌, ◌==◌, ℤ, Bool, if◌then◌else◌}
+use Rattle.std.proofs.Common.{List, [], ◌∷◌, ◌++◌, ◌<◌, ◌⊎◌, inl, inr, Some, arith}
+use Rattle.std.specs.Prelude.{slice_get, ◌&&◌, ◌==◌, Bool, if◌then◌else◌}
 use Rattle.std.specs.List.{IsDistinct, list_any}
 use Rattle.indexmap.specs.IndexSet.{insert_key}
 use Rattle.std.proofs.lemmas.Map.Keys.{apart_from_distinct}

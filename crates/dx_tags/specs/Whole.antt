@@ -1,5 +1,5 @@
 -- Call terms that have as many arguments as the table allows.
-use Rattle.std.specs.Prelude.{◌≡◌, ℕ, List, [], ◌∷◌, ◌++◌, length, Bool, true, false, ◌⊎◌, All}
+use Rattle.std.specs.Prelude.{◌≡◌, List, [], ◌∷◌, ◌++◌, length, Bool, true, false, ◌⊎◌}
 use Rattle.dx_base.specs.Modules.{Takes}
 use Rattle.dx_base.specs.declared.function.Module.{Module}
 use Rattle.dx_base.specs.declared.function.Module.TheVariants.{Import}
