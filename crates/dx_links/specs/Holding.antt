@@ -1,0 +1,18 @@
+-- What a link holds.
+use Rattle.std.specs.Prelude.{ℕ, refl}
+use Rattle.std.specs.Coded.{Coded, code_by, coded×, coded_ℕ}
+use Rattle.dx_base.specs.Object.{Tree}
+use Rattle.dx_base.specs.ObjectCode.{coded_tree}
+use Rattle.dx_tags.specs.declared.term.ValueTag.{ValueTag}
+
+-- an object, with the tag of a term that denotes it
+pub record Holding : Type 0 where
+  pub value : Tree
+  pub tag : ValueTag
+
+abbrev pub coded_holding : Coded Holding
+coded_holding =
+    code_by (Tree × (ℕ × ℕ)) (coded× coded_tree (coded× coded_ℕ coded_ℕ))
+    (λ h. (h.value, (h.tag.tag, h.tag.result)))
+    (λ p. record { value = p.0; tag = record { tag = p.1.0; result = p.1.1 } })
+    (λ _. refl)

@@ -1,0 +1,4 @@
+pub mod Denotes
+pub mod Getting
+pub mod Holding
+pub mod LinkMap

@@ -1,0 +1,78 @@
+-- Links as a finite map, in the order of the keys.
+use Rattle.std.specs.Prelude.{◌≡◌, ℕ, zero, suc, List, [], ◌∷◌, Option, Some, None, refl}
+use Rattle.std.specs.Coded.{Coded, code_by, coded×, coded_ℕ, coded_list, coded_option}
+use Rattle.std.specs.Map.{lookup, remove_entry}
+use Rattle.std.specs.BTreeMap.{insert_entry, is_at}
+use Rattle.std.specs.declared.cmp.Ordering.{Ordering}
+use Rattle.std.specs.declared.cmp.Ordering.TheVariants.{Less, Greater}
+use Rattle.dx_tags.specs.declared.term.ValueTag.{ValueTag}
+use Rattle.dx_links.specs.declared.key.Key.{Key}
+use Rattle.dx_links.specs.declared.key.Key.TheVariants.{Global, Local}
+use Rattle.dx_links.specs.declared.held.Change.{Change}
+use Rattle.dx_links.specs.contracts.key.KeyOrd.TheImpl as keys
+use Rattle.dx_links.specs.Holding.{Holding, coded_holding}
+
+-- the keys with what they hold, in the order of the keys
+abbrev pub LinkMap : Type 0
+LinkMap = List (Key × Holding)
+
+-- the links, and the room for more keys
+pub record Linked : Type 0 where
+  pub links : LinkMap
+  pub room : ℕ
+
+-- global keys before local ones; those by name, these by path and then by name
+abbrev pub key_cmp : Key → Key → Ordering
+key_cmp = keys.ghosts.cmp
+
+pub global_first : (n p m : List ℕ) → key_cmp (Global n) (Local p m) ≡ Less
+global_first n p m = refl
+
+pub local_last : (n p m : List ℕ) → key_cmp (Local p m) (Global n) ≡ Greater
+local_last n p m = refl
+
+-- ---- a key in code
+
+abbrev pub key_of_parts : Option (List ℕ) × List ℕ → Key
+key_of_parts (None, n) = Global n
+key_of_parts (Some p, n) = Local p n
+
+abbrev pub parts_of_key : Key → Option (List ℕ) × List ℕ
+parts_of_key (Global n) = (None, n)
+parts_of_key (Local p n) = (Some p, n)
+
+pub key_back : (k : Key) → key_of_parts (parts_of_key k) ≡ k
+key_back (Global n) = refl
+key_back (Local p n) = refl
+
+abbrev pub coded_key : Coded Key
+coded_key = code_by (Option (List ℕ) × List ℕ) (coded× (coded_option (coded_list coded_ℕ)) (coded_list coded_ℕ)) parts_of_key key_of_parts key_back
+
+abbrev pub coded_linked : Coded Linked
+coded_linked =
+    code_by (LinkMap × ℕ) (coded× (coded_list (coded× coded_key coded_holding)) coded_ℕ)
+    (λ l. (l.links, l.room))
+    (λ p. record { links = p.0; room = p.1 })
+    (λ _. refl)
+
+-- ---- what is read and changed
+
+-- what a key holds
+abbrev pub held_at : Key → LinkMap → Option Holding
+held_at k links = lookup (is_at (key_cmp k)) links
+
+-- a key holds this from now on, or nothing any more
+abbrev pub put_at : LinkMap → Key → Option Holding → LinkMap
+put_at links k (Some h) = insert_entry key_cmp links k h
+put_at links k None = remove_entry (is_at (key_cmp k)) links
+
+-- the links after changes, the first of which comes first
+abbrev pub after : LinkMap → List Change → LinkMap
+after links [] = links
+after links (c ∷ cs) = after (put_at links c.key c.held) cs
+
+-- another tag for what stands at a place
+abbrev pub tag_at : LinkMap → ℕ → ValueTag → LinkMap
+tag_at [] i t = []
+tag_at (l ∷ ls) zero t = (l.0, record { value = l.1.value; tag = t }) ∷ ls
+tag_at (l ∷ ls) (suc i) t = l ∷ tag_at ls i t

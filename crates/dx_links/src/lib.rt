@@ -1,0 +1,10 @@
+//! Links: what scripts keep under names from one execution to the next.
+#![tactic(auto)]
+
+mod held;
+mod key;
+mod links;
+
+pub use held::{Change, Changes, Held};
+pub use key::Key;
+pub use links::Links;

@@ -1,0 +1,142 @@
+// The links: a list in the order of the keys, which is searched by halving.
+
+ghost use Rattle.std.specs.Prelude.{◌≡◌, ◌<◌, ◌≤◌, ◌+◌, [], None, Some, length, MatchOption, OnOk, IfOk, slice_get, slice_set};
+ghost use Rattle.std.specs.List.Sorted.{IsBinarySearchResult, IsSearchInRange};
+ghost use Rattle.dx_links.specs.LinkMap.{held_at, put_at, after, tag_at, key_cmp};
+
+use crate::held::{Change, Changes, Held};
+use crate::key::Key;
+use dx_tags::ValueTag;
+use std::alloc::{AllocError, Global};
+use std::cmp::Ordering;
+use std::marker::Model;
+
+/// What is kept between executions, which contracts see as a finite map from keys, in their order, with the room for more
+/// keys.
+#[derive(Drop)]
+pub struct Links {
+    links: Vec<(Key, Held)>,
+}
+
+impl Model for Links {
+    ghost use Rattle.std.specs.Prelude.{◌-◌, vec_len, vec_capacity};
+    ghost use Rattle.std.specs.Map.{keys_of};
+    ghost use Rattle.std.specs.List.Sorted.{IsStrictlySortedBy};
+    ghost use Rattle.dx_links.specs.LinkMap.{Linked, coded_linked, key_cmp};
+
+    ghost Value = { Linked };
+
+    ghost coded = { coded_linked };
+
+    ghost view = { λ a. record { links = a.links.items; room = vec_capacity a.links - vec_len a.links } };
+
+    ghost invariant = { λ a. IsStrictlySortedBy key_cmp (keys_of a.links.items) };
+}
+
+impl Links {
+    /// No links, which takes no memory.
+    pub fn new(alloc: Global) -> Links
+        ensures { result.links ≡ [] }
+    {
+        Links {
+            links: Vec::new(alloc),
+        }
+    }
+
+    /// What the link under a key holds; None exactly where there is no such link.
+    pub fn get(&self, key: &Key) -> Option<&Held>
+        ensures { MatchOption result (held_at key.now self.now.links ≡ None) (λ h. held_at key.now self.now.links ≡ Some h.now) }
+    {
+        match place_of(&self.links, key) {
+            Ok(i) => Some(&self.links[i].1),
+            Err(_) => None,
+        }
+    }
+
+    /// The number of links.
+    pub fn len(&self) -> usize
+        ensures { result ≡ length self.now.links }
+    {
+        self.links.len()
+    }
+
+    /// The link at a place in the order of the keys, counted from 0.
+    pub fn at(&self, i: usize) -> (&Key, &Held)
+        requires within { i < length self.now.links }
+        ensures { slice_get self.now.links i ≡ Some (result.0.now, result.1.now) }
+    {
+        let (key, held) = &self.links[i];
+        (key, held)
+    }
+
+    /// Room for so many more keys. Where memory runs out the links stay.
+    pub fn reserve(&mut self, keys: usize) -> Result<(), AllocError>
+        ensures links { self.new.links ≡ self.old.links }
+        ensures room { OnOk result (keys ≤ self.new.room) }
+        ensures kept { self.old.room ≤ self.new.room }
+    {
+        self.links.reserve(keys)
+    }
+
+    /// Gives another tag to the value at a place in the order of the keys.
+    pub fn set_tag(&mut self, i: usize, tag: ValueTag)
+        requires within { i < length self.old.links }
+        ensures links { self.new.links ≡ tag_at self.old.links i tag }
+        ensures room { self.old.room ≤ self.new.room }
+    {
+        self.links[i].1.set_tag(tag);
+    }
+
+    /// Makes the changes in their order, the last of one key counting. This takes no memory.
+    pub fn commit(&mut self, changes: Changes)
+        requires room { length changes ≤ self.old.room }
+        ensures { self.new.links ≡ after self.old.links changes }
+    {
+        for change in changes.into_vec() {
+            let Change { key, held } = change;
+            self.put(key, held);
+        }
+    }
+
+    /// The same links in memory of their own, which share the values.
+    pub fn copy(&self, alloc: Global) -> Result<Links, AllocError>
+        ensures { IfOk result (λ copy. copy.links ≡ self.now.links) }
+    {
+        let mut links = Vec::with_capacity(alloc, self.links.len())?;
+        for (key, held) in &self.links {
+            links.push((Key::copy_of(alloc, key)?, held.share()?))?;
+        }
+        Ok(Links { links })
+    }
+
+    // A key holds this from now on, or nothing any more.
+    fn put(&mut self, key: Key, held: Option<Held>)
+        requires room { 0 < self.old.room }
+        ensures links { self.new.links ≡ put_at self.old.links key held }
+        ensures room { self.old.room ≤ self.new.room + 1 }
+    {
+        match (place_of(&self.links, &key), held) {
+            (Ok(i), Some(held)) => self.links[i].1 = held,
+            (Err(i), Some(held)) => match self.links.insert(i, (key, held)) {
+                Ok(()) => {}
+                Err(_) => unreachable!(),
+            },
+            (Ok(i), None) => {
+                self.links.remove(i);
+            }
+            (Err(_), None) => {}
+        }
+    }
+}
+
+// The place of a key, or the place before which it would stand.
+fn place_of(links: &[(Key, Held)], key: &Key) -> Result<usize, usize>
+    ensures place { IsBinarySearchResult (λ link. key_cmp link.0 key.now) links.now result }
+    ensures range { IsSearchInRange result (length links.now) }
+{
+    links.binary_search_by(
+        |link: &(Key, Held)| -> Ordering
+            ensures { result ≡ key_cmp link.now.0 key.entry.now }
+        { link.0.cmp(key) },
+    )
+}

@@ -1,0 +1,5 @@
+use Rattle.dx_tags.proofs.WrittenFiles.{none_sorted}
+use Rattle.dx_tags.proofs.written.Written.new.Goals as goal
+
+pub invariant_of-result : goal.invariant_of-result
+invariant_of-result c = none_sorted c.new.result.items c.new.ensures.items

@@ -1,0 +1,4 @@
+pub mod Closed
+pub mod Files
+pub mod Sampled
+pub mod Whole
