@@ -1,6 +1,6 @@
 -- What a closed term denotes: by the library's answers, the files read and the values held, and by nothing else.
-use Rattle.std.specs.Prelude.{ℕ, zero, suc, List, [], ◌∷◌, Option, Some, None, Result, Ok, Err}
-use Rattle.dx_base.specs.Object.{Tree, text, PartList}
+use Rattle.std.specs.Prelude.{ℕ, List, [], ◌∷◌, Option, Some, None, Result, Ok, Err}
+use Rattle.dx_base.specs.Object.{Tree, text}
 use Rattle.dx_base.specs.declared.function.Module.{Module}
 use Rattle.dx_base.specs.declared.function.Module.TheVariants.{Import}
 use Rattle.dx_base.specs.declared.code.Code.{Code}

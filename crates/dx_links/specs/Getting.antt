@@ -1,5 +1,5 @@
 -- The order in which the calls of a term are run where nothing is kept from earlier executions.
-use Rattle.std.specs.Prelude.{ℕ, List, [], ◌∷◌, ◌++◌, Bool, true, false, ◌&&◌, ◌||◌, ◌==◌, if◌then◌else◌, bytes_eq, Ok, Err}
+use Rattle.std.specs.Prelude.{List, [], ◌∷◌, ◌++◌, Bool, true, false, ◌&&◌, ◌||◌, ◌==◌, bytes_eq, Ok, Err}
 use Rattle.dx_base.specs.declared.code.Code.{Code}
 use Rattle.dx_base.specs.contracts.function.ModulePartialEq.TheImpl as modules
 use Rattle.dx_ast.specs.contracts.constants.ConstPartialEq.TheImpl as constants

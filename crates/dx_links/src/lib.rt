@@ -3,8 +3,10 @@
 
 mod held;
 mod key;
+mod laws;
 mod links;
 
 pub use held::{Change, Changes, Held};
 pub use key::Key;
+pub use laws::links_are_a_map;
 pub use links::Links;

@@ -1,0 +1,5 @@
+//! Tests of the links that an execution leaves to the next.
+#![tactic(auto)]
+
+#[cfg(test)]
+mod commits;
