@@ -2,7 +2,7 @@
 use Rattle.std.specs.Prelude.{ℕ, ℤ, List, [], ◌∷◌, Option, Some, None}
 use Rattle.dx_base.specs.declared.elem.ElemType.{ElemType}
 use Rattle.dx_base.specs.declared.elem.ElemType.TheVariants.{Byte, UByte, Short, UShort, Int, UInt}
-use Rattle.dx_base.specs.Array.{ArrayData, Class, plain, constant, regular, grid_positions, grid_connections}
+use Rattle.dx_base.specs.Array.{Class, plain, constant, regular, grid_positions, grid_connections}
 use Rattle.dx_base.specs.Object.{Tree, array, text, field, group, composite, series, no_parts, part}
 
 pub data Inline : Type 0 where
