@@ -1,0 +1,4 @@
+pub mod Lines
+pub mod Arrays
+pub mod Inline
+pub mod Text

@@ -1,0 +1,4 @@
+pub mod Spelled
+pub mod Numbered
+pub mod Inlines
+pub mod Bodies
