@@ -1,3 +1,4 @@
+pub mod formers
 pub mod Limits
 pub mod Classes
 pub mod Values

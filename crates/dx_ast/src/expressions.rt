@@ -1,5 +1,6 @@
 //! What a script can assign or hand to a call: constants, names, variables of the sequencer, calls.
 
+use crate::boxed::Boxed;
 use crate::constants::Const;
 use crate::sequencing::FrameVar;
 use dx_base::{Bytes, Items};
@@ -14,7 +15,7 @@ pub enum Expr {
     Constant(Const),
     Name(Bytes),
     Frame(FrameVar),
-    Call(Call),
+    Call(Boxed<Call>),
 }
 
 /// A call of a macro or of a function.

@@ -1,6 +1,7 @@
 //! The syntax tree of scripts, the grammar that says which text is which tree, and the table of functions.
 #![tactic(auto)]
 
+mod boxed;
 mod constants;
 mod expressions;
 mod rows;
@@ -8,6 +9,7 @@ mod sequencing;
 mod statements;
 mod table;
 
+pub use boxed::Boxed;
 pub use constants::{Const, Ints, TextList};
 pub use expressions::{Arg, Args, Call, Expr};
 pub use rows::{Row, row_of};

@@ -1,5 +1,6 @@
 //! The statements of a script.
 
+use crate::boxed::Boxed;
 use crate::constants::{Const, TextList};
 use crate::expressions::{Call, Expr};
 use crate::sequencing::{FrameVar, Word};
@@ -41,7 +42,7 @@ pub struct MacroDef {
 pub enum Stmt {
     Assign(Assign),
     Call(Call),
-    Macro(MacroDef),
+    Macro(Boxed<MacroDef>),
     /// The name of the file whose statements stand here.
     Include(Bytes),
     SetFrame(FrameVar, Expr),

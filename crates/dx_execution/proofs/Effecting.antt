@@ -8,7 +8,7 @@ use Rattle.dx_base.specs.declared.code.Code.{Code}
 use Rattle.dx_base.specs.Object as object
 use Rattle.dx_io.specs.Devices.{Grows, GrowsInto, Writes}
 use Rattle.dx_io.proofs.Growing.{grows_by_nothing, grows_on, grows_on_into}
-use Rattle.dx_macros.specs.declared.fault.StaticFault.{StaticFault}
+use Rattle.dx_signatures.specs.declared.fault.StaticFault.{StaticFault}
 use Rattle.dx_macros.specs.Checking as checking
 use Rattle.dx_macros.specs.Site.{Step, steps_text}
 use Rattle.dx_macros.specs.Tree.{CallTree}

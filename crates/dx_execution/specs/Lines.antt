@@ -5,8 +5,8 @@ use Rattle.dx_base.specs.declared.code.Code.{Code}
 use Rattle.dx_base.specs.declared.code.Code.TheVariants as code
 use Rattle.dx_base.specs.declared.code.NativeKind.{NativeKind}
 use Rattle.dx_base.specs.declared.code.NativeKind.TheVariants as native
-use Rattle.dx_macros.specs.declared.fault.StaticFault.{StaticFault}
-use Rattle.dx_macros.specs.declared.fault.StaticFault.TheVariants as fault
+use Rattle.dx_signatures.specs.declared.fault.StaticFault.{StaticFault}
+use Rattle.dx_signatures.specs.declared.fault.StaticFault.TheVariants as fault
 use Rattle.dx_macros.specs.Site.{Step, steps_text}
 
 -- an error of something that has a name, as a call or a file has

@@ -58,6 +58,7 @@ node_later ns more n node le h = record {
   enough = h.enough;
   few = h.few;
   cache = h.cache;
+  site = h.site;
 }
 
 node_by : (ns : List Node) (node : Node) (n : ℕ) → AreNodes ns → IsNode ns (length ns) node → (n < length ns) ⊎ (n ≡ length ns) → IsNode (ns ++ node ∷ []) n (node_at (ns ++ node ∷ []) n)

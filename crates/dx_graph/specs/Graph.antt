@@ -7,6 +7,7 @@ use Rattle.dx_ast.specs.Table.{row_of}
 use Rattle.dx_macros.specs.Site.{Spot, Nth}
 use Rattle.dx_macros.specs.Tree.{Place}
 use Rattle.dx_graph.specs.Trails.{no_steps}
+use Rattle.dx_graph.specs.Sites.{IsLawfulSite}
 use Rattle.dx_graph.specs.declared.node.Input.{Input}
 use Rattle.dx_graph.specs.declared.node.Input.TheVariants as input
 
@@ -51,12 +52,14 @@ abbrev pub MayTake : List Node → ℕ → Input → Type 0
 MayTake nodes n (input.Constant c) = ∥ IsLawfulConst c ∥₁
 MayTake nodes n (input.Result m result) = (m < n) × (result < (row_of (node_at nodes m).what).results)
 
--- a node can be number n: each named parameter has an input, and no more arguments follow than the function takes
+-- a node can be number n: each named parameter has an input, no more arguments follow than the function takes, and its
+-- site is one of a lawful script
 pub record IsNode (nodes : List Node) (n : ℕ) (node : Node) : Type 0 where
   pub inputs : All (MayTake nodes n) node.inputs
   pub enough : length (row_of node.what).params ≤ length node.inputs
   pub few : length node.inputs ≤ length (row_of node.what).params + (row_of node.what).more
   pub cache : node.place.cache ≤ 2
+  pub site : ∥ IsLawfulSite node.place.site ∥₁
 
 abbrev pub AreNodes : List Node → Type 0
 AreNodes nodes = (n : ℕ) → n < length nodes → IsNode nodes n (node_at nodes n)

@@ -1,11 +1,9 @@
 pub mod Earlier
 pub mod Trails
+pub mod Sites
 pub mod Graph
 pub mod Unfolding
 pub mod Walked
 pub mod Shown
 pub mod GraphView
 pub mod Operands
-pub mod Expanding
-pub mod Marks
-pub mod Driving

@@ -1,8 +1,9 @@
 //! Graphs of calls: what is asked of them, and how they grow.
-ghost use Rattle.std.specs.Prelude.{◌≡◌, ◌<◌, ◌^◌, ◌++◌, ◌∷◌, [], length, take, IfOk, OnOk, OnErr};
+ghost use Rattle.std.specs.Prelude.{◌≡◌, ◌<◌, ◌≤◌, ◌^◌, ◌++◌, ◌∷◌, [], length, take, IfOk, OnOk, OnErr};
 ghost use Rattle.dx_macros.specs.Site.{steps_text, Nth, Target};
 ghost use Rattle.dx_macros.specs.Expansion.{spot_of_call};
 ghost use Rattle.dx_graph.specs.Trails.{spot_under, IsTrail};
+ghost use Rattle.dx_graph.specs.Sites.{max_site_bytes};
 ghost use Rattle.dx_graph.specs.Graph.{no_nodes, node_of, node_at, with_node, with_effects, IsNode, IsEffectNode, IsGraph};
 ghost use Rattle.dx_graph.specs.Shown.{own, graph_with, ArePlaced};
 
@@ -11,11 +12,10 @@ use crate::trail::Trail;
 use crate::trails::{Trails, next_number};
 use dx_ast::name;
 use dx_base::{Bytes, Function};
-use dx_macros::{Step, site_text};
+use dx_macros::{SiteStep, site_text};
 use std::alloc::{AllocError, Global};
 
-/// A graph of calls. Nodes are numbered from 0, and a node takes results of earlier nodes alone. Outside this crate a graph
-/// is the expansion of a statement.
+/// A graph of calls. Nodes are numbered from 0, and a node takes results of earlier nodes alone.
 #[derive(Drop)]
 pub struct Graph {
     nodes: Vec<Placed>,
@@ -52,14 +52,16 @@ impl Graph {
         self.effects.as_slice()
     }
 
-    /// The text of the site of node number n: the steps that lead to the call, and its own, joined by `/`.
+    /// The text of the site of node number n: the steps that lead to the call, and its own, joined by `/`. At most 66
+    /// steps of a lawful name and a number each, so at most 18,282 bytes.
     pub fn site(&self, alloc: Global, n: u32) -> Result<Bytes, AllocError>
         requires { n < length (graph_of self.now).nodes }
-        ensures { IfOk result (λ text. text ≡ steps_text (node_at (graph_of self.now).nodes n).place.site) }
+        ensures text { IfOk result (λ text. text ≡ steps_text (node_at (graph_of self.now).nodes n).place.site) }
+        ensures bound { IfOk result (λ text. length text ≤ max_site_bytes) }
     {
         let placed = &self.nodes[n as usize];
         let mut steps = self.trails.base(alloc, placed.trail)?;
-        steps.push(Step::Nth(name(placed.called), placed.k))?;
+        steps.push(SiteStep::Nth(name(placed.called), placed.k))?;
         site_text(alloc, steps.as_slice())
     }
 
@@ -79,7 +81,7 @@ impl Graph {
     ghost use Rattle.dx_graph.specs.GraphView.{graph_of, spots_in};
 
     /// The graph without nodes and trails, which takes no memory.
-    pub(crate) fn new(alloc: Global) -> Graph
+    pub fn new(alloc: Global) -> Graph
         ensures graph { graph_of result ≡ no_nodes }
         ensures spots { spots_in result ≡ [] }
     {
@@ -91,7 +93,7 @@ impl Graph {
     }
 
     /// A trail at the end: the text of an assignment at the top level with this first target.
-    pub(crate) fn target(&mut self, alloc: Global, name: &[u8]) -> Result<u32, AllocError>
+    pub fn target(&mut self, alloc: Global, name: &[u8]) -> Result<u32, AllocError>
         ensures number { IfOk result (λ t. t ≡ length (spots_in self.old)) }
         ensures ok { OnOk result (spots_in self.new ≡ spots_in self.old ++ record { base = Target name.now ∷ []; path = [] } ∷ []) }
         ensures err { OnErr result (spots_in self.new ≡ spots_in self.old) }
@@ -102,7 +104,7 @@ impl Graph {
     }
 
     /// A trail at the end: the body of a macro of this name at its k-th call in the text of the trail `parent`.
-    pub(crate) fn step(
+    pub fn step(
         &mut self,
         alloc: Global,
         parent: Option<u32>,
@@ -120,7 +122,7 @@ impl Graph {
     }
 
     /// A node at the end, and its number: the k-th call of a function in the text of a trail.
-    pub(crate) fn call(
+    pub fn call(
         &mut self,
         called: Function,
         inputs: Inputs,
@@ -150,7 +152,7 @@ impl Graph {
     }
 
     /// Node number n is the next effect.
-    pub(crate) fn effect(&mut self, n: u32) -> Result<(), AllocError>
+    pub fn effect(&mut self, n: u32) -> Result<(), AllocError>
         requires { IsEffectNode (graph_of self.old).nodes n }
         ensures ok { OnOk result (graph_of self.new ≡ with_effects ((graph_of self.old).effects ++ n ∷ []) (graph_of self.old)) }
         ensures err { OnErr result (graph_of self.new ≡ graph_of self.old) }
@@ -161,7 +163,7 @@ impl Graph {
     }
 
     /// The effects behind the first `count` of them are effects no more; their nodes stay.
-    pub(crate) fn forget_effects(&mut self, count: usize)
+    pub fn forget_effects(&mut self, count: usize)
         ensures graph { graph_of self.new ≡ with_effects (take count (graph_of self.old).effects) (graph_of self.old) }
         ensures spots { spots_in self.new ≡ spots_in self.old }
     {

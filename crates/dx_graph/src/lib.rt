@@ -1,20 +1,18 @@
-//! The expansion of a statement: a graph of calls, in which what has a name stands once.
+//! Graphs of calls, in which what has a name stands once: nodes, the trails that lead to them, and how a graph grows.
 #![tactic(auto)]
 
-mod driver;
-mod expansion;
 mod given;
 mod graph;
 mod inputs;
 mod law;
 mod node;
 mod operand;
-mod own;
-mod text;
 mod trail;
 mod trails;
 
-pub use driver::{check_and_expand, expand};
+pub use given::{Given, param_operand};
 pub use graph::Graph;
-pub use law::nodes_unfold_by_inputs;
+pub use inputs::inputs_of;
+pub use law::{automatic_names_are_lawful, nodes_unfold_by_inputs};
 pub use node::{Input, Inputs, Node};
+pub use operand::{Operand, Results, frame_value};

@@ -5,7 +5,7 @@ ghost use Rattle.dx_graph.specs.Trails.{spots_of, spot_under, parent, IsTrail};
 ghost use Rattle.dx_graph.specs.Walked.{target_step};
 
 use crate::trail::Trail;
-use dx_macros::Step;
+use dx_macros::SiteStep;
 use std::alloc::{AllocError, Global};
 use std::marker::Model;
 
@@ -36,7 +36,7 @@ impl Model for Trails {
 #[derive(Drop)]
 struct Way<'a> {
     /// The calls of macros that lead to the text, the last one first.
-    steps: Vec<Step<'a>>,
+    steps: Vec<SiteStep<'a>>,
     /// The first target of the assignment at the top level where the way begins, if it begins at one.
     target: Option<&'a [u8]>,
 }
@@ -93,7 +93,7 @@ impl Trails {
                     });
                 }
                 Trail::Macro(parent, name, k) => {
-                    steps.push(Step::Nth(name.bytes(), *k))?;
+                    steps.push(SiteStep::Nth(name.bytes(), *k))?;
                     at = *parent;
                 }
             }
@@ -109,7 +109,7 @@ impl Trails {
         &'a self,
         alloc: Global,
         trail: Option<u32>,
-    ) -> Result<Vec<Step<'a>>, AllocError>
+    ) -> Result<Vec<SiteStep<'a>>, AllocError>
         requires { IsTrail (length self.now) trail }
         ensures { IfOk result (λ steps. plain_steps steps.items ≡ (spot_under (spots_of self.now) trail).base) }
     {
@@ -121,7 +121,7 @@ impl Trails {
                 Ok(steps)
             }
             Some(target) => {
-                steps.push(Step::Target(target))?;
+                steps.push(SiteStep::Target(target))?;
                 steps.reverse();
                 Ok(steps)
             }
@@ -133,7 +133,7 @@ impl Trails {
         &'a self,
         alloc: Global,
         trail: Option<u32>,
-    ) -> Result<Vec<Step<'a>>, AllocError>
+    ) -> Result<Vec<SiteStep<'a>>, AllocError>
         requires { IsTrail (length self.now) trail }
         ensures { IfOk result (λ steps. plain_steps steps.items ≡ (spot_under (spots_of self.now) trail).path) }
     {

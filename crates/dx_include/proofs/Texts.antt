@@ -8,8 +8,8 @@ use Rattle.dx_script_grammar.specs.Reading as reading
 use Rattle.dx_script_grammar.specs.Reading.{Outcome}
 use Rattle.dx_script_laws.proofs.Script as laws
 use Rattle.dx_script_laws.proofs.TokensStand.{script_read, is_script, first_error_read, is_first_error}
-use Rattle.dx_parser.specs.declared.fail.ParseFail.{ParseFail}
-use Rattle.dx_parser.specs.declared.fail.ParseFail.TheVariants.{Refused, Memory}
+use Rattle.dx_cursor.specs.declared.fail.ParseFail.{ParseFail}
+use Rattle.dx_cursor.specs.declared.fail.ParseFail.TheVariants.{Refused, Memory}
 use Rattle.dx_parser.specs.Answers.{OnRefused}
 use Rattle.dx_include.specs.Computed.{answer_of, parsed}
 use Rattle.dx_include.specs.Answers.{Parses}

@@ -3,8 +3,8 @@ use Rattle.std.specs.Prelude.{◌≡◌, ℕ, ◌≤◌, List, Option, Result, O
 use Rattle.dx_base.specs.declared.token.SyntaxError.{SyntaxError}
 use Rattle.dx_io.specs.Devices.{Grows, GrowsInto, Rose}
 use Rattle.dx_ast.specs.declared.statements.Stmt.{Stmt}
-use Rattle.dx_parser.specs.declared.fail.ParseFail.{ParseFail}
-use Rattle.dx_parser.specs.declared.fail.ParseFail.TheVariants as parse
+use Rattle.dx_cursor.specs.declared.fail.ParseFail.{ParseFail}
+use Rattle.dx_cursor.specs.declared.fail.ParseFail.TheVariants as parse
 use Rattle.dx_include.specs.declared.loaded.Loaded.{Loaded}
 use Rattle.dx_include.specs.declared.fail.LoadFail.{LoadFail}
 use Rattle.dx_include.specs.declared.fail.LoadFail.TheVariants as fail

@@ -2,4 +2,6 @@
 #![tactic(auto)]
 
 #[cfg(test)]
+mod words;
+#[cfg(test)]
 mod workload;

@@ -2,3 +2,4 @@ pub mod Denotes
 pub mod Getting
 pub mod Holding
 pub mod LinkMap
+pub mod Places

@@ -2,7 +2,6 @@
 ghost use Rattle.std.specs.Prelude.{◌≡◌, IfOk};
 
 use crate::key::Key;
-use dx_base::Items;
 use dx_objects::Object;
 use dx_tags::ValueTag;
 use std::alloc::AllocError;
@@ -71,6 +70,3 @@ pub struct Change {
     pub key: Key,
     pub held: Option<Held>,
 }
-
-/// The changes of one execution, in order.
-pub type Changes = Items<Change>;

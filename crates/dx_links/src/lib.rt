@@ -1,12 +1,15 @@
 //! Links: what scripts keep under names from one execution to the next.
 #![tactic(auto)]
 
+mod changes;
+mod gap;
 mod held;
 mod key;
 mod laws;
 mod links;
 
-pub use held::{Change, Changes, Held};
+pub use changes::Changes;
+pub use held::{Change, Held};
 pub use key::Key;
 pub use laws::links_are_a_map;
 pub use links::Links;

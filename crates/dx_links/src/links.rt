@@ -1,10 +1,12 @@
 // The links: a list in the order of the keys, which is searched by halving.
 
-ghost use Rattle.std.specs.Prelude.{◌≡◌, ◌<◌, ◌≤◌, ◌+◌, [], None, Some, length, MatchOption, OnOk, IfOk, slice_get, slice_set};
+ghost use Rattle.std.specs.Prelude.{◌≡◌, ◌<◌, ◌≤◌, [], None, Some, length, MatchOption, OnOk, IfOk, slice_get};
 ghost use Rattle.std.specs.List.Sorted.{IsBinarySearchResult, IsSearchInRange};
-ghost use Rattle.dx_links.specs.LinkMap.{held_at, put_at, after, tag_at, key_cmp};
+ghost use Rattle.dx_links.specs.LinkMap.{held_at, after, tag_at, key_cmp};
 
-use crate::held::{Change, Changes, Held};
+use crate::changes::Changes;
+use crate::gap::{close, make};
+use crate::held::Held;
 use crate::key::Key;
 use dx_tags::ValueTag;
 use std::alloc::{AllocError, Global};
@@ -16,10 +18,12 @@ use std::marker::Model;
 #[derive(Drop)]
 pub struct Links {
     links: Vec<(Key, Held)>,
+    // Empty but while changes are made, when the links above the key that is changed stand here, the last one first.
+    aside: Vec<(Key, Held)>,
 }
 
 impl Model for Links {
-    ghost use Rattle.std.specs.Prelude.{◌-◌, vec_len, vec_capacity};
+    ghost use Rattle.std.specs.Prelude.{◌≡◌, ◌-◌, [], min, vec_len, vec_capacity};
     ghost use Rattle.std.specs.Map.{keys_of};
     ghost use Rattle.std.specs.List.Sorted.{IsStrictlySortedBy};
     ghost use Rattle.dx_links.specs.LinkMap.{Linked, coded_linked, key_cmp};
@@ -28,9 +32,9 @@ impl Model for Links {
 
     ghost coded = { coded_linked };
 
-    ghost view = { λ a. record { links = a.links.items; room = vec_capacity a.links - vec_len a.links } };
+    ghost view = { λ a. record { links = a.links.items; room = min (vec_capacity a.links) (vec_capacity a.aside) - vec_len a.links } };
 
-    ghost invariant = { λ a. IsStrictlySortedBy key_cmp (keys_of a.links.items) };
+    ghost invariant = { λ a. IsStrictlySortedBy key_cmp (keys_of a.links.items) × (a.aside.items ≡ []) };
 }
 
 impl Links {
@@ -40,6 +44,7 @@ impl Links {
     {
         Links {
             links: Vec::new(alloc),
+            aside: Vec::new(alloc),
         }
     }
 
@@ -75,7 +80,9 @@ impl Links {
         ensures room { OnOk result (keys ≤ self.new.room) }
         ensures kept { self.old.room ≤ self.new.room }
     {
-        self.links.reserve(keys)
+        self.links.reserve(keys)?;
+        let places = self.links.capacity();
+        self.aside.reserve(places)
     }
 
     /// Gives another tag to the value at a place in the order of the keys.
@@ -87,15 +94,14 @@ impl Links {
         self.links[i].1.set_tag(tag);
     }
 
-    /// Makes the changes in their order, the last of one key counting. This takes no memory.
+    /// Makes the changes in their order, the last of one key counting. This takes no memory, and time of the number of
+    /// links and of that of the changes times its logarithm.
     pub fn commit(&mut self, changes: Changes)
         requires room { length changes ≤ self.old.room }
         ensures { self.new.links ≡ after self.old.links changes }
     {
-        for change in changes.into_vec() {
-            let Change { key, held } = change;
-            self.put(key, held);
-        }
+        make(&mut self.links, &mut self.aside, changes.into_sorted());
+        close(&mut self.links, &mut self.aside);
     }
 
     /// The same links in memory of their own, which share the values.
@@ -106,26 +112,10 @@ impl Links {
         for (key, held) in &self.links {
             links.push((Key::copy_of(alloc, key)?, held.share()?))?;
         }
-        Ok(Links { links })
-    }
-
-    // A key holds this from now on, or nothing any more.
-    fn put(&mut self, key: Key, held: Option<Held>)
-        requires room { 0 < self.old.room }
-        ensures links { self.new.links ≡ put_at self.old.links key held }
-        ensures room { self.old.room ≤ self.new.room + 1 }
-    {
-        match (place_of(&self.links, &key), held) {
-            (Ok(i), Some(held)) => self.links[i].1 = held,
-            (Err(i), Some(held)) => match self.links.insert(i, (key, held)) {
-                Ok(()) => {}
-                Err(_) => unreachable!(),
-            },
-            (Ok(i), None) => {
-                self.links.remove(i);
-            }
-            (Err(_), None) => {}
-        }
+        Ok(Links {
+            links,
+            aside: Vec::new(alloc),
+        })
     }
 }
 

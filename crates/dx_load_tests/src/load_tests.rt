@@ -1,131 +1,182 @@
 //! Loading over files in memory: statements, refusals with their files, and how often files are asked for.
 
-use dx_base::{Bytes, SyntaxKind};
+use crate::outcome::files;
+use dx_base::{Bytes, SyntaxError, SyntaxKind};
 use dx_include::{LoadFail, load};
 use dx_io::{CallNumbers, MemFiles, NamedBytes};
-use std::alloc::Global;
+use std::alloc::{AllocError, Global};
 use std::test::Fail;
 
-fn files(alloc: Global, texts: &[(&str, &str)]) -> Result<MemFiles, Fail> {
-    let mut pairs = Vec::new(alloc);
-    for (name, text) in texts {
-        let name = Bytes::copy_of(alloc, name.as_bytes())?;
-        let text = Bytes::copy_of(alloc, text.as_bytes())?;
-        let _ = pairs.push((name, text)).is_ok();
-    }
-    let fail = CallNumbers::from_vec(Vec::new(alloc));
-    Ok(MemFiles::new(alloc, NamedBytes::from_vec(pairs), fail))
+fn put(out: &mut Vec<u8>, text: &str) -> Result<(), AllocError> {
+    out.extend_from_slice(text.as_bytes())
 }
 
-// How many statements a loading of `s` has, or why it is refused and of which file.
-fn loaded(alloc: Global, files: &mut MemFiles) -> Result<String, Fail> {
-    let session = Bytes::copy_of(alloc, b"s")?;
-    let text = match load(alloc, files, &session) {
-        Ok(statements) => format!(in alloc; "{}", statements.len())?,
-        Err(LoadFail::Missing(name)) => format!(in alloc; "Missing {:?}", name.bytes())?,
-        Err(LoadFail::Nested(name)) => format!(in alloc; "Nested {:?}", name.bytes())?,
-        Err(LoadFail::TooLong(name)) => format!(in alloc; "TooLong {:?}", name.bytes())?,
-        Err(LoadFail::Syntax(name, e)) => {
-            format!(in alloc; "{:?} {:?} {}:{}", e.kind, name.bytes(), e.line, e.column)?
-        }
-        Err(LoadFail::ReadFault) => format!(in alloc; "ReadFault")?,
-        Err(LoadFail::Memory) => format!(in alloc; "Memory")?,
-    };
-    Ok(text)
+fn put_number(alloc: Global, out: &mut Vec<u8>, number: u64) -> Result<(), AllocError> {
+    let digits = format!(in alloc; "{number}")?;
+    put(out, digits.as_str())
 }
+
+fn put_named(out: &mut Vec<u8>, word: &str, name: &Bytes) -> Result<(), AllocError> {
+    put(out, word)?;
+    out.extend_from_slice(name.bytes())
+}
+
+fn word_of(kind: SyntaxKind) -> &'static str {
+    match kind {
+        SyntaxKind::Syntax => "Syntax ",
+        SyntaxKind::FloatNumber => "FloatNumber ",
+        SyntaxKind::NumberRange => "NumberRange ",
+        SyntaxKind::MixedList => "MixedList ",
+        SyntaxKind::ListTooLong => "ListTooLong ",
+    }
+}
+
+/// Writes `KIND NAME:LINE:COLUMN`.
+fn put_error(
+    alloc: Global,
+    out: &mut Vec<u8>,
+    name: &Bytes,
+    e: SyntaxError,
+) -> Result<(), AllocError> {
+    put_named(out, word_of(e.kind), name)?;
+    put(out, ":")?;
+    put_number(alloc, out, e.line)?;
+    put(out, ":")?;
+    put_number(alloc, out, e.column)
+}
+
+/// Writes how many statements a loading of `s` has, or why it is refused and of which file.
+fn put_loaded(alloc: Global, files: &mut MemFiles, out: &mut Vec<u8>) -> Result<(), AllocError> {
+    let session = Bytes::copy_of(alloc, b"s")?;
+    match load(alloc, files, &session) {
+        Ok(statements) => put_number(alloc, out, statements.len() as u64),
+        Err(LoadFail::Missing(name)) => put_named(out, "Missing ", &name),
+        Err(LoadFail::Nested(name)) => put_named(out, "Nested ", &name),
+        Err(LoadFail::TooLong(name)) => put_named(out, "TooLong ", &name),
+        Err(LoadFail::Syntax(name, e)) => put_error(alloc, out, &name, e),
+        Err(LoadFail::ReadFault) => put(out, "ReadFault"),
+        Err(LoadFail::Memory) => put(out, "Memory"),
+    }
+}
+
+/// A loading of `s` comes to this, and asks for so many files.
+fn is_loaded(
+    alloc: Global,
+    files: &mut MemFiles,
+    want: &str,
+    reads: usize,
+) -> Result<bool, AllocError> {
+    let mut out = Vec::new(alloc);
+    put_loaded(alloc, files, &mut out)?;
+    Ok(out.as_slice() == want.as_bytes() && files.asked().len() == reads)
+}
+
+/// The same where this is the text of `s`, beside some files that it may include.
+fn is_session_loaded(
+    alloc: Global,
+    session: &str,
+    want: &str,
+    reads: usize,
+) -> Result<bool, AllocError> {
+    let texts = [
+        ("s", session),
+        ("a", "z = 3;"),
+        ("b", "include \"a\" q = 4;"),
+        ("bad", "r = 1.5;"),
+        ("me", "include \"me\""),
+    ];
+    let mut files = files(alloc, &texts, 0)?;
+    is_loaded(alloc, &mut files, want, reads)
+}
+
+const SESSIONS: [(&str, &str, usize); 8] = [
+    ("x = 1; y = 2;", "2", 1),
+    ("include \"a\" x = 1; include \"a\"", "3", 3),
+    ("include \"b\"", "2", 3),
+    ("x = 1; include \"none\" y =;", "Syntax s:1:26", 1),
+    ("include \"a\" include \"none\"", "Missing none", 3),
+    ("include \"bad\" include \"none\"", "FloatNumber bad:1:5", 2),
+    ("include \"me\"", "Nested me", 16),
+    ("x = {1 \"a\"};", "MixedList s:1:8", 1),
+];
 
 #[test]
 fn includes_are_replaced_in_order(rt: HostRuntime) -> Result<(), Fail> {
-    let alloc = rt.alloc();
-    for (session, want, reads) in [
-        ("x = 1; y = 2;", "2", 1),
-        ("include \"a\" x = 1; include \"a\"", "3", 3),
-        ("include \"b\"", "2", 3),
-        ("x = 1; include \"none\" y =;", "Syntax [115] 1:26", 1),
-        (
-            "include \"a\" include \"none\"",
-            "Missing [110, 111, 110, 101]",
-            3,
-        ),
-        (
-            "include \"bad\" include \"none\"",
-            "FloatNumber [98, 97, 100] 1:5",
-            2,
-        ),
-        ("include \"me\"", "Nested [109, 101]", 16),
-    ] {
-        let mut files = files(
-            alloc,
-            &[
-                ("s", session),
-                ("a", "z = 3;"),
-                ("b", "include \"a\" q = 4;"),
-                ("bad", "r = 1.5;"),
-                ("me", "include \"me\""),
-            ],
-        )?;
-        let got = loaded(alloc, &mut files)?;
-        assert!(rt; got.as_str() == want, "at {session}");
-        assert!(rt; files.asked().len() == reads, "at {session}");
+    for row in &SESSIONS {
+        if !is_session_loaded(rt.alloc(), row.0, row.1, row.2)? {
+            return Err(Fail::from(row.0));
+        }
     }
     Ok(())
+}
+
+type Pairs = Vec<(Bytes, Bytes)>;
+
+fn put_file(
+    alloc: Global,
+    pairs: &mut Pairs,
+    name: &[u8],
+    text: Vec<u8>,
+) -> Result<(), AllocError> {
+    let pair = (Bytes::copy_of(alloc, name)?, Bytes::from_vec(text));
+    let _ = pairs.push(pair).is_ok();
+    Ok(())
+}
+
+fn in_memory(alloc: Global, pairs: Pairs) -> MemFiles {
+    MemFiles::new(
+        alloc,
+        NamedBytes::from_vec(pairs),
+        CallNumbers::from_vec(Vec::new(alloc)),
+    )
+}
+
+/// The names of files, each of which includes the next one.
+const NAMES: &[u8; 18] = b"sbcdefghijklmnopqr";
+
+/// Files of so many levels; that of the last level has one statement.
+fn levels(alloc: Global, count: usize) -> Result<Pairs, AllocError> {
+    let mut pairs = Vec::new(alloc);
+    for i in 0..17 {
+        let mut text = Vec::new(alloc);
+        if i + 1 < count {
+            put(&mut text, "include \"")?;
+            text.push(NAMES[i + 1])?;
+            put(&mut text, "\"")?;
+        } else {
+            put(&mut text, "x = 1;")?;
+        }
+        put_file(alloc, &mut pairs, &NAMES[i..i + 1], text)?;
+    }
+    Ok(pairs)
 }
 
 #[test]
 fn sixteen_levels_are_loaded_and_no_more(rt: HostRuntime) -> Result<(), Fail> {
     let alloc = rt.alloc();
-    // s includes b, b includes c, and so on; the file of the last level has one statement.
-    let names = [
-        "s", "b", "c", "d", "e", "f", "g", "h", "i", "j", "k", "l", "m", "n", "o", "p", "q", "r",
-    ];
-    for (levels, want) in [(16, "1"), (17, "Nested [113]")] {
-        let mut pairs = Vec::new(alloc);
-        for (i, name) in names.iter().enumerate() {
-            let text = if i + 1 < levels && i + 1 < names.len() {
-                format!(in alloc; "include \"{}\"", names[i + 1])?
-            } else {
-                format!(in alloc; "x = 1;")?
-            };
-            let name = Bytes::copy_of(alloc, name.as_bytes())?;
-            let _ = pairs
-                .push((name, Bytes::copy_of(alloc, text.as_bytes())?))
-                .is_ok();
-        }
-        let fail = CallNumbers::from_vec(Vec::new(alloc));
-        let mut files = MemFiles::new(alloc, NamedBytes::from_vec(pairs), fail);
-        let got = loaded(alloc, &mut files)?;
-        assert!(rt; got.as_str() == want);
-        assert!(rt; files.asked().len() == 16);
-    }
+    let mut sixteen = in_memory(alloc, levels(alloc, 16)?);
+    assert!(rt; is_loaded(alloc, &mut sixteen, "1", 16)?);
+    let mut seventeen = in_memory(alloc, levels(alloc, 17)?);
+    assert!(rt; is_loaded(alloc, &mut seventeen, "Nested q", 16)?);
     Ok(())
+}
+
+/// The session's own 24 bytes, and those of an included file twice.
+fn twice(alloc: Global, len: usize) -> Result<MemFiles, AllocError> {
+    let mut pairs = Vec::new(alloc);
+    let mut session = Vec::new(alloc);
+    put(&mut session, "include \"a\" include \"a\" ")?;
+    put_file(alloc, &mut pairs, b"s", session)?;
+    put_file(alloc, &mut pairs, b"a", vec![in alloc; b' '; len]?)?;
+    Ok(in_memory(alloc, pairs))
 }
 
 #[test]
 fn all_files_together_have_a_limit(rt: HostRuntime) -> Result<(), Fail> {
     let alloc = rt.alloc();
-    // The session's own 24 bytes, and those of an included file twice.
-    for (len, want) in [(8_388_596, "0"), (8_388_597, "TooLong [97]")] {
-        let mut pairs = Vec::new(alloc);
-        let session = Bytes::copy_of(alloc, b"include \"a\" include \"a\" ")?;
-        let _ = pairs.push((Bytes::copy_of(alloc, b"s")?, session)).is_ok();
-        let blank = Bytes::from_vec(vec![in alloc; b' '; len]?);
-        let _ = pairs.push((Bytes::copy_of(alloc, b"a")?, blank)).is_ok();
-        let fail = CallNumbers::from_vec(Vec::new(alloc));
-        let mut files = MemFiles::new(alloc, NamedBytes::from_vec(pairs), fail);
-        let got = loaded(alloc, &mut files)?;
-        assert!(rt; got.as_str() == want, "at {len}");
-    }
-    Ok(())
-}
-
-#[test]
-fn kinds_of_errors_are_handed_on(rt: HostRuntime) -> Result<(), Fail> {
-    let alloc = rt.alloc();
-    let mut files = files(alloc, &[("s", "x = {1 \"a\"};")])?;
-    let session = Bytes::copy_of(alloc, b"s")?;
-    match load(alloc, &mut files, &session) {
-        Err(LoadFail::Syntax(_, e)) => assert!(rt; e.kind == SyntaxKind::MixedList),
-        _ => assert!(rt; false, "an error was due"),
-    }
+    let mut all = twice(alloc, 8_388_596)?;
+    assert!(rt; is_loaded(alloc, &mut all, "0", 3)?);
+    let mut more = twice(alloc, 8_388_597)?;
+    assert!(rt; is_loaded(alloc, &mut more, "TooLong a", 3)?);
     Ok(())
 }

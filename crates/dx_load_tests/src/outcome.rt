@@ -2,11 +2,11 @@
 use dx_base::Bytes;
 use dx_io::{CallNumbers, MemFiles, MemSink, NamedBytes};
 use dx_session::run_dxi;
-use std::alloc::Global;
+use std::alloc::{AllocError, Global};
 use std::test::Fail;
 
 // Files with these names and texts, one of whose reads fails where its number isn't 0.
-fn files(alloc: Global, texts: &[(&str, &str)], fail: u64) -> Result<MemFiles, Fail> {
+pub fn files(alloc: Global, texts: &[(&str, &str)], fail: u64) -> Result<MemFiles, AllocError> {
     let mut pairs = Vec::new(alloc);
     for (name, text) in texts {
         let name = Bytes::copy_of(alloc, name.as_bytes())?;

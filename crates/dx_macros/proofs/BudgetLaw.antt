@@ -6,15 +6,18 @@ use Rattle.dx_ast.specs.declared.sequencing.Frames.{Frames}
 use Rattle.dx_ast.specs.declared.statements.Param.{Param}
 use Rattle.dx_ast.specs.Classes.{Text}
 use Rattle.dx_ast.specs.Syntax.{Expr, Constant, Name, Frame, CallOf, Call, MakeCall, Args, NoArg, AndArg, Stmt, Assigns, Calls, Defines, Includes, Sets, Says, Sequences, Macro, MakeMacro, Stmts, NoStmt, AndStmt}
-use Rattle.dx_macros.specs.declared.fault.StaticFault.{StaticFault}
-use Rattle.dx_macros.specs.declared.fault.StaticFault.TheVariants as fault
+use Rattle.dx_signatures.specs.declared.fault.StaticFault.{StaticFault}
+use Rattle.dx_signatures.specs.declared.fault.StaticFault.TheVariants as fault
 use Rattle.dx_macros.specs.Site.{Step, Spot, next_step, first_target}
 use Rattle.dx_base.specs.NameLists.{has}
 use Rattle.dx_macros.specs.Names.{calls_in, calls_after, names_after}
 use Rattle.dx_macros.specs.Tree.{Tree}
-use Rattle.dx_macros.specs.Dictionary.{TopText, top_text, Macros, Dictionary, Callee, Unknown, CallsMacro, CallsFunction, callee, definition, param_names, signature_of_macro}
+use Rattle.dx_macros.specs.Dictionary.{top_text, Macros, Dictionary, callee}
+use Rattle.dx_definitions.specs.TopTexts.{TopText, definition}
+use Rattle.dx_signatures.specs.Callees.{Callee, Unknown, CallsMacro, CallsFunction, param_names, signature_of_macro}
 use Rattle.dx_macros.specs.Expansion.{Scope, Given, ArgsExpanded, Expanded, Under, with_name, assigned, with_params, given_for, or_tree, default_tree, plainly, call_expanded, spot_of_call, expand_expr, expand_call, expand_args, expand_statement, scope_after, expand_body, before_body, results_in, enter_macro, under_top, expand_within, scope_within, kept_of, effects_among, top_spot}
-use Rattle.dx_macros.specs.Walk.{Walk, Walked, Goes, Faulty, and_then, fault_of_call, fault_of_signature, or_nesting, walked_by, arg_names, WalkUnder, Reader, enter_callee, walk_expr, walk_call, walk_args, walk_statement, walk_body, read_all, beside, pick, walk_macro, walk_at_top, walk_text, read_definition, reader_at, walk_begins, walk_of, fault_in, fault_of_text}
+use Rattle.dx_macros.specs.Walk.{Walk, Walked, Goes, Faulty, and_then, walked_by, WalkUnder, Reader, enter_callee, walk_expr, walk_call, walk_args, walk_statement, walk_body, read_all, beside, pick, walk_macro, walk_at_top, walk_text, read_definition, reader_at, walk_begins, walk_of, fault_in, fault_of_text}
+use Rattle.dx_signatures.specs.Faults.{fault_of_call, fault_of_signature, or_nesting, arg_names}
 use Rattle.dx_macros.specs.Budget.{more, BudgetSuffices}
 
 fun_eq : {A B : Type 0} (f g : A → B) → ((a : A) → f a ≡ g a) → f ≡ g

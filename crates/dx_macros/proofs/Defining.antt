@@ -13,8 +13,10 @@ use Rattle.dx_ast.specs.Classes.{Text}
 use Rattle.dx_ast.specs.Lawful.{IsLawfulMacro}
 use Rattle.dx_ast.specs.Plain.{plain_macro}
 use Rattle.dx_ast.proofs.PlainLaws.{plain_macro_out}
-use Rattle.dx_macros.specs.Dictionary.{Macros, macro_name, with_macro, definition}
-use Rattle.dx_macros.specs.Shown.{text_of, IsLawfulDefinition, AreLawfulDefinitions, AreLawfulMacros}
+use Rattle.dx_macros.specs.Dictionary.{Macros, macro_name, with_macro}
+use Rattle.dx_definitions.specs.TopTexts.{definition}
+use Rattle.dx_macros.specs.Shown.{IsLawfulDefinition, AreLawfulDefinitions, AreLawfulMacros}
+use Rattle.dx_definitions.specs.Index.{text_of}
 
 -- ---- definitions
 
@@ -26,11 +28,6 @@ pub lawful_push : {A E : Type 0} (r : Result A E) (old new : List Assign) (a : A
     OnOk r (new ≡ old ++ a ∷ []) → OnErr r (new ≡ old) → AreLawfulDefinitions new
 lawful_push (Ok x) old new a all h ok err = subst AreLawfulDefinitions (sym ok) (All-append IsLawfulDefinition old (a ∷ []) all (one_lawful a h))
 lawful_push (Err x) old new a all h ok err = subst AreLawfulDefinitions (sym err) all
-
-pub definition_at : (definitions : List Assign) (i : ℕ) (a : Assign) → i < length definitions → a ≡ get_or definitions i a → definition (map text_of definitions) i ≡ text_of a
-definition_at [] i a h e = absurd (omega arith)
-definition_at (b ∷ rest) zero a h e = ap text_of (sym e)
-definition_at (b ∷ rest) (suc i) a h e = definition_at rest i a (omega arith) e
 
 -- ---- macros
 

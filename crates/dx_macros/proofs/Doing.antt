@@ -5,12 +5,15 @@ use Rattle.dx_ast.specs.Syntax as plain
 use Rattle.dx_ast.specs.Classes.{Text}
 use Rattle.dx_ast.specs.Syntax.{MakeCall, Args}
 use Rattle.dx_ast.specs.declared.statements.Param.{Param}
-use Rattle.dx_macros.specs.declared.fault.StaticFault.{StaticFault}
-use Rattle.dx_macros.specs.declared.fault.StaticFault.TheVariants as fault
+use Rattle.dx_signatures.specs.declared.fault.StaticFault.{StaticFault}
+use Rattle.dx_signatures.specs.declared.fault.StaticFault.TheVariants as fault
 use Rattle.dx_macros.specs.Site.{Step, Nth, next_step, first_target}
 use Rattle.dx_base.specs.NameLists.{count}
-use Rattle.dx_macros.specs.Dictionary.{Dictionary, TopText, top_text, param_names, Callee, Unknown, CallsMacro, CallsFunction, callee, definition}
-use Rattle.dx_macros.specs.Walk.{Walk, Walked, Goes, Faulty, and_then, fault_of_call, arg_names, fault_in, walk_of, walk_begins, read_in}
+use Rattle.dx_macros.specs.Dictionary.{Dictionary, top_text, callee}
+use Rattle.dx_definitions.specs.TopTexts.{TopText, definition}
+use Rattle.dx_signatures.specs.Callees.{param_names, Callee, Unknown, CallsMacro, CallsFunction}
+use Rattle.dx_macros.specs.Walk.{Walk, Walked, Goes, Faulty, and_then, fault_in, walk_of, walk_begins, read_in}
+use Rattle.dx_signatures.specs.Faults.{fault_of_call, arg_names}
 use Rattle.dx_ast.specs.declared.expressions.Arg.{Arg}
 use Rattle.dx_ast.specs.declared.expressions.Call.{Call, out-Call}
 use Rattle.dx_ast.specs.declared.statements.Assign.{Assign}
@@ -25,7 +28,7 @@ use Rattle.dx_ast.specs.declared.statements.MacroDef.{MacroDef, out-MacroDef}
 use Rattle.dx_macros.specs.declared.machine.Activation.{Activation}
 use Rattle.dx_ast.proofs.PlainLaws.{plain_call_out, stmt_layer, plain_stmt_out, plain_macro_out}
 use Rattle.dx_base.specs.Places.{Marks, flags}
-use Rattle.dx_macros.specs.Shown.{text_of}
+use Rattle.dx_definitions.specs.Index.{text_of}
 use Rattle.dx_macros.specs.Machine as m
 use Rattle.dx_macros.specs.declared.machine.Job.{Job}
 use Rattle.dx_macros.specs.declared.machine.Machine.{Machine}

@@ -10,11 +10,12 @@ use Rattle.dx_ast.specs.declared.sequencing.Frames.{Frames}
 use Rattle.dx_ast.specs.declared.statements.Param.{Param}
 use Rattle.dx_ast.specs.Classes.{Text}
 use Rattle.dx_ast.specs.Syntax.{Expr, Constant, Name, Frame, CallOf, Call, MakeCall, Args, NoArg, AndArg, Stmt, Assigns, Calls, Sequences, Macro, MakeMacro, Stmts, NoStmt, AndStmt}
-use Rattle.dx_macros.specs.declared.fault.StaticFault.{StaticFault}
-use Rattle.dx_macros.specs.declared.fault.StaticFault.TheVariants as fault
+use Rattle.dx_signatures.specs.declared.fault.StaticFault.{StaticFault}
+use Rattle.dx_signatures.specs.declared.fault.StaticFault.TheVariants as fault
 use Rattle.dx_macros.specs.Site.{Step, Nth, Target, steps_text}
 use Rattle.dx_macros.specs.Tree.{ConstantTree, CallTree, TreeCall, Trees, NoTree, AndTree}
-use Rattle.dx_macros.specs.Dictionary.{TopText, Macros, Dictionary, no_macros, with_macro}
+use Rattle.dx_macros.specs.Dictionary.{Macros, Dictionary, no_macros, with_macro}
+use Rattle.dx_definitions.specs.TopTexts.{TopText}
 use Rattle.dx_macros.specs.Expansion.{effects, null_tree}
 use Rattle.dx_macros.specs.Walk.{Fault, first_fault}
 

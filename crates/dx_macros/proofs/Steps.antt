@@ -5,12 +5,15 @@ use Rattle.dx_base.specs.declared.function.Function.{Function}
 use Rattle.dx_ast.specs.Classes.{Text}
 use Rattle.dx_ast.specs.Syntax.{Expr, Call, MakeCall, Args, AndArg, Assigns, Calls, Macro, MakeMacro, Stmts, AndStmt}
 use Rattle.dx_ast.specs.declared.statements.Param.{Param}
-use Rattle.dx_macros.specs.declared.fault.StaticFault.{StaticFault}
+use Rattle.dx_signatures.specs.declared.fault.StaticFault.{StaticFault}
 use Rattle.dx_macros.specs.Site.{Step, first_target, next_step}
 use Rattle.dx_base.specs.NameLists.{has}
 use Rattle.dx_macros.specs.Names.{calls_in, calls_in_args}
-use Rattle.dx_macros.specs.Dictionary.{Dictionary, TopText, Macros, definition, last_named, param_names, CallsMacro, CallsFunction, callee}
-use Rattle.dx_macros.specs.Walk.{Walk, Walked, Goes, Faulty, and_then, reader_at, walk_macro, walk_call, walk_expr, walk_args, pick, read_definition, fault_of_call, arg_names}
+use Rattle.dx_macros.specs.Dictionary.{Dictionary, Macros, callee}
+use Rattle.dx_definitions.specs.TopTexts.{TopText, definition, last_named}
+use Rattle.dx_signatures.specs.Callees.{param_names, CallsMacro, CallsFunction}
+use Rattle.dx_macros.specs.Walk.{Walk, Walked, Goes, Faulty, and_then, reader_at, walk_macro, walk_call, walk_expr, walk_args, pick, read_definition}
+use Rattle.dx_signatures.specs.Faults.{fault_of_call, arg_names}
 use Rattle.dx_macros.specs.Machine.{Stack, Job, ExprJob, CallJob, ArgsJob, EnterJob, BodyJob, OwnJob, NamesJob, LeaveJob, top_reader, reads, under, met, with_active, entered, Rest, do_job, jobs_above, in_macro, at_top}
 
 pub jobs_push : (d : Dictionary) (k : Rest) (js : List Job) (j : Job) → jobs_above d k (js ++ j ∷ []) ≡ do_job d j (jobs_above d k js)

@@ -12,9 +12,11 @@ use Rattle.dx_base.specs.declared.function.Function.{Function}
 use Rattle.dx_ast.specs.Table.{function_named}
 use Rattle.dx_ast.specs.Plain.{plain_macro}
 use Rattle.dx_ast.specs.Syntax as plain
-use Rattle.dx_macros.specs.Dictionary.{Dictionary, definition, Callee, callee, callee_by}
+use Rattle.dx_macros.specs.Dictionary.{Dictionary, callee}
+use Rattle.dx_definitions.specs.TopTexts.{definition}
+use Rattle.dx_signatures.specs.Callees.{Callee, callee_by}
 use Rattle.dx_macros.specs.DictionaryView.{dictionary_of}
-use Rattle.dx_macros.specs.Shown.{text_of}
+use Rattle.dx_definitions.specs.Index.{text_of}
 use Rattle.dx_base.specs.Places.{Marks, flags}
 use Rattle.dx_macros.specs.Machine as m
 use Rattle.dx_macros.specs.MachineView.{plain_job, IsPushed, PushesJob, IsEntered, IsCounted, IsLeft}

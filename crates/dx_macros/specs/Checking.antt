@@ -3,7 +3,7 @@ use Rattle.std.specs.Prelude.{◌≡◌, Option, Some, None, option_map, Result,
 use Rattle.dx_ast.specs.Classes.{Text}
 use Rattle.dx_macros.specs.Site.{steps_text}
 use Rattle.dx_macros.specs.Walk.{Fault}
-use Rattle.dx_macros.specs.declared.fault.StaticFault.{StaticFault}
+use Rattle.dx_signatures.specs.declared.fault.StaticFault.{StaticFault}
 use Rattle.dx_macros.specs.declared.fault.CheckFail.{CheckFail}
 use Rattle.dx_macros.specs.declared.fault.CheckFail.TheVariants as fail
 

@@ -1,19 +1,11 @@
 -- The dictionary: macros by their names, and the definitions of the top level in order.
-use Rattle.std.specs.Prelude.{ℕ, zero, suc, List, [], ◌∷◌, ◌++◌, Option, Some, None, length, map, if◌then◌else◌}
-use Rattle.dx_base.specs.declared.function.Function.{Function}
+use Rattle.std.specs.Prelude.{List, [], ◌∷◌, ◌++◌, Option, Some, None}
 use Rattle.dx_base.specs.NameTable.{changed_at}
-use Rattle.dx_ast.specs.declared.constants.Const.TheVariants as const
-use Rattle.dx_ast.specs.declared.statements.Param.{Param}
 use Rattle.dx_ast.specs.Classes.{Text}
-use Rattle.dx_ast.specs.Values.{param_name}
-use Rattle.dx_ast.specs.Table.{function_named, row_of}
-use Rattle.dx_base.specs.NameLists.{has}
-use Rattle.dx_ast.specs.Syntax.{Expr, Constant, CallOf, Call, Stmt, Assigns, Calls, Sequences, Macro, MakeMacro}
-
--- a text at the top level: an assignment with its targets, or a call, which has none
-pub record TopText : Type 0 where
-  pub targets : List Text
-  pub value : Expr
+use Rattle.dx_ast.specs.Table.{function_named}
+use Rattle.dx_ast.specs.Syntax.{CallOf, Call, Stmt, Assigns, Calls, Sequences, Macro, MakeMacro}
+use Rattle.dx_definitions.specs.TopTexts.{TopText}
+use Rattle.dx_signatures.specs.Callees.{Callee, callee_by}
 
 abbrev pub of_call : Call → TopText
 of_call c = record { targets = []; value = CallOf c }
@@ -60,50 +52,7 @@ defining m d = record { macros = with_macro m d.macros; definitions = d.definiti
 abbrev pub with_definition : TopText → Dictionary → Dictionary
 with_definition t d = record { macros = d.macros; definitions = d.definitions ++ t ∷ [] }
 
-abbrev pub no_text : TopText
-no_text = record { targets = []; value = Constant const.Null }
-
--- definition number i
-abbrev pub definition : List TopText → ℕ → TopText
-definition [] i = no_text
-definition (t ∷ later) zero = t
-definition (t ∷ later) (suc i) = definition later i
-
--- the last definition of a name before a place
-abbrev pub last_named : List TopText → ℕ → Text → Option ℕ
-last_named definitions zero n = None
-last_named definitions (suc i) n = if has (definition definitions i).targets n then Some i else last_named definitions i n
-
 -- ---- what the name of a call means
-
--- a macro hides a function of its name
-pub data Callee : Type 0 where
-  Unknown : Callee
-  CallsMacro : Macro → Callee
-  CallsFunction : Function → Callee
-
-abbrev pub function_callee : Option Function → Callee
-function_callee None = Unknown
-function_callee (Some f) = CallsFunction f
-
-abbrev pub callee_by : Option Macro → Option Function → Callee
-callee_by (Some m) f = CallsMacro m
-callee_by None f = function_callee f
 
 abbrev pub callee : Macros → Text → Callee
 callee macros name = callee_by (macros name) (function_named name)
-
--- the named parameters, how many further arguments may follow, and how many results there are
-pub record Signature : Type 0 where
-  pub named : List Text
-  pub more : ℕ
-  pub results : ℕ
-
-abbrev pub signature_of_function : Function → Signature
-signature_of_function f = record { named = (row_of f).params; more = (row_of f).more; results = (row_of f).results }
-
-abbrev pub param_names : List Param → List Text
-param_names params = map param_name params
-
-abbrev pub signature_of_macro : Macro → Signature
-signature_of_macro (MakeMacro name params results body) = record { named = param_names params; more = 0; results = length results }

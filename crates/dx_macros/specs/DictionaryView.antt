@@ -3,7 +3,7 @@ use Rattle.std.specs.Prelude.{ℕ, map, option_map}
 use Rattle.dx_base.specs.NameTable.{under_name}
 use Rattle.dx_ast.specs.Plain.{plain_macro}
 use Rattle.dx_macros.specs.Dictionary as plain
-use Rattle.dx_macros.specs.Shown.{text_of}
+use Rattle.dx_definitions.specs.Index.{text_of}
 use Rattle.dx_macros.specs.declared.dictionary.Dictionary.{Dictionary}
 
 abbrev pub dictionary_of : Dictionary → plain.Dictionary

@@ -17,7 +17,9 @@ use Rattle.dx_ast.specs.Limits.{max_macro_steps}
 use Rattle.dx_macros.specs.Names.{calls_in, calls_after}
 use Rattle.dx_macros.specs.Site.{Step, Spot, next_step, first_target}
 use Rattle.dx_macros.specs.Tree.{Place, Tree, ConstantTree, ResultTree, CallTree, TreeCall, Trees, NoTree, AndTree}
-use Rattle.dx_macros.specs.Dictionary.{TopText, top_text, Macros, Dictionary, definition, Callee, Unknown, CallsMacro, CallsFunction, callee}
+use Rattle.dx_macros.specs.Dictionary.{top_text, Macros, Dictionary, callee}
+use Rattle.dx_definitions.specs.TopTexts.{TopText, definition}
+use Rattle.dx_signatures.specs.Callees.{Callee, Unknown, CallsMacro, CallsFunction}
 
 abbrev pub frame_value : Frames → FrameVar → ℤ
 frame_value f frame.Start = f.start

@@ -7,12 +7,10 @@ pub mod Expansion
 pub mod Walk
 pub mod Budget
 pub mod Shown
-pub mod Held
 pub mod Steps
 pub mod Machine
 pub mod DictionaryView
 pub mod MachineView
-pub mod CalleeView
 pub mod Checking
 pub mod Weight
 pub mod Bound

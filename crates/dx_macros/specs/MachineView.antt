@@ -3,9 +3,11 @@ use Rattle.std.specs.Prelude.{◌≡◌, ℕ, suc, length, true, slice_set, List
 use Rattle.dx_ast.specs.Classes.{Text}
 use Rattle.dx_ast.specs.Plain.{plain_expr, plain_call, plain_args, plain_macro, plain_stmts}
 use Rattle.dx_ast.specs.Syntax.{Args}
-use Rattle.dx_macros.specs.declared.fault.StaticFault.{StaticFault}
+use Rattle.dx_signatures.specs.declared.fault.StaticFault.{StaticFault}
 use Rattle.dx_macros.specs.Site as site
-use Rattle.dx_macros.specs.Dictionary.{Dictionary, Callee, CallsMacro, definition, param_names}
+use Rattle.dx_macros.specs.Dictionary.{Dictionary}
+use Rattle.dx_signatures.specs.Callees.{Callee, CallsMacro, param_names}
+use Rattle.dx_definitions.specs.TopTexts.{definition}
 use Rattle.dx_macros.specs.Walk.{Walk, Walked, Goes, Faulty, and_then, Fault}
 use Rattle.dx_base.specs.Places.{Marks, flags}
 use Rattle.dx_macros.specs.Machine as m

@@ -4,7 +4,9 @@ use Rattle.std.specs.Prelude.{◌≡◌, ℕ, suc, ◌+◌, ◌-◌, ◌*◌, �
 use Rattle.dx_ast.specs.Classes.{Text}
 use Rattle.dx_ast.specs.Syntax.{Expr, Constant, Name, Frame, CallOf, Call, MakeCall, Args, NoArg, AndArg, Stmt, Assigns, Calls, Macro, MakeMacro, Stmts, NoStmt, AndStmt}
 use Rattle.dx_ast.specs.Limits.{max_walk_calls}
-use Rattle.dx_macros.specs.Dictionary.{Dictionary, definition, Callee, Unknown, CallsMacro, CallsFunction}
+use Rattle.dx_macros.specs.Dictionary.{Dictionary}
+use Rattle.dx_definitions.specs.TopTexts.{definition}
+use Rattle.dx_signatures.specs.Callees.{Callee, Unknown, CallsMacro, CallsFunction}
 use Rattle.dx_macros.specs.Machine.{Job, ExprJob, CallJob, ArgsJob, EnterJob, BodyJob, OwnJob, NamesJob, LeaveJob}
 use Rattle.dx_macros.specs.MachineView.{plain_job}
 use Rattle.dx_base.specs.Places.{flags}

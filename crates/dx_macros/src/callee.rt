@@ -2,19 +2,11 @@
 ghost use Rattle.std.specs.Prelude.{◌≡◌};
 ghost use Rattle.dx_macros.specs.Dictionary.{callee};
 ghost use Rattle.dx_macros.specs.DictionaryView.{dictionary_of};
-ghost use Rattle.dx_macros.specs.CalleeView.{plain_callee};
+ghost use Rattle.dx_signatures.specs.CalleeView.{plain_callee};
 
 use crate::dictionary::Dictionary;
-use dx_ast::{MacroDef, function};
-use dx_base::Function;
-
-/// What the name of a call means.
-#[derive(Clone, Copy)]
-pub enum Callee<'a> {
-    Unknown,
-    Macro(&'a MacroDef),
-    Function(Function),
-}
+use dx_ast::function;
+use dx_signatures::Callee;
 
 /// What the name of a call means: the macro of that name, or else the function, or else nothing.
 pub fn called<'a>(d: &'a Dictionary, name: &[u8]) -> Callee<'a>

@@ -7,7 +7,7 @@ ghost use Rattle.dx_macros.specs.DictionaryView.{dictionary_of};
 ghost use Rattle.dx_macros.specs.Machine.{do_job, at_end, alone};
 ghost use Rattle.dx_macros.specs.MachineView.{plain_activation, plain_job, means, Ends, Finds};
 ghost use Rattle.dx_base.specs.Places.{flags};
-ghost use Rattle.dx_macros.specs.Shown.{text_of};
+ghost use Rattle.dx_definitions.specs.Index.{text_of};
 ghost use Rattle.dx_macros.specs.Walk.{walk_of, walk_begins, fault_in, first_fault, read_in, definitions_read};
 ghost use Rattle.dx_macros.specs.Weight.{IsFit};
 ghost use Rattle.dx_macros.specs.Checking.{Checks};

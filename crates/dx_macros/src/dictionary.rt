@@ -2,11 +2,13 @@
 ghost use Rattle.std.specs.Prelude.{◌≡◌, ◌<◌, length, OnOk, OnErr, option_map, IfSome, IsOk};
 ghost use Rattle.dx_ast.specs.Lawful.{IsLawfulMacro, IsLawfulAssign};
 ghost use Rattle.dx_ast.specs.Plain.{plain_macro, plain_expr};
-ghost use Rattle.dx_macros.specs.Dictionary.{empty, defining, with_definition, definition, last_named};
-ghost use Rattle.dx_macros.specs.Shown.{text_of, AreLawfulMacros, AreLawfulDefinitions};
+ghost use Rattle.dx_macros.specs.Dictionary.{empty, defining, with_definition};
+ghost use Rattle.dx_definitions.specs.TopTexts.{definition, last_named};
+ghost use Rattle.dx_macros.specs.Shown.{AreLawfulMacros, AreLawfulDefinitions};
+ghost use Rattle.dx_definitions.specs.Index.{text_of};
 
-use crate::definitions::Definitions;
 use dx_ast::{Assign, MacroDef};
+use dx_definitions::Definitions;
 use indexmap::IndexMap;
 use std::alloc::{AllocError, Global};
 

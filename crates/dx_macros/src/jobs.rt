@@ -4,26 +4,25 @@ ghost use Rattle.dx_ast.specs.Plain.{plain_expr, plain_call, plain_args, plain_m
 ghost use Rattle.dx_ast.specs.declared.expressions.Call.{out-Call};
 ghost use Rattle.dx_ast.specs.declared.statements.MacroDef.{out-MacroDef};
 ghost use Rattle.dx_ast.specs.Limits.{max_walk_calls};
-ghost use Rattle.dx_macros.specs.Dictionary.{param_names};
+ghost use Rattle.dx_signatures.specs.Callees.{param_names};
 ghost use Rattle.dx_macros.specs.DictionaryView.{dictionary_of};
-ghost use Rattle.dx_macros.specs.CalleeView.{plain_callee};
+ghost use Rattle.dx_signatures.specs.CalleeView.{plain_callee};
 ghost use Rattle.dx_macros.specs.Steps.{plain_step};
 ghost use Rattle.dx_macros.specs.Machine.{ExprJob, CallJob, ArgsJob, EnterJob, BodyJob, OwnJob, NamesJob};
 ghost use Rattle.dx_macros.specs.MachineView.{BeginsAtTop, BeginsIn, stack_now, plain_job, means, Continues, job_first, name_first, definition_first, accepted, FaultIs};
 ghost use Rattle.dx_base.specs.Places.{flags};
 ghost use Rattle.dx_macros.specs.Weight.{expr_weight, call_weight, args_weight, body_weight, macro_weight, callee_weight, job_weight, Falls, Pays};
 
-use crate::callee::{Callee, called};
+use crate::callee::called;
 use crate::dictionary::Dictionary;
-use crate::fault::StaticFault;
 use crate::machine::{
     Activation, Job, Machine, Reached, Stop, base, counted, enter, is_own, is_read, leave, mark,
     push,
 };
-use crate::signature::fault_of_call;
-use crate::site::Step;
+use crate::site::SiteStep;
 use dx_ast::{Arg, Assign, Call, Expr, MacroDef, Param, Stmt};
 use dx_base::{Bytes, Names};
+use dx_signatures::{Callee, StaticFault, fault_of_call};
 use std::alloc::{AllocError, Global};
 
 fn do_args<'a>(d: &'a Dictionary, m: &mut Machine<'a>, args: &'a [Arg]) -> Result<(), Stop<'a>>
@@ -103,7 +102,7 @@ fn text_of_macro<'a>(
     alloc: Global,
     caller: &Activation<'a>,
     params: &'a [Param],
-    step: Step<'a>,
+    step: SiteStep<'a>,
 ) -> Activation<'a>
     requires { 0 < caller.now.left }
     ensures { BeginsIn caller.now (caller.now.left - 1) (param_names params.now) (plain_step step.entry) result }
@@ -183,7 +182,7 @@ fn do_enter<'a>(
     d: &'a Dictionary,
     m: &mut Machine<'a>,
     x: &'a MacroDef,
-    step: Step<'a>,
+    step: SiteStep<'a>,
 ) -> Result<(), Stop<'a>>
     ensures continues { Continues (job_first (dictionary_of d.now) (EnterJob (plain_macro x.now) (plain_step step.entry)) m.old) result (means (dictionary_of d.now) m.new) }
     ensures falls { Falls (dictionary_of d.now) (macro_weight (plain_macro x.now)) m.old result m.new }
@@ -201,7 +200,7 @@ fn accept<'a>(
     d: &'a Dictionary,
     m: &mut Machine<'a>,
     callee: Callee<'a>,
-    step: Step<'a>,
+    step: SiteStep<'a>,
     c: &'a Call,
 ) -> Result<(), Stop<'a>>
     requires { m.old.calls < max_walk_calls }
@@ -219,7 +218,7 @@ fn accept<'a>(
     }
 }
 
-fn faulty<'a>(alloc: Global, m: &Machine<'a>, step: Step<'a>, fault: StaticFault) -> Stop<'a>
+fn faulty<'a>(alloc: Global, m: &Machine<'a>, step: SiteStep<'a>, fault: StaticFault) -> Stop<'a>
     ensures { FaultIs ((stack_now m.now).active.base ++ plain_step step.entry ∷ []) fault result }
 {
     match base(alloc, m.waiting.as_slice(), m.active.reached) {
@@ -249,7 +248,7 @@ fn do_call<'a>(
     let args = c.args.as_slice();
     let callee = called(d, name);
     let k = m.active.before.count(name) + 1;
-    let step = Step::Nth(name, k);
+    let step = SiteStep::Nth(name, k);
     match fault_of_call(alloc, m.calls, callee, m.active.left, args, targets)? {
         Some(fault) => Err(faulty(alloc, m, step, fault)),
         None => accept(d, m, callee, step, c),
@@ -270,7 +269,7 @@ fn do_expr<'a>(
         Expr::Constant(_) => Ok(()),
         Expr::Frame(_) => Ok(()),
         Expr::Name(n) => read_name(alloc, d, m, n.bytes()),
-        Expr::Call(c) => do_call(alloc, d, m, targets, c),
+        Expr::Call(c) => do_call(alloc, d, m, targets, c.get()),
     }
 }
 

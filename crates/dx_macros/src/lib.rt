@@ -4,19 +4,18 @@
 mod budget;
 mod callee;
 mod check;
-mod definitions;
 mod dictionary;
 mod fault;
 mod jobs;
 mod machine;
 mod pushing;
-mod signature;
 mod site;
 
 pub use budget::no_budget_runs_out;
-pub use callee::{Callee, called};
+pub use callee::called;
 pub use dictionary::Dictionary;
-pub use fault::{CheckFail, StaticFault};
+pub use dx_signatures::{Callee, StaticFault};
+pub use fault::CheckFail;
 pub use jobs::MAX_STEPS;
 pub use pushing::put;
-pub use site::{Step, site_text};
+pub use site::{SiteStep, site_text};

@@ -1,17 +1,17 @@
 //! The walk under way: the texts that are walked, the jobs that are left, and what was counted and read so far.
 ghost use Rattle.std.specs.Prelude.{◌≡◌, ◌<◌, ◌++◌, [], OnOk, IfOk, slice_set, slice_index_or, true, false};
 ghost use Rattle.dx_ast.specs.Limits.{max_walk_calls};
-ghost use Rattle.dx_macros.specs.Dictionary.{param_names};
+ghost use Rattle.dx_signatures.specs.Callees.{param_names};
 ghost use Rattle.dx_macros.specs.MachineView.{PushesJob, Enters, IsLeft, CountsCall, steps_to, base_of, waiting_above};
 ghost use Rattle.dx_base.specs.NameLists.{has};
 ghost use Rattle.dx_base.specs.Places.{flags};
 ghost use Rattle.dx_macros.specs.Steps.{plain_steps};
 
-use crate::fault::StaticFault;
 use crate::pushing::put;
-use crate::site::Step;
+use crate::site::SiteStep;
 use dx_ast::{Arg, Call, Expr, MacroDef, Param, Stmt};
 use dx_base::{Bytes, Names, Sparse};
+use dx_signatures::StaticFault;
 use std::alloc::{AllocError, Global};
 use std::mem;
 
@@ -21,7 +21,7 @@ pub enum Reached<'a> {
     /// It stands at the top level, and has these targets.
     Top(&'a [Bytes]),
     /// It is the body of a macro whose call has this step.
-    Call(Step<'a>),
+    Call(SiteStep<'a>),
 }
 
 /// A text that is walked: a macro's body, or a text of the top level.
@@ -47,7 +47,7 @@ pub enum Job<'a> {
     Call(usize, &'a Call),
     Args(&'a [Arg]),
     /// The body of a macro whose call has this step.
-    Enter(&'a MacroDef, Step<'a>),
+    Enter(&'a MacroDef, SiteStep<'a>),
     /// The rest of a body, and then the results of its macro.
     Body(&'a [Bytes], &'a [Stmt]),
     /// Targets that are assigned.
@@ -75,7 +75,7 @@ pub struct Machine<'a> {
 /// Why a walk stops.
 #[derive(Drop)]
 pub enum Stop<'a> {
-    Fault(Vec<Step<'a>>, StaticFault),
+    Fault(Vec<SiteStep<'a>>, StaticFault),
     Memory,
 }
 
@@ -153,7 +153,7 @@ pub fn is_own<'a>(text: &Activation<'a>, name: &[u8]) -> bool
     has_param(text.params, name) || text.assigned.has(name)
 }
 
-fn reach<'a>(steps: &mut Vec<Step<'a>>, reached: Reached<'a>) -> Result<(), AllocError>
+fn reach<'a>(steps: &mut Vec<SiteStep<'a>>, reached: Reached<'a>) -> Result<(), AllocError>
     ensures { OnOk result (plain_steps steps.new.items ≡ steps_to (plain_steps steps.old.items) reached.entry) }
 {
     match reached {
@@ -161,7 +161,7 @@ fn reach<'a>(steps: &mut Vec<Step<'a>>, reached: Reached<'a>) -> Result<(), Allo
             steps.clear();
             match targets.first() {
                 None => Ok(()),
-                Some(t) => put(steps, Step::Target(t.bytes())),
+                Some(t) => put(steps, SiteStep::Target(t.bytes())),
             }
         }
         Reached::Call(step) => put(steps, step),
@@ -173,7 +173,7 @@ pub fn base<'a>(
     alloc: Global,
     waiting: &[Activation<'a>],
     reached: Reached<'a>,
-) -> Result<Vec<Step<'a>>, AllocError>
+) -> Result<Vec<SiteStep<'a>>, AllocError>
     ensures { IfOk result (λ steps. plain_steps steps.items ≡ steps_to (base_of (waiting_above [] waiting.now)) reached.entry) }
 {
     let mut steps = Vec::new(alloc);

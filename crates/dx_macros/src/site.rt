@@ -11,27 +11,27 @@ use std::alloc::{AllocError, Global};
 /// A step that leads to a call: the k-th call of a name in its text, counted from 1, or the first target of an assignment
 /// at the top level.
 #[derive(Clone, Copy)]
-pub enum Step<'a> {
+pub enum SiteStep<'a> {
     Nth(&'a [u8], usize),
     Target(&'a [u8]),
 }
 
-fn write_step<'a>(text: &mut Vec<u8>, step: Step<'a>) -> Result<(), AllocError>
+fn write_step<'a>(text: &mut Vec<u8>, step: SiteStep<'a>) -> Result<(), AllocError>
     ensures { OnOk result (text.new.items ≡ text.old.items ++ step_text (plain_step step.entry)) }
 {
     match step {
-        Step::Nth(name, k) => {
+        SiteStep::Nth(name, k) => {
             text.extend_from_slice(name)?;
             text.extend_from_slice(b":")?;
             let mut buffer = Buffer::new();
             text.extend_from_slice(buffer.format(k).as_bytes())
         }
-        Step::Target(name) => text.extend_from_slice(name),
+        SiteStep::Target(name) => text.extend_from_slice(name),
     }
 }
 
 /// The steps joined by `/`: at most 277 bytes for each step, where the names are lawful.
-pub fn site_text<'a>(alloc: Global, steps: &[Step<'a>]) -> Result<Bytes, AllocError>
+pub fn site_text<'a>(alloc: Global, steps: &[SiteStep<'a>]) -> Result<Bytes, AllocError>
     ensures text { IfOk result (λ text. text ≡ steps_text (plain_steps steps.now)) }
     ensures bound { IfOk result (λ text. IsShortSite (plain_steps steps.now) text) }
 {

@@ -5,3 +5,4 @@ pub mod InlineLaws
 pub mod BodyLines
 pub mod Walk
 pub mod Entries
+pub mod ReadAgain

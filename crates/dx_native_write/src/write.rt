@@ -1,5 +1,7 @@
 // Writes an object and all that it has, each occurrence once.
-ghost use Rattle.std.specs.Prelude.{◌≡◌, ◌≤◌, ◌<◌, ◌+◌, ◌++◌, IfOk};
+ghost use Rattle.std.specs.Prelude.{◌≡◌, ◌≤◌, ◌<◌, ◌+◌, ◌++◌, IfOk, Ok, None, true};
+ghost use Rattle.dx_base.specs.ObjectNumbers.{steps_by_ints};
+ghost use Rattle.dx_native_grammar.specs.Native.{IsNative};
 ghost use Rattle.dx_objects.specs.Shown.{parts_of};
 ghost use Rattle.dx_native_text.specs.Lines.{spelled};
 ghost use Rattle.dx_native_text.specs.Text.{text_of, lines_of, many, parts_many, values_many, unless_inline};
@@ -14,9 +16,20 @@ use dx_objects::{Object, Part};
 use std::alloc::{AllocError, Global};
 
 /// The canonical text of an object, as a native file (User's Guide, Data Explorer Native Files): the parts, the values of
-/// attributes and then the object, each numbered from 1 on and written each time that it occurs, and a line `end`.
-#[tactic(auto, using(crate::proofs::Walk::whole_texts))]
+/// attributes and then the object, each numbered from 1 on and written each time that it occurs, and a line `end`. Where the
+/// origins and deltas of its regular arrays and grids are ints, as in each object that was read, the text means the object
+/// again.
 pub fn write_object(alloc: Global, object: &Object) -> Result<Bytes, AllocError>
+    ensures text { IfOk result (λ bytes. bytes ≡ text_of object.now) }
+    ensures again { steps_by_ints object.now ≡ true → IfOk result (λ bytes. IsNative bytes None (Ok object.now)) }
+{
+    // Asked so that the proof knows that it is an object within the limits.
+    let _size = object.size();
+    written(alloc, object)
+}
+
+#[tactic(auto, using(crate::proofs::Walk::whole_texts))]
+fn written(alloc: Global, object: &Object) -> Result<Bytes, AllocError>
     ensures { IfOk result (λ bytes. bytes ≡ text_of object.now) }
 {
     // Asked so that the proof knows that the numbers have room.

@@ -1,6 +1,7 @@
 pub mod PartsLaws
 pub mod PutLaws
 pub mod TakeLaws
+pub mod MembersLaws
 pub mod LawfulLaws
 pub mod FindLaws
 pub mod OrderLaws

@@ -22,7 +22,7 @@ pub by_bool : (b : Bool) (P : Type 0) → (b ≡ true → P) → (b ≡ false �
 by_bool true P f g = f refl
 by_bool false P f g = g refl
 
-all_named-put : (n : List ℕ) (t : Tree) (ps : PartList) → all_named ps ≡ true → all_named (put n t ps) ≡ true
+pub all_named-put : (n : List ℕ) (t : Tree) (ps : PartList) → all_named ps ≡ true → all_named (put n t ps) ≡ true
 all_named-put n t no_parts h = refl
 all_named-put n t (part m p u ps) h =
     let hs = and_parts (is_some m) (all_named ps) h in
@@ -30,7 +30,7 @@ all_named-put n t (part m p u ps) h =
     (λ e. rw e (both_true hs.0 hs.1))
     (λ e. rw e (both_true hs.0 (all_named-put n t ps hs.1)))
 
-all_arrays-put : (n : List ℕ) (t : Tree) (ps : PartList) → is_array t ≡ true → all_arrays ps ≡ true → all_arrays (put n t ps) ≡ true
+pub all_arrays-put : (n : List ℕ) (t : Tree) (ps : PartList) → is_array t ≡ true → all_arrays ps ≡ true → all_arrays (put n t ps) ≡ true
 all_arrays-put n t no_parts a h = both_true a refl
 all_arrays-put n t (part m p u ps) a h =
     let hs = and_parts (is_array u) (all_arrays ps) h in
@@ -50,7 +50,7 @@ lacks-put : (k : Option (List ℕ)) (n : List ℕ) (t : Tree) (ps : PartList) �
 lacks-put None n t ps e h = refl
 lacks-put (Some m) n t ps e h = find-put m n t ps (flipped m n e) h
 
-differ-put : (n : List ℕ) (t : Tree) (ps : PartList) → differ ps ≡ true → differ (put n t ps) ≡ true
+pub differ-put : (n : List ℕ) (t : Tree) (ps : PartList) → differ ps ≡ true → differ (put n t ps) ≡ true
 differ-put n t no_parts h = refl
 differ-put n t (part m p u ps) h =
     let hs = and_parts (lacks m ps) (differ ps) h in
@@ -75,11 +75,11 @@ refusal-put n t ps xs h a =
     let arrays : all_arrays (put n t ps) ≡ true = all_arrays-put n t ps a h.components in
     rw (good, arrays) refl
 
-is_too_large : (b : Bool) (e : ObjectError) → cond b None (Some TooLarge) ≡ Some e → b ≡ false
+pub is_too_large : (b : Bool) (e : ObjectError) → cond b None (Some TooLarge) ≡ Some e → b ≡ false
 is_too_large true e h = cc
 is_too_large false e h = refl
 
-does_fit : (b : Bool) → cond b None (Some TooLarge) ≡ None → b ≡ true
+pub does_fit : (b : Bool) → cond b None (Some TooLarge) ≡ None → b ≡ true
 does_fit true h = refl
 does_fit false h = cc
 

@@ -10,7 +10,7 @@ use Rattle.dx_base.specs.ObjectLimits.{lacks, differ, all_named, all_arrays, is_
 use Rattle.dx_objects.specs.Makes.{refusal}
 use Rattle.dx_objects.proofs.PutLaws.{by_bool}
 
-all_named-without : (n : List ℕ) (ps : PartList) → all_named ps ≡ true → all_named (without n ps) ≡ true
+pub all_named-without : (n : List ℕ) (ps : PartList) → all_named ps ≡ true → all_named (without n ps) ≡ true
 all_named-without n no_parts h = refl
 all_named-without n (part m p u ps) h =
     let hs = and_parts (is_some m) (all_named ps) h in
@@ -18,7 +18,7 @@ all_named-without n (part m p u ps) h =
     (λ e. rw e hs.1)
     (λ e. rw e (both_true hs.0 (all_named-without n ps hs.1)))
 
-all_arrays-without : (n : List ℕ) (ps : PartList) → all_arrays ps ≡ true → all_arrays (without n ps) ≡ true
+pub all_arrays-without : (n : List ℕ) (ps : PartList) → all_arrays ps ≡ true → all_arrays (without n ps) ≡ true
 all_arrays-without n no_parts h = refl
 all_arrays-without n (part m p u ps) h =
     let hs = and_parts (is_array u) (all_arrays ps) h in
@@ -37,7 +37,7 @@ lacks-without : (k : Option (List ℕ)) (n : List ℕ) (ps : PartList) → lacks
 lacks-without None n ps h = refl
 lacks-without (Some m) n ps h = find-without m n ps h
 
-differ-without : (n : List ℕ) (ps : PartList) → differ ps ≡ true → differ (without n ps) ≡ true
+pub differ-without : (n : List ℕ) (ps : PartList) → differ ps ≡ true → differ (without n ps) ≡ true
 differ-without n no_parts h = refl
 differ-without n (part m p u ps) h =
     let hs = and_parts (lacks m ps) (differ ps) h in

@@ -7,5 +7,6 @@ pub mod Falls
 pub mod Kinds
 pub mod Makes
 pub mod With
+pub mod Members
 pub mod Values
 pub mod Runs

@@ -77,7 +77,8 @@ impl Object {
         self.attributes.as_slice()
     }
 
-    pub(crate) fn is_array(&self) -> bool
+    /// Whether it is an array.
+    pub fn is_array(&self) -> bool
         ensures { result ≡ spec_is_array self.now }
     {
         match &self.body {
@@ -86,7 +87,8 @@ impl Object {
         }
     }
 
-    pub(crate) fn is_field(&self) -> bool
+    /// Whether it is a field.
+    pub fn is_field(&self) -> bool
         ensures { result ≡ spec_is_field self.now }
     {
         match &self.body {

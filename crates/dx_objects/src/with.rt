@@ -89,7 +89,7 @@ impl Object {
     }
 }
 
-fn copy_of_name(alloc: Global, name: &Option<Bytes>) -> Result<Option<Bytes>, AllocError>
+pub(crate) fn copy_of_name(alloc: Global, name: &Option<Bytes>) -> Result<Option<Bytes>, AllocError>
     ensures { IfOk result (λ n. n ≡ name.now) }
 {
     match name {
@@ -123,6 +123,54 @@ impl Parts {
         }
         Ok(copy)
     }
+
+    /// The same parts with this object under this name, in the place of the first that has it, or last. They share
+    /// their objects.
+    #[tactic(auto, using(crate::proofs::PartsLaws::appending))]
+    pub fn copy_with(
+        alloc: Global,
+        parts: &[Part],
+        name: &[u8],
+        object: Rc<Object>,
+    ) -> Result<Parts, AllocError>
+        ensures { IfOk result (λ copy. copy ≡ put name.now object.value (parts_of parts.now)) }
+    {
+        let mut copy = Parts::new(alloc);
+        let mut is_placed = false;
+        for part in parts {
+            let mut own = part.copy(alloc)?;
+            if !is_placed && is_named(part, name) {
+                own.object = object.clone()?;
+                is_placed = true;
+            }
+            copy.push(own)?;
+        }
+        if !is_placed {
+            copy.push(Part {
+                name: Some(Bytes::copy_of(alloc, name)?),
+                position: 0,
+                object,
+            })?;
+        }
+        Ok(copy)
+    }
+
+    /// The same parts without the first that has this name. They share their objects.
+    #[tactic(auto, using(crate::proofs::PartsLaws::appending))]
+    pub fn copy_without(alloc: Global, parts: &[Part], name: &[u8]) -> Result<Parts, AllocError>
+        ensures { IfOk result (λ copy. copy ≡ without name.now (parts_of parts.now)) }
+    {
+        let mut copy = Parts::new(alloc);
+        let mut is_removed = false;
+        for part in parts {
+            if !is_removed && is_named(part, name) {
+                is_removed = true;
+            } else {
+                copy.push(part.copy(alloc)?)?;
+            }
+        }
+        Ok(copy)
+    }
 }
 
 impl NamedParts {
@@ -132,45 +180,15 @@ impl NamedParts {
         Parts::copy_of(alloc, self.as_slice())
     }
 
-    #[tactic(auto, using(crate::proofs::PartsLaws::appending))]
-    // The parts with this object under this name, in the place of the first that has it, or last.
     fn put(&self, alloc: Global, name: &Bytes, object: Rc<Object>) -> Result<Parts, AllocError>
         ensures { IfOk result (λ ps. ps ≡ put name.now object.value self.now) }
     {
-        let mut copy = Parts::new(alloc);
-        let mut is_placed = false;
-        for part in &self.items {
-            let mut own = part.copy(alloc)?;
-            if !is_placed && is_named(part, name.bytes()) {
-                own.object = object.clone()?;
-                is_placed = true;
-            }
-            copy.push(own)?;
-        }
-        if !is_placed {
-            copy.push(Part {
-                name: Some(Bytes::copy_of(alloc, name.bytes())?),
-                position: 0,
-                object,
-            })?;
-        }
-        Ok(copy)
+        Parts::copy_with(alloc, self.as_slice(), name.bytes(), object)
     }
 
-    #[tactic(auto, using(crate::proofs::PartsLaws::appending))]
-    // The parts without the first that has this name.
     fn without(&self, alloc: Global, name: &[u8]) -> Result<Parts, AllocError>
         ensures { IfOk result (λ ps. ps ≡ without name.now self.now) }
     {
-        let mut copy = Parts::new(alloc);
-        let mut is_removed = false;
-        for part in &self.items {
-            if !is_removed && is_named(part, name) {
-                is_removed = true;
-            } else {
-                copy.push(part.copy(alloc)?)?;
-            }
-        }
-        Ok(copy)
+        Parts::copy_without(alloc, self.as_slice(), name)
     }
 }

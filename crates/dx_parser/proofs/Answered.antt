@@ -12,9 +12,10 @@ use Rattle.dx_ast.specs.Lawful.{AreLawful}
 use Rattle.dx_script_laws.proofs.LawfulScripts.{lawful}
 use Rattle.dx_script_laws.proofs.Script.{sound, only, exact, determined}
 use Rattle.dx_script_laws.proofs.TokensStand.{script_read, is_script, first_error_read, is_first_error}
-use Rattle.dx_parser.specs.declared.fail.ParseFail.{ParseFail}
-use Rattle.dx_parser.specs.declared.fail.ParseFail.TheVariants.{Refused, Memory}
-use Rattle.dx_parser.specs.Answers.{Reads, IsOnly, IsOnlyError, OnRefused}
+use Rattle.dx_cursor.specs.declared.fail.ParseFail.{ParseFail}
+use Rattle.dx_cursor.specs.declared.fail.ParseFail.TheVariants.{Refused, Memory}
+use Rattle.dx_cursor.specs.Answers.{Reads}
+use Rattle.dx_parser.specs.Answers.{IsOnly, IsOnlyError, OnRefused}
 
 pub is_found : (text : List ℕ) (left : Tokens) (r : Result (List Stmt) ParseFail) → Reads (script (tokens_of text)) r left → IfOk r (IsScript text)
 is_found text left (Ok found) h = is_script text found (sound (tokens_of text) found left h)

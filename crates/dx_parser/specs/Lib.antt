@@ -1,3 +1,1 @@
-pub mod Cursor
 pub mod Answers
-pub mod Lists

@@ -3,16 +3,13 @@
 ghost use Rattle.std.specs.Prelude.{◌≡◌, ◌∷◌, [], map, OnOk};
 ghost use Rattle.dx_ast.specs.Values as values;
 ghost use Rattle.dx_script_grammar.specs.Reading as reading;
-ghost use Rattle.dx_parser.specs.Answers.{Reads};
+ghost use Rattle.dx_cursor.specs.Answers.{Reads};
 
-use crate::constants::constant;
-use crate::cursor::{Cursor, fault};
-use crate::fail::ParseFail;
-use crate::lists::one;
 use crate::statements::statement;
-use crate::words::is_word;
-use dx_ast::{MacroDef, Param, Params, Stmt, Stmts, TextList};
+use dx_ast::{Boxed, MacroDef, Param, Params, Stmt, Stmts, TextList};
 use dx_base::{Bytes, Items, SyntaxKind};
+use dx_cursor::{Cursor, ParseFail, constant, fault, is_word};
+use dx_lists::one;
 use std::alloc::{AllocError, Global};
 
 /// The parameters that a macro may have, and the results.
@@ -209,10 +206,14 @@ pub fn definition(alloc: Global, cursor: &mut Cursor<'_>) -> Result<Option<Stmt>
     cursor.sign(alloc, b")")?;
     let results = results(alloc, cursor)?;
     let body = body(alloc, cursor)?;
-    Ok(Some(Stmt::Macro(MacroDef {
-        name,
-        params,
-        results,
-        body,
-    })))
+    let defined = Boxed::new(
+        alloc,
+        MacroDef {
+            name,
+            params,
+            results,
+            body,
+        },
+    )?;
+    Ok(Some(Stmt::Macro(defined)))
 }

@@ -7,14 +7,14 @@ ghost use Rattle.dx_ast.specs.declared.statements.Stmt.{Stmt};
 ghost use Rattle.dx_ast.specs.Script.{IsScript, IsFirstError};
 ghost use Rattle.dx_ast.specs.Plain.{plain_stmts};
 ghost use Rattle.dx_ast.specs.Lawful.{AreLawful};
-ghost use Rattle.dx_parser.specs.Answers.{Reads, IsOnly, IsOnlyError, OnRefused};
+ghost use Rattle.dx_cursor.specs.Answers.{Reads};
+ghost use Rattle.dx_parser.specs.Answers.{IsOnly, IsOnlyError, OnRefused};
 
-use crate::cursor::Cursor;
-use crate::fail::ParseFail;
 use crate::macros::{add, definition};
 use crate::statements::word_or_statement;
 use dx_ast::{Const, Expr, Stmt, Stmts};
 use dx_base::Items;
+use dx_cursor::{Cursor, ParseFail};
 use std::alloc::Global;
 
 #[tactic(auto, unfolding(dx_script_grammar::specs::Reading::inclusion))]

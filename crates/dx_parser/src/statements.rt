@@ -2,15 +2,13 @@
 
 ghost use Rattle.std.specs.Prelude.{◌≡◌, ◌∷◌, []};
 ghost use Rattle.dx_script_grammar.specs.Reading as reading;
-ghost use Rattle.dx_parser.specs.Answers.{Reads};
+ghost use Rattle.dx_cursor.specs.Answers.{Reads};
 
-use crate::calls::{call_after, expression};
-use crate::cursor::Cursor;
-use crate::fail::ParseFail;
-use crate::lists::one;
-use crate::words::{is_word, switch_named, word_named};
-use dx_ast::{Assign, Expr, Stmt, TextList, Word};
+use dx_ast::{Assign, Boxed, Expr, Stmt, TextList, Word};
 use dx_base::Bytes;
+use dx_calls::{call_after, expression};
+use dx_cursor::{Cursor, ParseFail, is_word, switch_named, word_named};
+use dx_lists::one;
 use std::alloc::Global;
 
 /// Calls within the arguments of calls, the outermost counted.
@@ -82,7 +80,7 @@ pub fn several(
     let (_, function) = cursor.name(alloc)?;
     let call = call_after(alloc, cursor, MAX_DEPTH, function)?;
     cursor.sign(alloc, b";")?;
-    let value = Expr::Call(call);
+    let value = Expr::Call(Boxed::new(alloc, call)?);
     Ok(Some(Stmt::Assign(Assign { targets, value })))
 }
 

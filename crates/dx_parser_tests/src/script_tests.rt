@@ -1,6 +1,7 @@
 //! Texts with their statements, and texts with their first errors.
 
 use crate::trees::{put_judged, put_parsed};
+use crate::writing::put;
 use std::alloc::{AllocError, Global};
 use std::test::Fail;
 
@@ -11,10 +12,20 @@ fn parsed_is(alloc: Global, text: &str, want: &str) -> Result<bool, AllocError> 
     Ok(out.as_slice() == want.as_bytes())
 }
 
-fn judged_is(alloc: Global, text: &str, want: &str) -> Result<bool, AllocError> {
+fn judged_is(alloc: Global, text: &[u8], want: &str) -> Result<bool, AllocError> {
     let mut out = Vec::new(alloc);
-    put_judged(alloc, &mut out, text.as_bytes())?;
+    put_judged(alloc, &mut out, text)?;
     Ok(out.as_slice() == want.as_bytes())
+}
+
+/// Each text of a table is read so. One that isn't is the failure.
+fn all_are_parsed(alloc: Global, rows: &[(&str, &str)]) -> Result<(), Fail> {
+    for row in rows {
+        if !parsed_is(alloc, row.0, row.1)? {
+            return Err(Fail::from(row.0));
+        }
+    }
+    Ok(())
 }
 
 const STATEMENTS: [(&str, &str); 21] = [
@@ -70,10 +81,7 @@ const STATEMENTS: [(&str, &str); 21] = [
 
 #[test]
 fn statements(rt: HostRuntime) -> Result<(), Fail> {
-    for (text, want) in STATEMENTS {
-        assert!(rt; parsed_is(rt.alloc(), text, want)?, "at {text}");
-    }
-    Ok(())
+    all_are_parsed(rt.alloc(), &STATEMENTS)
 }
 
 const REFUSALS: [(&str, &str); 31] = [
@@ -112,49 +120,58 @@ const REFUSALS: [(&str, &str); 31] = [
 
 #[test]
 fn refusals(rt: HostRuntime) -> Result<(), Fail> {
-    for (text, want) in REFUSALS {
-        assert!(rt; parsed_is(rt.alloc(), text, want)?, "at {text}");
-    }
-    Ok(())
+    all_are_parsed(rt.alloc(), &REFUSALS)
 }
 
-/// A front, a piece so many times, and an end.
-fn repeated(
-    alloc: Global,
+/// Writes a front, a piece so many times, and an end.
+fn put_repeated(
+    text: &mut Vec<u8>,
     front: &str,
     piece: &str,
     count: u32,
     end: &str,
-) -> Result<String, Fail> {
-    let mut text = String::new(alloc);
-    text.push_str(front)?;
+) -> Result<(), AllocError> {
+    put(text, front)?;
     for _ in 0..count {
-        text.push_str(piece)?;
+        put(text, piece)?;
     }
-    text.push_str(end)?;
-    Ok(text)
+    put(text, end)
 }
+
+fn repeated_is(alloc: Global, row: &(&str, &str, u32, &str, &str)) -> Result<bool, AllocError> {
+    let mut text = Vec::new(alloc);
+    put_repeated(&mut text, row.0, row.1, row.2, row.3)?;
+    judged_is(alloc, &text, row.4)
+}
+
+const LIMITS: [(&str, &str, u32, &str, &str); 9] = [
+    ("x = {", "1 ", 65536, "};", "ok"),
+    ("x = {", "1 ", 65537, "};", "1:131078 ListTooLong"),
+    ("x = {", "1 ", 65536, "\"a\"};", "1:131078 MixedList"),
+    ("x = {0 .. ", "", 0, "65535};", "ok"),
+    ("x = {0 .. ", "", 0, "65536};", "1:11 ListTooLong"),
+    ("x = [", "1 ", 256, "];", "ok"),
+    ("x = [", "1 ", 257, "];", "1:518 Syntax"),
+    ("", "f(", 64, ")", "1:130 Syntax"),
+    ("", "f(", 65, ")", "1:130 Syntax"),
+];
 
 #[test]
 fn limits(rt: HostRuntime) -> Result<(), Fail> {
-    let alloc = rt.alloc();
-    for (front, piece, count, end, want) in [
-        ("x = {", "1 ", 65536, "};", "ok"),
-        ("x = {", "1 ", 65537, "};", "1:131078 ListTooLong"),
-        ("x = {", "1 ", 65536, "\"a\"};", "1:131078 MixedList"),
-        ("x = {0 .. ", "", 0, "65535};", "ok"),
-        ("x = {0 .. ", "", 0, "65536};", "1:11 ListTooLong"),
-        ("x = [", "1 ", 256, "];", "ok"),
-        ("x = [", "1 ", 257, "];", "1:518 Syntax"),
-        ("", "f(", 64, ")", "1:130 Syntax"),
-        ("", "f(", 65, ")", "1:130 Syntax"),
-    ] {
-        let text = repeated(alloc, front, piece, count, end)?;
-        assert!(rt; judged_is(alloc, &text, want)?, "at {front}");
+    for row in &LIMITS {
+        if !repeated_is(rt.alloc(), row)? {
+            return Err(Fail::from(row.0));
+        }
     }
-    let inner = repeated(alloc, "", "f(", 64, "1")?;
-    let deep = repeated(alloc, &inner, ")", 64, ";")?;
-    assert!(rt; judged_is(alloc, &deep, "ok")?);
+    Ok(())
+}
+
+#[test]
+fn deepest_calls(rt: HostRuntime) -> Result<(), Fail> {
+    let mut deep = Vec::new(rt.alloc());
+    put_repeated(&mut deep, "", "f(", 64, "1")?;
+    put_repeated(&mut deep, "", ")", 64, ";")?;
+    assert!(rt; judged_is(rt.alloc(), &deep, "ok")?);
     Ok(())
 }
 

@@ -78,6 +78,7 @@ fn put_expression(alloc: Global, out: &mut Vec<u8>, e: &Expr) -> Result<(), Allo
         Expr::Name(name) => put_bytes(out, name),
         Expr::Frame(frame) => put_frame(out, *frame),
         Expr::Call(call) => {
+            let call = call.get();
             put_bytes(out, &call.name)?;
             put(out, "(")?;
             put_count(alloc, out, call.args.len() as u64)?;
@@ -143,7 +144,7 @@ fn put_statement(alloc: Global, out: &mut Vec<u8>, s: &Stmt) -> Result<(), Alloc
     match s {
         Stmt::Assign(assign) => put_assignment(alloc, out, assign),
         Stmt::Call(call) => put_call(alloc, out, call),
-        Stmt::Macro(m) => put_macro(alloc, out, m),
+        Stmt::Macro(m) => put_macro(alloc, out, m.get()),
         Stmt::Include(name) => {
             put(out, "include ")?;
             put_bytes(out, name)

@@ -6,7 +6,7 @@ ghost use Rattle.dx_ast.specs.Plain.{plain_stmt, plain_stmts};
 use crate::session::{is_executed, join, statements_of};
 use crate::shown::write_effects;
 use dx_ast::{Frames, Stmt, Stmts};
-use dx_graph::{check_and_expand, expand};
+use dx_expansion::{check_and_expand, expand};
 use dx_macros::{CheckFail, Dictionary};
 use std::alloc::{AllocError, Global};
 

@@ -2,6 +2,7 @@
 
 use crate::faults::read;
 use crate::session::take;
+use crate::texts::{put, put_number, put_repeated};
 use dx_macros::Dictionary;
 use std::alloc::{AllocError, Global};
 use std::test::Fail;
@@ -33,15 +34,6 @@ fn first_miss<'a>(
 }
 
 // ---- what the dictionary has
-
-fn put_number(alloc: Global, text: &mut Vec<u8>, number: usize) -> Result<(), AllocError> {
-    let digits = format!(in alloc; "{number}")?;
-    text.extend_from_slice(digits.as_bytes())
-}
-
-fn put(text: &mut Vec<u8>, piece: &str) -> Result<(), AllocError> {
-    text.extend_from_slice(piece.as_bytes())
-}
 
 /// Writes how many parameters, results and statements a macro has.
 fn put_macro(
@@ -196,21 +188,6 @@ const FAULTS_OF_ONE_CALL: [(&str, &str); 13] = [
 fn faults_of_one_call(rt: HostRuntime) -> Result<(), Fail> {
     assert!(rt; first_miss(rt.alloc(), &FAULTS_OF_ONE_CALL)?.is_none());
     Ok(())
-}
-
-/// A front, a piece so many times, and an end.
-fn put_repeated(
-    text: &mut Vec<u8>,
-    front: &str,
-    piece: &str,
-    count: u32,
-    end: &str,
-) -> Result<(), AllocError> {
-    put(text, front)?;
-    for _ in 0..count {
-        put(text, piece)?;
-    }
-    put(text, end)
 }
 
 /// These are the answers to a call of Echo with an argument and so many more.

@@ -13,3 +13,5 @@ mod faults;
 mod session;
 #[cfg(test)]
 mod shown;
+#[cfg(test)]
+mod texts;

@@ -31,7 +31,7 @@ pub fn join(d: &mut Dictionary, s: Stmt) -> Result<(), AllocError>
     requires { IsLawful (plain_stmt s) }
 {
     match s {
-        Stmt::Macro(m) => d.define(m),
+        Stmt::Macro(m) => d.define(m.into_inner()),
         Stmt::Assign(a) => d.add(a),
         _ => Ok(()),
     }

@@ -1,16 +1,15 @@
 //! Graphs as text.
 
+use crate::texts::{put_number, put_numbered};
 use dx_ast::Const;
 use dx_graph::{Graph, Input};
 use std::alloc::{AllocError, Global};
 
+/// Writes a constant; of an integer its distance from zero, of a list that it is one.
 fn write_const(alloc: Global, c: &Const, out: &mut Vec<u8>) -> Result<(), AllocError> {
     match c {
         Const::Null => out.extend_from_slice(b"NULL"),
-        Const::Int(n) => {
-            let digits = format!(in alloc; "{n}")?;
-            out.extend_from_slice(digits.as_bytes())
-        }
+        Const::Int(n) => put_number(alloc, out, n.unsigned_abs() as usize),
         Const::Text(text) => {
             out.push(b'"')?;
             out.extend_from_slice(text.as_slice())?;
@@ -25,8 +24,8 @@ fn write_input(alloc: Global, input: &Input, out: &mut Vec<u8>) -> Result<(), Al
     match input {
         Input::Constant(c) => write_const(alloc, c, out),
         Input::Result(node, result) => {
-            let text = format!(in alloc; "{result} of {node}")?;
-            out.extend_from_slice(text.as_bytes())
+            put_number(alloc, out, *result as usize)?;
+            put_numbered(alloc, out, " of ", *node as usize, "")
         }
     }
 }
@@ -50,8 +49,7 @@ fn write_node(alloc: Global, g: &Graph, n: u32, out: &mut Vec<u8>) -> Result<(),
     out.extend_from_slice(site.bytes())?;
     out.extend_from_slice(b" in ")?;
     out.extend_from_slice(path.bytes())?;
-    let cache = format!(in alloc; " cache {}:", node.cache)?;
-    out.extend_from_slice(cache.as_bytes())?;
+    put_numbered(alloc, out, " cache ", node.cache as usize, ":")?;
     write_inputs(alloc, node.inputs.as_slice(), out)
 }
 

@@ -74,7 +74,7 @@ impl Session {
                 Ok(self.execute(alloc, &s, out)?.is_error())
             }
             Stmt::Macro(m) => {
-                self.dictionary.define(m)?;
+                self.dictionary.define(m.into_inner())?;
                 Ok(false)
             }
             Stmt::Include(_) => Ok(false),

@@ -1,6 +1,6 @@
 use Rattle.std.proofs.Common.{◌∙◌}
 use Rattle.dx_macros.specs.DictionaryView.{dictionary_of}
-use Rattle.dx_macros.specs.Shown.{text_of}
+use Rattle.dx_definitions.specs.Index.{text_of}
 use Rattle.dx_macros.proofs.Doing.{finds, reads, started}
 use Rattle.dx_macros.proofs.check.walk_assign.Goals as goal
 

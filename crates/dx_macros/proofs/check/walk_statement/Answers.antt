@@ -1,6 +1,6 @@
 use Rattle.std.proofs.Common.{◌∙◌, ℕ, Option, false, ap, sym}
 use Rattle.std.specs.Prelude.{replicate}
-use Rattle.dx_macros.specs.Dictionary.{TopText}
+use Rattle.dx_definitions.specs.TopTexts.{TopText}
 use Rattle.dx_macros.specs.DictionaryView.{dictionary_of}
 use Rattle.dx_base.specs.Places.{flags}
 use Rattle.dx_macros.specs.Walk.{walk_by, read_in, fault_of_text}

@@ -1,14 +1,14 @@
 use Rattle.std.proofs.Common.{◌∙◌, sym, refl, ap, ap₂, List, arith}
 use Rattle.dx_ast.specs.Plain.{plain_args, plain_macro}
 use Rattle.dx_macros.specs.DictionaryView.{dictionary_of}
-use Rattle.dx_macros.specs.CalleeView.{plain_callee}
+use Rattle.dx_signatures.specs.CalleeView.{plain_callee}
 use Rattle.dx_macros.specs.Steps.{plain_step}
 use Rattle.dx_macros.specs.MachineView.{accepted}
 use Rattle.dx_macros.proofs.Pushes.{ok_pushed, by_push}
 use Rattle.dx_macros.proofs.Doing.{ok_counted, accepted_macro, accepted_plain}
 use Rattle.dx_ast.specs.declared.expressions.Arg.{Arg}
 use Rattle.dx_macros.specs.Weight.{args_weight, callee_weight}
-use Rattle.dx_macros.specs.declared.callee.Callee.{Callee}
+use Rattle.dx_signatures.specs.declared.callee.Callee.{Callee}
 use Rattle.dx_macros.proofs.Weights.{accepted_pays, accepted_macro_pays}
 use Rattle.dx_macros.proofs.jobs.accept.Goals as goal
 

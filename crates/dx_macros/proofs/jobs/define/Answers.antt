@@ -5,7 +5,7 @@ use Rattle.dx_ast.specs.Classes.{Text}
 use Rattle.dx_macros.specs.Site.{first_target}
 use Rattle.dx_macros.specs.Machine as m
 use Rattle.dx_macros.proofs.Doing.{defined}
-use Rattle.dx_macros.specs.Dictionary.{TopText}
+use Rattle.dx_definitions.specs.TopTexts.{TopText}
 use Rattle.dx_macros.specs.Weight.{expr_weight}
 use Rattle.dx_macros.proofs.Weights.{defines_falls}
 use Rattle.dx_macros.proofs.jobs.define.Goals as goal

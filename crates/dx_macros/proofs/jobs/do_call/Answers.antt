@@ -1,7 +1,7 @@
 use Rattle.std.proofs.Common.{◌≡◌, ◌∙◌, ◌+◌, refl, ap, arith, suc}
 use Rattle.std.specs.Prelude.{Err}
 use Rattle.dx_macros.specs.DictionaryView.{dictionary_of}
-use Rattle.dx_macros.specs.CalleeView.{plain_callee}
+use Rattle.dx_signatures.specs.CalleeView.{plain_callee}
 use Rattle.dx_macros.proofs.Pushes.{by_call}
 use Rattle.dx_macros.proofs.Doing.{call_faulty, call_accepted, by_fault}
 use Rattle.dx_ast.specs.declared.expressions.Call.{out-Call}

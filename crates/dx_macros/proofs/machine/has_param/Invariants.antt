@@ -1,5 +1,5 @@
 use Rattle.std.proofs.Common.{◌≡◌, drop}
-use Rattle.dx_macros.specs.Dictionary.{param_names}
+use Rattle.dx_signatures.specs.Callees.{param_names}
 use Rattle.dx_base.specs.NameLists.{has}
 use Rattle.dx_macros.proofs.machine.has_param.Given as goal
 

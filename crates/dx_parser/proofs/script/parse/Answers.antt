@@ -1,7 +1,7 @@
 use Rattle.std.proofs.Common.{subst}
 use Rattle.dx_ast.specs.Script.{Tokens, tokens_of}
 use Rattle.dx_script_grammar.specs.Reading.{script}
-use Rattle.dx_parser.specs.Answers.{Reads}
+use Rattle.dx_cursor.specs.Answers.{Reads}
 use Rattle.dx_parser.proofs.Answered.{is_found, is_only, is_error, is_refused, is_lawful}
 use Rattle.dx_parser.proofs.script.parse.Goals as goal
 use Rattle.dx_parser.proofs.script.parse.Goals.{After-script}

@@ -3,7 +3,7 @@ use Rattle.std.proofs.Math.Logic.{∥∥₁_map}
 use Rattle.dx_base.specs.NameTable.{under_name}
 use Rattle.dx_base.proofs.NameTables.{under_changed}
 use Rattle.dx_macros.specs.Dictionary.{Dictionary, Macros}
-use Rattle.dx_macros.specs.Shown.{text_of}
+use Rattle.dx_definitions.specs.Index.{text_of}
 use Rattle.dx_macros.proofs.Defining.{lawful_insert, on_ok, macros_changed}
 use Rattle.dx_macros.proofs.dictionary.Dictionary.define.Goals as goal
 

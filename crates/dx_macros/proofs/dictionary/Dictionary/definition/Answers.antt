@@ -1,8 +1,8 @@
 use Rattle.std.proofs.Common.{◌<◌, ◌∙◌, sym, ap, List, get_or, length, arith}
 use Rattle.dx_ast.specs.declared.statements.Assign.{Assign}
 use Rattle.std.proofs.lemmas.List.{length-map}
-use Rattle.dx_macros.specs.Shown.{text_of}
-use Rattle.dx_macros.proofs.Defining.{definition_at}
+use Rattle.dx_definitions.specs.Index.{text_of}
+use Rattle.dx_definitions.proofs.Finding.{definition_at}
 use Rattle.dx_macros.proofs.dictionary.Dictionary.definition.Goals as goal
 
 pub returns : goal.returns

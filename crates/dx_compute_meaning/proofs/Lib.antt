@@ -1,0 +1,8 @@
+pub mod Parsing
+pub mod Shapes
+pub mod Members
+pub mod Listing
+pub mod Places
+pub mod Making
+pub mod Codes
+pub mod Levels

@@ -1,0 +1,2 @@
+//! What Compute answers, in definitions, and what follows from them: no code stands here.
+#![tactic(auto)]

@@ -1,0 +1,10 @@
+use Rattle.std.proofs.Common.{◌≡◌, List, length, drop}
+use Rattle.dx_definitions.specs.TopTexts.{TopText}
+use Rattle.dx_definitions.specs.Index.{index_of, noted, Indexes}
+use Rattle.dx_definitions.proofs.definitions.note_all.Given as goal
+
+abbrev pub invariant-loop-n : goal.invariant-loop-n
+invariant-loop-n l = record {
+  ok : noted (index_of l.places) (drop l.n-index l.names) l.place ≡ noted (index_of l.initial.places) l.names l.place;
+  keeps : (defs : List TopText) → length defs ≡ l.place → Indexes (index_of l.initial.places) defs → Indexes (index_of l.places) defs;
+}

@@ -1,0 +1,3 @@
+pub mod TopTexts
+pub mod Index
+pub mod Held

@@ -1,0 +1,6 @@
+//! The definitions of the top level in order, and the last one of a name before a place.
+#![tactic(auto)]
+
+mod definitions;
+
+pub use definitions::Definitions;

@@ -1,0 +1,11 @@
+pub mod Growing
+pub mod Ports
+pub mod Stacks
+pub mod Memos
+pub mod PortSteps
+pub mod Staying
+pub mod Taken
+pub mod Picks
+pub mod Arguments
+pub mod Terms
+pub mod Finding

@@ -1,0 +1,10 @@
+use Rattle.dx_demand.specs.Memo.{formed_of}
+use Rattle.std.proofs.Common.{◌≡◌, ◌∙◌, sym}
+use Rattle.dx_graph.specs.GraphView.{graph_of}
+use Rattle.dx_demand.proofs.resolving.resolve_port.Goals as goal
+
+pub returns-in-Some-clause-fits : goal.returns-in-Some-clause-fits
+returns-in-Some-clause-fits g c = c.resolved.ensures.fits (graph_of c.args.g.now).nodes c.args.tags.now (g.G.Given.told c.args.given.now) c.args.seen.now.memo (c.requires.seen.memo.answers c.args.root c.in-Some.a (sym c.answer.ensures ∙ c.in-Some.is))
+
+pub returns-in-Some-clause-found : goal.returns-in-Some-clause-found
+returns-in-Some-clause-found g c = λ cl. c.resolved.ensures.found c.args.links.now.links c.args.tags.now (formed_of c.args.seen.now.memo) (cl.memo.answers c.args.root c.in-Some.a (sym c.answer.ensures ∙ c.in-Some.is))

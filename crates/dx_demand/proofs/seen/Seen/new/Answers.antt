@@ -1,0 +1,23 @@
+use Rattle.std.proofs.Common.{length}
+use Rattle.dx_demand.specs.Memo.{formed_of}
+use Rattle.dx_demand.specs.Found.{StackFound}
+use Rattle.dx_demand.proofs.Finding.{empty_found}
+use Rattle.std.proofs.Common.{sym, subst}
+use Rattle.dx_demand.specs.Memo.{answers_of}
+use Rattle.dx_demand.specs.Stack.{StackFits}
+use Rattle.dx_demand.specs.Steps.{LeftRight}
+use Rattle.dx_graph.specs.GraphView.{graph_of}
+use Rattle.dx_demand.proofs.Memos.{empty_fits, empty_right}
+use Rattle.dx_demand.proofs.seen.Seen.new.Goals as goal
+
+pub returns-clause-fits : goal.returns-clause-fits
+returns-clause-fits c = λ terms. record { memo = empty_fits (graph_of c.args.g.now).nodes terms c.in_ok-memo.memo c.in_ok-memo.ensures; stack = subst (StackFits (graph_of c.args.g.now).nodes terms (answers_of c.in_ok-memo.memo)) (sym c.no_frames.ensures) tt }
+
+pub returns-clause-right : goal.returns-clause-right
+returns-clause-right c = λ s terms. record { memo = empty_right s (graph_of c.args.g.now).nodes terms c.in_ok-memo.memo c.in_ok-memo.ensures; left = subst (LeftRight s (graph_of c.args.g.now).nodes terms) (sym c.no_frames.ensures) tt }
+
+pub returns-clause-closed : goal.returns-clause-closed
+returns-clause-closed c = λ links terms. record { memo = empty_found links terms (length (graph_of c.args.g.now).nodes) c.in_ok-memo.memo c.in_ok-memo.ensures; stack = subst (StackFound links terms (formed_of c.in_ok-memo.memo)) (sym c.no_frames.ensures) tt }
+
+pub returns-clause-none : goal.returns-clause-none
+returns-clause-none c = c.in_ok-memo.ensures.formed

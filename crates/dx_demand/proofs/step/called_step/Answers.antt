@@ -1,0 +1,24 @@
+use Rattle.std.proofs.Common.{refl, inr, ◌≡◌, Some, None}
+use Rattle.std.specs.Prelude.{is_some}
+use Rattle.dx_graph.specs.GraphView.{graph_of}
+use Rattle.dx_meaning.specs.Picking.{module_selector}
+use Rattle.dx_demand.proofs.Memos.{same_selectors_keep}
+use Rattle.dx_demand.proofs.Ports.{unnamed_rule, names_first, names_none}
+use Rattle.dx_demand.proofs.PortSteps.{nodes_of}
+use Rattle.dx_demand.proofs.step.called_step.Goals as goal
+
+pub import_step-requires-clause-selects : goal.import_step-requires-clause-selects
+import_step-requires-clause-selects g c = names_first c.args.called (cc)
+
+pub returns-else-has_name-clause-kept : goal.returns-else-has_name-clause-kept
+returns-else-has_name-clause-kept g c = same_selectors_keep c.args.memo.now c.module_step.new.memo c.module_step.ensures.selectors
+
+pub returns-else-has_name-clause-fits : goal.returns-else-has_name-clause-fits
+returns-else-has_name-clause-fits g c = c.module_step.ensures.fits (g.G.Given.told c.args.given.now)
+
+pub returns-else-has_name-clause-right : goal.returns-else-has_name-clause-right
+returns-else-has_name-clause-right g c = λ s tells wrote m b. c.module_step.ensures.right s m b (λ s' more.
+    unnamed_rule s' (graph_of c.args.g.now).nodes (nodes_of (graph_of c.args.g.now) c.args.g.now.lawful) c.args.port c.requires.port.0 c.args.called c.requires.what (names_none c.args.called cc))
+
+pub module_step-requires-clause-reads : goal.module_step-requires-clause-reads
+module_step-requires-clause-reads g c = inr refl

@@ -1,0 +1,77 @@
+use Rattle.dx_demand.specs.Terms.{IsValue}
+use Rattle.std.proofs.Common.{◌≡◌, ◌<◌, ◌≤◌, ◌∙◌, [], ◌∷◌, ◌++◌, ℕ, length, Some, refl, sym, ap, subst, arith}
+use Rattle.std.specs.Prelude.{slice_get}
+use Rattle.dx_graph.specs.declared.node.Node.{Node}
+use Rattle.dx_graph.specs.Graph.{node_at}
+use Rattle.dx_graph.specs.GraphView.{graph_of}
+use Rattle.dx_graph.specs.Unfolding.{calls_of}
+use Rattle.dx_tags.specs.Closed.{heads_of, value_term}
+use Rattle.dx_meaning.specs.Picking.{selector_at}
+use Rattle.dx_meaning.specs.Scan.{Sight, IsOff, Stops, Forms, Ends}
+use Rattle.dx_demand.specs.Memo.{answers_of, site_of, node_scans, input_scan, input_at, selector_scan}
+use Rattle.dx_demand.specs.Steps.{KnownFits, KnownRight}
+use Rattle.dx_demand.specs.declared.step.Known.TheVariants as known
+use Rattle.dx_demand.specs.declared.settled.Settled.TheVariants as settled
+use Rattle.dx_demand.proofs.Growing.{memo_fits_grows, memo_right_grows}
+use Rattle.dx_demand.proofs.Memos.{Selects, select_fits, select_right}
+use Rattle.dx_demand.proofs.Ports.{each_at, at_some, selector_ends, selector_leads, chosen_is, chosen_past, chosen_leads}
+use Rattle.dx_demand.proofs.PortSteps.{nodes_of, more_itself}
+use Rattle.dx_demand.proofs.Taken.{slot, takes, takes_in, awaited, selector_within}
+use Rattle.dx_demand.proofs.step.chosen.Goals as goal
+
+pub known_of-requires-clause-input : goal.known_of-requires-clause-input
+known_of-requires-clause-input c =
+    let nodes = (graph_of c.args.g.now).nodes in
+    let lawful = nodes_of (graph_of c.args.g.now) c.args.g.now.lawful in
+    let lt : c.args.port.node < length nodes = c.requires.port.0 in
+    let inputs = (node_at nodes c.args.port.node).inputs in
+    let same : c.as_slice-inputs.result.now ≡ inputs = c.as_slice-inputs.ensures ∙ ap (λ (x : Node). x.inputs) c.node.ensures in
+    let x = c.index-inputs-k.result in
+    let at : slice_get inputs c.args.k ≡ Some x = slot c.as_slice-inputs.result.now inputs c.args.k c.args.k x same refl c.if-k-inputs.true c.index-inputs-k.is in
+    takes_in nodes c.args.port.node lt x (takes nodes lawful c.args.port.node lt c.args.k x at)
+
+pub returns-in-Settled-clause-right : goal.returns-in-Settled-clause-right
+returns-in-Settled-clause-right c =
+    let nodes = (graph_of c.args.g.now).nodes in
+    let lawful = nodes_of (graph_of c.args.g.now) c.args.g.now.lawful in
+    let lt : c.args.port.node < length nodes = c.requires.port.0 in
+    let inputs = (node_at nodes c.args.port.node).inputs in
+    let same : c.as_slice-inputs.result.now ≡ inputs = c.as_slice-inputs.ensures ∙ ap (λ (x : Node). x.inputs) c.node.ensures in
+    let x = c.index-inputs-k.result in
+    let at : slice_get inputs c.args.k ≡ Some x = slot c.as_slice-inputs.result.now inputs c.args.k c.args.k x same refl c.if-k-inputs.true c.index-inputs-k.is in
+    λ s m h. chosen_is s nodes c.args.port c.args.k (h s (more_itself s)) x at ∙ subst (KnownRight s nodes c.known_of.new.tags x) c.in-Settled.is (c.in_ok-settled.ensures.right s m)
+
+pub returns-in-Open-clause-fits : goal.returns-in-Open-clause-fits
+returns-in-Open-clause-fits c =
+    let nodes = (graph_of c.args.g.now).nodes in
+    let lawful = nodes_of (graph_of c.args.g.now) c.args.g.now.lawful in
+    let lt : c.args.port.node < length nodes = c.requires.port.0 in
+    let inputs = (node_at nodes c.args.port.node).inputs in
+    let same : c.as_slice-inputs.result.now ≡ inputs = c.as_slice-inputs.ensures ∙ ap (λ (x : Node). x.inputs) c.node.ensures in
+    let x = c.index-inputs-k.result in
+    let at : slice_get inputs c.args.k ≡ Some x = slot c.as_slice-inputs.result.now inputs c.args.k c.args.k x same refl c.if-k-inputs.true c.index-inputs-k.is in
+    let open_ = subst (KnownFits nodes c.known_of.new.tags (answers_of c.args.memo.now) x) c.in-Open.is c.in_ok-settled.ensures.fits in
+    let there = awaited nodes c.args.port.node lt x c.in-Open.awaited open_.0 (takes nodes lawful c.args.port.node lt c.args.k x at) in
+    λ given. (there.0, there.1, open_.1)
+
+pub returns-in-Open-clause-right : goal.returns-in-Open-clause-right
+returns-in-Open-clause-right c =
+    let nodes = (graph_of c.args.g.now).nodes in
+    let lawful = nodes_of (graph_of c.args.g.now) c.args.g.now.lawful in
+    let lt : c.args.port.node < length nodes = c.requires.port.0 in
+    let inputs = (node_at nodes c.args.port.node).inputs in
+    let same : c.as_slice-inputs.result.now ≡ inputs = c.as_slice-inputs.ensures ∙ ap (λ (x : Node). x.inputs) c.node.ensures in
+    let x = c.index-inputs-k.result in
+    let at : slice_get inputs c.args.k ≡ Some x = slot c.as_slice-inputs.result.now inputs c.args.k c.args.k x same refl c.if-k-inputs.true c.index-inputs-k.is in
+    let open_ = subst (KnownFits nodes c.known_of.new.tags (answers_of c.args.memo.now) x) c.in-Open.is c.in_ok-settled.ensures.fits in
+    λ s m h. chosen_leads s nodes c.args.port c.args.k h c.in-Open.awaited (at ∙ ap Some open_.0)
+
+pub returns-in_ok-t-clause-right : goal.returns-in_ok-t-clause-right
+returns-in_ok-t-clause-right c =
+    let nodes = (graph_of c.args.g.now).nodes in
+    let lawful = nodes_of (graph_of c.args.g.now) c.args.g.now.lawful in
+    let lt : c.args.port.node < length nodes = c.requires.port.0 in
+    let inputs = (node_at nodes c.args.port.node).inputs in
+    let same : c.as_slice-inputs.result.now ≡ inputs = c.as_slice-inputs.ensures ∙ ap (λ (x : Node). x.inputs) c.node.ensures in
+    let whole = ap length same in
+    λ s m h. chosen_past s nodes c.args.port c.args.k (h s (more_itself s)) (omega (arith, whole, c.if-k-inputs.false)) ∙ sym (ap Forms c.in_ok-t.ensures.named)

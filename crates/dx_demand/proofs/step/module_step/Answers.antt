@@ -1,0 +1,288 @@
+use Rattle.std.proofs.Common.{inr}
+use Rattle.dx_demand.specs.Memo.{formed_of}
+use Rattle.dx_demand.specs.Found.{AllFound, KnownFound}
+use Rattle.dx_demand.proofs.Finding.{kept_itself, all_found_grows, all_found_push, memo_found_grows, form_found, forms_keep, formed_found}
+use Rattle.dx_base.specs.Modules.{Takes}
+use Rattle.dx_demand.proofs.Taken.{node_takes}
+use Rattle.dx_demand.specs.Terms.{MayRead, AreArguments, IsValue}
+use Rattle.dx_demand.proofs.Terms.{arguments_on, arguments_push}
+use Rattle.std.proofs.Common.{◌≡◌, ◌<◌, ◌≤◌, ◌∙◌, [], ◌∷◌, ◌++◌, ℕ, length, Some, sym, ap, subst, arith, length-append}
+use Rattle.std.specs.Prelude.{slice_get}
+use Rattle.dx_graph.specs.declared.node.Node.{Node}
+use Rattle.dx_graph.specs.Graph.{node_at}
+use Rattle.dx_graph.specs.GraphView.{graph_of}
+use Rattle.dx_graph.specs.Unfolding.{calls_of}
+use Rattle.dx_tags.specs.Closed.{ResultTerm, CallOf, heads_of, value_term, value_terms}
+use Rattle.dx_tags.proofs.Growth.{goes_on_then}
+use Rattle.dx_meaning.specs.Scan.{Sight, IsOff, Stops, Forms, Ends, all_scanned, call_scanned, with_file}
+use Rattle.dx_demand.specs.Memo.{answers_of, site_of, node_scans, input_scan, input_at}
+use Rattle.dx_demand.specs.Stack.{Begins}
+use Rattle.dx_demand.specs.Steps.{KnownFits, KnownRight}
+use Rattle.dx_demand.specs.declared.step.Known.TheVariants as known
+use Rattle.dx_demand.specs.declared.settled.Settled.TheVariants as settled
+use Rattle.dx_demand.proofs.Growing.{memo_fits_grows, memo_right_grows, begins_grows}
+use Rattle.dx_demand.proofs.Ports.{each_at, each_length, begins_push, begins_all, begins_stop, module_leads}
+use Rattle.dx_demand.proofs.Memos.{form_fits, form_right}
+use Rattle.dx_demand.proofs.PortSteps.{nodes_of, more_itself}
+use Rattle.dx_demand.proofs.Taken.{slot, takes, takes_in, awaited}
+use Rattle.dx_demand.proofs.step.module_step.Goals as goal
+
+pub known_of-requires-clause-input : goal.known_of-requires-clause-input
+known_of-requires-clause-input c =
+    let nodes = (graph_of c.args.g.now).nodes in
+    let lawful = nodes_of (graph_of c.args.g.now) c.args.g.now.lawful in
+    let lt : c.args.port.node < length nodes = c.requires.port.0 in
+    let inputs = (node_at nodes c.args.port.node).inputs in
+    let same : c.as_slice-inputs.result.now ≡ inputs = c.as_slice-inputs.ensures ∙ ap (λ (x : Node). x.inputs) c.node.ensures in
+    let x = c.index-inputs-len.result in
+    let here : c.len-in-loop-inputs.result < length c.as_slice-inputs.result.now = omega (arith, c.loop-inputs-test.true, c.len.ensures, c.len-in-loop-inputs.ensures) in
+    let at : slice_get inputs (length c.loop-inputs.arguments) ≡ Some x = slot c.as_slice-inputs.result.now inputs c.len-in-loop-inputs.result (length c.loop-inputs.arguments) x same c.len-in-loop-inputs.ensures here c.index-inputs-len.is in
+    takes_in nodes c.args.port.node lt x (takes nodes lawful c.args.port.node lt (length c.loop-inputs.arguments) x at)
+
+pub known_of-requires-clause-memo : goal.known_of-requires-clause-memo
+known_of-requires-clause-memo c =
+    memo_fits_grows (graph_of c.args.g.now).nodes c.args.tags.now c.loop-inputs.tags c.loop-inputs.invariant.goes_on c.args.memo.now c.requires.memo
+
+pub loop-inputs-preserved : goal.loop-inputs-preserved
+loop-inputs-preserved c =
+    let nodes = (graph_of c.args.g.now).nodes in
+    let lawful = nodes_of (graph_of c.args.g.now) c.args.g.now.lawful in
+    let lt : c.args.port.node < length nodes = c.requires.port.0 in
+    let inputs = (node_at nodes c.args.port.node).inputs in
+    let same : c.as_slice-inputs.result.now ≡ inputs = c.as_slice-inputs.ensures ∙ ap (λ (x : Node). x.inputs) c.node.ensures in
+    let x = c.index-inputs-len.result in
+    let here : c.len-in-loop-inputs.result < length c.as_slice-inputs.result.now = omega (arith, c.loop-inputs-test.true, c.len.ensures, c.len-in-loop-inputs.ensures) in
+    let at : slice_get inputs (length c.loop-inputs.arguments) ≡ Some x = slot c.as_slice-inputs.result.now inputs c.len-in-loop-inputs.result (length c.loop-inputs.arguments) x same c.len-in-loop-inputs.ensures here c.index-inputs-len.is in
+    let goes = c.in_ok-t.ensures.goes_on in
+    let old = c.loop-inputs.tags in
+    let new = c.known_of.new.tags in
+    let ts = c.loop-inputs.arguments in
+    let is : c.in_ok-t.field-0 ≡ known.Settled (settled.Value c.in-Settled-Value.t) = c.in-Settled-Value.is ∙ ap known.Settled c.in-Settled-Value.field-0-is in
+    let fits : IsValue new c.in-Settled-Value.t = subst (KnownFits nodes new (answers_of c.args.memo.now) x) is c.in_ok-t.ensures.fits in
+    let pushed : c.push.new.self ≡ ts ++ c.in-Settled-Value.t ∷ [] = c.in_ok-push-in-Settled-Value.ensures.ok in
+    let before = arguments_on old new goes ts c.loop-inputs.invariant.earlier in
+    record {
+      file = c.loop-inputs.invariant.file;
+      formed = c.in_ok-t.ensures.formed;
+      goes_on = goes_on_then c.args.tags.now old new c.loop-inputs.invariant.goes_on goes;
+      few = (let long = ap length pushed in let app = length-append ts (c.in-Settled-Value.t ∷ []) in let whole = ap length same in omega (arith, long, app, whole, here, c.len-in-loop-inputs.ensures));
+      earlier = subst (AreArguments new) (sym pushed) (arguments_push new ts c.in-Settled-Value.t before fits);
+      found = λ l m f.
+          let first = formed_of c.args.memo.now in
+          subst (AllFound l new first) (sym pushed) (all_found_push l new first ts c.in-Settled-Value.t
+          (all_found_grows old new goes l first first (kept_itself first) ts c.loop-inputs.invariant.earlier.earlier (c.loop-inputs.invariant.found l m f))
+          (subst (KnownFound l new first) is (c.in_ok-t.ensures.found l (memo_found_grows nodes c.args.tags.now old c.loop-inputs.invariant.goes_on c.requires.formed.formed l c.args.memo.now c.requires.memo m))));
+      begins = λ s m b.
+          let found : input_scan s nodes x ≡ Forms (value_term (heads_of new) c.in-Settled-Value.t) = subst (KnownRight s nodes new x) is (c.in_ok-t.ensures.right s (memo_right_grows s nodes c.args.tags.now old c.loop-inputs.invariant.goes_on c.args.memo.now c.requires.memo m)) in
+          let ss = node_scans s nodes c.args.port.node in
+          subst (Begins (heads_of new) ss) (sym pushed) (begins_push (heads_of new) ss ts c.in-Settled-Value.t (begins_grows old new goes ss ts c.loop-inputs.invariant.earlier (c.loop-inputs.invariant.begins s m b)) (each_at s (calls_of nodes) inputs (length ts) x at ∙ ap Some found));
+    }
+
+pub returns-in-Settled-Off-clause-earlier : goal.returns-in-Settled-Off-clause-earlier
+returns-in-Settled-Off-clause-earlier c =
+    arguments_on c.loop-inputs.tags c.known_of.new.tags c.in_ok-t.ensures.goes_on c.loop-inputs.arguments c.loop-inputs.invariant.earlier
+
+pub returns-in-Settled-Off-clause-begins : goal.returns-in-Settled-Off-clause-begins
+returns-in-Settled-Off-clause-begins c =
+    λ s m b. begins_grows c.loop-inputs.tags c.known_of.new.tags c.in_ok-t.ensures.goes_on (node_scans s (graph_of c.args.g.now).nodes c.args.port.node) c.loop-inputs.arguments c.loop-inputs.invariant.earlier (c.loop-inputs.invariant.begins s m b)
+
+pub returns-in-Settled-Off-clause-right : goal.returns-in-Settled-Off-clause-right
+returns-in-Settled-Off-clause-right c =
+    let nodes = (graph_of c.args.g.now).nodes in
+    let lawful = nodes_of (graph_of c.args.g.now) c.args.g.now.lawful in
+    let lt : c.args.port.node < length nodes = c.requires.port.0 in
+    let inputs = (node_at nodes c.args.port.node).inputs in
+    let same : c.as_slice-inputs.result.now ≡ inputs = c.as_slice-inputs.ensures ∙ ap (λ (x : Node). x.inputs) c.node.ensures in
+    let x = c.index-inputs-len.result in
+    let here : c.len-in-loop-inputs.result < length c.as_slice-inputs.result.now = omega (arith, c.loop-inputs-test.true, c.len.ensures, c.len-in-loop-inputs.ensures) in
+    let at : slice_get inputs (length c.loop-inputs.arguments) ≡ Some x = slot c.as_slice-inputs.result.now inputs c.len-in-loop-inputs.result (length c.loop-inputs.arguments) x same c.len-in-loop-inputs.ensures here c.index-inputs-len.is in
+    let goes = c.in_ok-t.ensures.goes_on in
+    let old = c.loop-inputs.tags in
+    let new = c.known_of.new.tags in
+    let ts = c.loop-inputs.arguments in
+    let is : c.in_ok-t.field-0 ≡ known.Settled settled.Off = c.in-Settled-Off.is ∙ ap known.Settled c.in-Settled-Off.field-0-is in
+    λ s m b h.
+    let found : input_scan s nodes x ≡ Ends IsOff = subst (KnownRight s nodes new x) is (c.in_ok-t.ensures.right s (memo_right_grows s nodes c.args.tags.now old c.loop-inputs.invariant.goes_on c.args.memo.now c.requires.memo m)) in
+    h s (more_itself s) ∙ ap (call_scanned c.args.called c.args.file c.args.port.result) (begins_stop (heads_of old) (node_scans s nodes c.args.port.node) ts IsOff (c.loop-inputs.invariant.begins s m b) (each_at s (calls_of nodes) inputs (length ts) x at ∙ ap Some found))
+
+pub returns-in-Settled-Halt-clause-earlier : goal.returns-in-Settled-Halt-clause-earlier
+returns-in-Settled-Halt-clause-earlier c =
+    arguments_on c.loop-inputs.tags c.known_of.new.tags c.in_ok-t.ensures.goes_on c.loop-inputs.arguments c.loop-inputs.invariant.earlier
+
+pub returns-in-Settled-Halt-clause-begins : goal.returns-in-Settled-Halt-clause-begins
+returns-in-Settled-Halt-clause-begins c =
+    λ s m b. begins_grows c.loop-inputs.tags c.known_of.new.tags c.in_ok-t.ensures.goes_on (node_scans s (graph_of c.args.g.now).nodes c.args.port.node) c.loop-inputs.arguments c.loop-inputs.invariant.earlier (c.loop-inputs.invariant.begins s m b)
+
+pub returns-in-Settled-Halt-clause-right : goal.returns-in-Settled-Halt-clause-right
+returns-in-Settled-Halt-clause-right c =
+    let nodes = (graph_of c.args.g.now).nodes in
+    let lawful = nodes_of (graph_of c.args.g.now) c.args.g.now.lawful in
+    let lt : c.args.port.node < length nodes = c.requires.port.0 in
+    let inputs = (node_at nodes c.args.port.node).inputs in
+    let same : c.as_slice-inputs.result.now ≡ inputs = c.as_slice-inputs.ensures ∙ ap (λ (x : Node). x.inputs) c.node.ensures in
+    let x = c.index-inputs-len.result in
+    let here : c.len-in-loop-inputs.result < length c.as_slice-inputs.result.now = omega (arith, c.loop-inputs-test.true, c.len.ensures, c.len-in-loop-inputs.ensures) in
+    let at : slice_get inputs (length c.loop-inputs.arguments) ≡ Some x = slot c.as_slice-inputs.result.now inputs c.len-in-loop-inputs.result (length c.loop-inputs.arguments) x same c.len-in-loop-inputs.ensures here c.index-inputs-len.is in
+    let goes = c.in_ok-t.ensures.goes_on in
+    let old = c.loop-inputs.tags in
+    let new = c.known_of.new.tags in
+    let ts = c.loop-inputs.arguments in
+    let is : c.in_ok-t.field-0 ≡ known.Settled (settled.Halt c.in-Settled-Halt.n c.in-Settled-Halt.code) = c.in-Settled-Halt.is ∙ ap known.Settled c.in-Settled-Halt.field-0-is in
+    λ s m b h.
+    let found : input_scan s nodes x ≡ Ends (Stops (site_of nodes c.in-Settled-Halt.n) c.in-Settled-Halt.code) = subst (KnownRight s nodes new x) is (c.in_ok-t.ensures.right s (memo_right_grows s nodes c.args.tags.now old c.loop-inputs.invariant.goes_on c.args.memo.now c.requires.memo m)) in
+    h s (more_itself s) ∙ ap (call_scanned c.args.called c.args.file c.args.port.result) (begins_stop (heads_of old) (node_scans s nodes c.args.port.node) ts (Stops (site_of nodes c.in-Settled-Halt.n) c.in-Settled-Halt.code) (c.loop-inputs.invariant.begins s m b) (each_at s (calls_of nodes) inputs (length ts) x at ∙ ap Some found))
+
+pub returns-in-Open-clause-earlier : goal.returns-in-Open-clause-earlier
+returns-in-Open-clause-earlier c =
+    arguments_on c.loop-inputs.tags c.known_of.new.tags c.in_ok-t.ensures.goes_on c.loop-inputs.arguments c.loop-inputs.invariant.earlier
+
+pub returns-in-Open-clause-begins : goal.returns-in-Open-clause-begins
+returns-in-Open-clause-begins c =
+    λ s m b. begins_grows c.loop-inputs.tags c.known_of.new.tags c.in_ok-t.ensures.goes_on (node_scans s (graph_of c.args.g.now).nodes c.args.port.node) c.loop-inputs.arguments c.loop-inputs.invariant.earlier (c.loop-inputs.invariant.begins s m b)
+
+pub returns-in-Open-clause-fits : goal.returns-in-Open-clause-fits
+returns-in-Open-clause-fits c =
+    let nodes = (graph_of c.args.g.now).nodes in
+    let lawful = nodes_of (graph_of c.args.g.now) c.args.g.now.lawful in
+    let lt : c.args.port.node < length nodes = c.requires.port.0 in
+    let inputs = (node_at nodes c.args.port.node).inputs in
+    let same : c.as_slice-inputs.result.now ≡ inputs = c.as_slice-inputs.ensures ∙ ap (λ (x : Node). x.inputs) c.node.ensures in
+    let x = c.index-inputs-len.result in
+    let here : c.len-in-loop-inputs.result < length c.as_slice-inputs.result.now = omega (arith, c.loop-inputs-test.true, c.len.ensures, c.len-in-loop-inputs.ensures) in
+    let at : slice_get inputs (length c.loop-inputs.arguments) ≡ Some x = slot c.as_slice-inputs.result.now inputs c.len-in-loop-inputs.result (length c.loop-inputs.arguments) x same c.len-in-loop-inputs.ensures here c.index-inputs-len.is in
+    let open_ = subst (KnownFits nodes c.known_of.new.tags (answers_of c.args.memo.now) x) c.in-Open.is c.in_ok-t.ensures.fits in
+    let there = awaited nodes c.args.port.node lt x c.in-Open.awaited open_.0 (takes nodes lawful c.args.port.node lt (length c.loop-inputs.arguments) x at) in
+    λ given. (there.0, there.1, open_.1)
+
+pub returns-in-Open-clause-right : goal.returns-in-Open-clause-right
+returns-in-Open-clause-right c =
+    let nodes = (graph_of c.args.g.now).nodes in
+    let lawful = nodes_of (graph_of c.args.g.now) c.args.g.now.lawful in
+    let lt : c.args.port.node < length nodes = c.requires.port.0 in
+    let inputs = (node_at nodes c.args.port.node).inputs in
+    let same : c.as_slice-inputs.result.now ≡ inputs = c.as_slice-inputs.ensures ∙ ap (λ (x : Node). x.inputs) c.node.ensures in
+    let x = c.index-inputs-len.result in
+    let here : c.len-in-loop-inputs.result < length c.as_slice-inputs.result.now = omega (arith, c.loop-inputs-test.true, c.len.ensures, c.len-in-loop-inputs.ensures) in
+    let at : slice_get inputs (length c.loop-inputs.arguments) ≡ Some x = slot c.as_slice-inputs.result.now inputs c.len-in-loop-inputs.result (length c.loop-inputs.arguments) x same c.len-in-loop-inputs.ensures here c.index-inputs-len.is in
+    let open_ = subst (KnownFits nodes c.known_of.new.tags (answers_of c.args.memo.now) x) c.in-Open.is c.in_ok-t.ensures.fits in
+    λ s m b h. module_leads s nodes c.args.port c.args.called c.args.file h (heads_of c.loop-inputs.tags) c.loop-inputs.arguments (c.loop-inputs.invariant.begins s m b) c.in-Open.awaited (at ∙ ap Some open_.0)
+
+pub returns-in-Settled-Off-clause-memo : goal.returns-in-Settled-Off-clause-memo
+returns-in-Settled-Off-clause-memo c =
+    let goes = goes_on_then c.args.tags.now c.loop-inputs.tags c.known_of.new.tags c.loop-inputs.invariant.goes_on c.in_ok-t.ensures.goes_on in
+    memo_fits_grows (graph_of c.args.g.now).nodes c.args.tags.now c.known_of.new.tags goes c.args.memo.now c.requires.memo
+
+pub returns-in-Settled-Off-clause-memo_right : goal.returns-in-Settled-Off-clause-memo_right
+returns-in-Settled-Off-clause-memo_right c = λ s m.
+    let goes = goes_on_then c.args.tags.now c.loop-inputs.tags c.known_of.new.tags c.loop-inputs.invariant.goes_on c.in_ok-t.ensures.goes_on in
+    memo_right_grows s (graph_of c.args.g.now).nodes c.args.tags.now c.known_of.new.tags goes c.args.memo.now c.requires.memo m
+
+pub returns-in-Settled-Halt-clause-memo : goal.returns-in-Settled-Halt-clause-memo
+returns-in-Settled-Halt-clause-memo c =
+    let goes = goes_on_then c.args.tags.now c.loop-inputs.tags c.known_of.new.tags c.loop-inputs.invariant.goes_on c.in_ok-t.ensures.goes_on in
+    memo_fits_grows (graph_of c.args.g.now).nodes c.args.tags.now c.known_of.new.tags goes c.args.memo.now c.requires.memo
+
+pub returns-in-Settled-Halt-clause-memo_right : goal.returns-in-Settled-Halt-clause-memo_right
+returns-in-Settled-Halt-clause-memo_right c = λ s m.
+    let goes = goes_on_then c.args.tags.now c.loop-inputs.tags c.known_of.new.tags c.loop-inputs.invariant.goes_on c.in_ok-t.ensures.goes_on in
+    memo_right_grows s (graph_of c.args.g.now).nodes c.args.tags.now c.known_of.new.tags goes c.args.memo.now c.requires.memo m
+
+pub returns-in-Open-clause-memo : goal.returns-in-Open-clause-memo
+returns-in-Open-clause-memo c =
+    let goes = goes_on_then c.args.tags.now c.loop-inputs.tags c.known_of.new.tags c.loop-inputs.invariant.goes_on c.in_ok-t.ensures.goes_on in
+    memo_fits_grows (graph_of c.args.g.now).nodes c.args.tags.now c.known_of.new.tags goes c.args.memo.now c.requires.memo
+
+pub returns-in-Open-clause-memo_right : goal.returns-in-Open-clause-memo_right
+returns-in-Open-clause-memo_right c = λ s m.
+    let goes = goes_on_then c.args.tags.now c.loop-inputs.tags c.known_of.new.tags c.loop-inputs.invariant.goes_on c.in_ok-t.ensures.goes_on in
+    memo_right_grows s (graph_of c.args.g.now).nodes c.args.tags.now c.known_of.new.tags goes c.args.memo.now c.requires.memo m
+
+pub returns-clause-memo : goal.returns-clause-memo
+returns-clause-memo c =
+    let nodes = (graph_of c.args.g.now).nodes in
+    let new = c.call_of_all.new.tags in
+    let goes = goes_on_then c.args.tags.now c.loop-inputs.tags new c.loop-inputs.invariant.goes_on c.in_ok-t-2.ensures.goes_on in
+    let old = c.args.memo.now in
+    form_fits nodes new old c.call_of_all.new.memo c.in_ok-t-2.t.tag c.args.port.node (c.in_ok-t-2.ensures.first, c.in_ok-t-2.ensures.answers, c.in_ok-t-2.ensures.selectors)
+    c.in_ok-t-2.ensures.fits.fits.within c.requires.port.0 (memo_fits_grows nodes c.args.tags.now new goes old c.requires.memo)
+
+pub returns-clause-memo_right : goal.returns-clause-memo_right
+returns-clause-memo_right c = λ s m.
+    let nodes = (graph_of c.args.g.now).nodes in
+    let new = c.call_of_all.new.tags in
+    let goes = goes_on_then c.args.tags.now c.loop-inputs.tags new c.loop-inputs.invariant.goes_on c.in_ok-t-2.ensures.goes_on in
+    let old = c.args.memo.now in
+    form_right s nodes new old c.call_of_all.new.memo c.in_ok-t-2.ensures.answers c.in_ok-t-2.ensures.selectors (memo_right_grows s nodes c.args.tags.now new goes old c.requires.memo m)
+
+pub returns-clause-right : goal.returns-clause-right
+returns-clause-right c = λ s m b h.
+    let nodes = (graph_of c.args.g.now).nodes in
+    let inputs = (node_at nodes c.args.port.node).inputs in
+    let same : c.as_slice-inputs.result.now ≡ inputs = c.as_slice-inputs.ensures ∙ ap (λ (x : Node). x.inputs) c.node.ensures in
+    let hs = heads_of c.loop-inputs.tags in
+    let ts = c.loop-inputs.arguments in
+    let ss = node_scans s nodes c.args.port.node in
+    let many = each_length s (calls_of nodes) inputs in
+    let whole = ap length same in
+    let all : all_scanned ss ≡ Forms (value_terms hs ts) = begins_all hs ss ts (c.loop-inputs.invariant.begins s m b) (omega (arith, many, whole, c.loop-inputs-test.false, c.len.ensures)) in
+    h s (more_itself s) ∙ ap (call_scanned c.args.called c.args.file c.args.port.result) all
+    ∙ ap Forms (ap (λ us. ResultTerm c.args.port.result (CallOf c.args.called (with_file (value_terms hs us) c.args.file))) (sym c.replace-all.ensures.value) ∙ ap (λ f. ResultTerm c.args.port.result (CallOf c.args.called (with_file (value_terms hs c.replace-all.result) f))) (sym c.loop-inputs.invariant.file) ∙ sym c.in_ok-t-2.ensures.named)
+
+pub call_of_all-requires-clause-takes : goal.call_of_all-requires-clause-takes
+call_of_all-requires-clause-takes c =
+    let nodes = (graph_of c.args.g.now).nodes in
+    let node = nodes_of (graph_of c.args.g.now) c.args.g.now.lawful c.args.port.node c.requires.port.0 in
+    let inputs = (node_at nodes c.args.port.node).inputs in
+    let same : c.as_slice-inputs.result.now ≡ inputs = c.as_slice-inputs.ensures ∙ ap (λ (x : Node). x.inputs) c.node.ensures in
+    let whole = ap length same in
+    let count : length c.replace-all.result ≡ length inputs = ap length c.replace-all.ensures.value ∙ omega (arith, whole, c.loop-inputs-test.false, c.len.ensures, c.loop-inputs.invariant.few) in
+    subst (Takes c.args.called) (sym count) (node_takes (node_at nodes c.args.port.node).what c.args.called (length inputs) c.requires.what node.enough node.few)
+
+pub call_of_all-requires-clause-reads : goal.call_of_all-requires-clause-reads
+call_of_all-requires-clause-reads c = subst (MayRead c.args.called) (sym c.loop-inputs.invariant.file) c.requires.reads
+
+pub returns-in-Settled-Off-clause-memo_found : goal.returns-in-Settled-Off-clause-memo_found
+returns-in-Settled-Off-clause-memo_found c = λ l m f.
+    let goes = goes_on_then c.args.tags.now c.loop-inputs.tags c.known_of.new.tags c.loop-inputs.invariant.goes_on c.in_ok-t.ensures.goes_on in
+    memo_found_grows (graph_of c.args.g.now).nodes c.args.tags.now c.known_of.new.tags goes c.requires.formed.formed l c.args.memo.now c.requires.memo m
+
+pub returns-in-Settled-Off-clause-arguments_found : goal.returns-in-Settled-Off-clause-arguments_found
+returns-in-Settled-Off-clause-arguments_found c = λ l m f.
+    let first = formed_of c.args.memo.now in
+    all_found_grows c.loop-inputs.tags c.known_of.new.tags c.in_ok-t.ensures.goes_on l first first (kept_itself first) c.loop-inputs.arguments c.loop-inputs.invariant.earlier.earlier (c.loop-inputs.invariant.found l m f)
+
+pub returns-in-Settled-Halt-clause-memo_found : goal.returns-in-Settled-Halt-clause-memo_found
+returns-in-Settled-Halt-clause-memo_found c = λ l m f.
+    let goes = goes_on_then c.args.tags.now c.loop-inputs.tags c.known_of.new.tags c.loop-inputs.invariant.goes_on c.in_ok-t.ensures.goes_on in
+    memo_found_grows (graph_of c.args.g.now).nodes c.args.tags.now c.known_of.new.tags goes c.requires.formed.formed l c.args.memo.now c.requires.memo m
+
+pub returns-in-Settled-Halt-clause-arguments_found : goal.returns-in-Settled-Halt-clause-arguments_found
+returns-in-Settled-Halt-clause-arguments_found c = λ l m f.
+    let first = formed_of c.args.memo.now in
+    all_found_grows c.loop-inputs.tags c.known_of.new.tags c.in_ok-t.ensures.goes_on l first first (kept_itself first) c.loop-inputs.arguments c.loop-inputs.invariant.earlier.earlier (c.loop-inputs.invariant.found l m f)
+
+pub returns-in-Open-clause-memo_found : goal.returns-in-Open-clause-memo_found
+returns-in-Open-clause-memo_found c = λ l m f.
+    let goes = goes_on_then c.args.tags.now c.loop-inputs.tags c.known_of.new.tags c.loop-inputs.invariant.goes_on c.in_ok-t.ensures.goes_on in
+    memo_found_grows (graph_of c.args.g.now).nodes c.args.tags.now c.known_of.new.tags goes c.requires.formed.formed l c.args.memo.now c.requires.memo m
+
+pub returns-in-Open-clause-arguments_found : goal.returns-in-Open-clause-arguments_found
+returns-in-Open-clause-arguments_found c = λ l m f.
+    let first = formed_of c.args.memo.now in
+    all_found_grows c.loop-inputs.tags c.known_of.new.tags c.in_ok-t.ensures.goes_on l first first (kept_itself first) c.loop-inputs.arguments c.loop-inputs.invariant.earlier.earlier (c.loop-inputs.invariant.found l m f)
+
+pub returns-clause-first : goal.returns-clause-first
+returns-clause-first c = forms_keep c.args.memo.now c.call_of_all.new.memo c.in_ok-t-2.t.tag c.args.port.node c.in_ok-t-2.ensures.first
+
+pub returns-clause-memo_found : goal.returns-clause-memo_found
+returns-clause-memo_found c = λ l m f.
+    let new = c.call_of_all.new.tags in
+    let mid = c.loop-inputs.tags in
+    let goes = goes_on_then c.args.tags.now mid new c.loop-inputs.invariant.goes_on c.in_ok-t-2.ensures.goes_on in
+    let old = c.args.memo.now in
+    let all = subst (AllFound l mid (formed_of old)) (sym c.replace-all.ensures.value) (c.loop-inputs.invariant.found l m f) in
+    form_found l new old c.call_of_all.new.memo c.in_ok-t-2.t.tag c.args.port.node (c.in_ok-t-2.ensures.first, c.in_ok-t-2.ensures.answers, c.in_ok-t-2.ensures.selectors)
+    (c.in_ok-t-2.ensures.found l all) (memo_found_grows (graph_of c.args.g.now).nodes c.args.tags.now new goes c.requires.formed.formed l old c.requires.memo m)
+
+pub returns-clause-found : goal.returns-clause-found
+returns-clause-found c = λ l m f. inr (inr (formed_found (formed_of c.args.memo.now) (formed_of c.call_of_all.new.memo) c.in_ok-t-2.t.tag c.args.port.node c.in_ok-t-2.ensures.first))

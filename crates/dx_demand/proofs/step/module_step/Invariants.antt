@@ -1,0 +1,27 @@
+use Rattle.dx_demand.specs.Terms.{AreArguments, AreExact}
+use Rattle.std.proofs.Common.{◌≡◌, ◌≤◌, ◌-◌, length}
+use Rattle.dx_graph.specs.Graph.{node_at}
+use Rattle.dx_graph.specs.GraphView.{graph_of}
+use Rattle.dx_tags.specs.Closed.{heads_of, GoesOn}
+use Rattle.dx_meaning.specs.Scan.{Sight}
+use Rattle.dx_links.specs.LinkMap.{LinkMap}
+use Rattle.dx_demand.specs.Found.{AllFound, MemoFound}
+use Rattle.dx_demand.specs.Memo.{formed_of, node_scans, MemoRight}
+use Rattle.dx_demand.specs.Stack.{Begins}
+use Rattle.dx_demand.proofs.step.module_step.Given as goal
+
+abbrev pub decreases-loop-inputs : goal.decreases-loop-inputs
+decreases-loop-inputs l = length l.inputs - length l.arguments
+
+-- the arguments so far are those of the first inputs
+abbrev pub invariant-loop-inputs : goal.invariant-loop-inputs
+invariant-loop-inputs l = record {
+  file : l.file ≡ l.fn.file;
+  formed : AreExact l.tags;
+  goes_on : GoesOn l.fn.tags l.tags;
+  few : length l.arguments ≤ length (node_at (graph_of l.g).nodes l.port.node).inputs;
+  earlier : AreArguments l.tags l.arguments;
+  found : (links : LinkMap) → MemoFound links l.fn.tags l.memo → AllFound links l.fn.tags (formed_of l.memo) l.fn.arguments → AllFound links l.tags (formed_of l.memo) l.arguments;
+  begins : (s : Sight) → MemoRight s (graph_of l.g).nodes l.fn.tags l.memo → Begins (heads_of l.fn.tags) (node_scans s (graph_of l.g).nodes l.port.node) l.fn.arguments →
+      Begins (heads_of l.tags) (node_scans s (graph_of l.g).nodes l.port.node) l.arguments;
+}

@@ -1,0 +1,108 @@
+use Rattle.dx_tags.proofs.Growth.{goes_on_then}
+use Rattle.dx_demand.proofs.Finding.{memo_found_grows}
+use Rattle.dx_demand.specs.Terms.{IsValue}
+use Rattle.std.proofs.Common.{◌≡◌, ◌<◌, ◌∙◌, ℕ, length, Option, Some, None, option_map, refl, sym, ap, subst}
+use Rattle.dx_graph.specs.Graph.{node_at}
+use Rattle.dx_graph.specs.GraphView.{graph_of}
+use Rattle.dx_tags.specs.Closed.{heads_of, value_term}
+use Rattle.dx_demand.specs.Given.{value_behind}
+use Rattle.dx_meaning.specs.Scan.{Sight, Forms}
+use Rattle.dx_demand.specs.Memo.{selector_of, selector_scan}
+use Rattle.dx_demand.specs.Steps.{SelectionFits, SelectionRight, StepRight}
+use Rattle.dx_demand.proofs.Growing.{links_fit_grows, memo_fits_grows, memo_right_grows, tells_before, on_ok_then, if_ok_by}
+use Rattle.dx_demand.proofs.Ports.{picking_selects, selector_needs, selector_picks}
+use Rattle.dx_demand.proofs.PortSteps.{nodes_of}
+use Rattle.dx_demand.proofs.step.selector_step.Goals as goal
+
+pub picked-requires-clause-links : goal.picked-requires-clause-links
+picked-requires-clause-links g c =
+    links_fit_grows c.args.tags.now c.select_term.new.tags c.in_ok-first.ensures.goes_on c.args.links.now.links c.requires.links
+
+pub returns-in-Before-clause-fits : goal.returns-in-Before-clause-fits
+returns-in-Before-clause-fits g c =
+    let nodes = (graph_of c.args.g.now).nodes in
+    let lawful = nodes_of (graph_of c.args.g.now) c.args.g.now.lawful in
+    let lt : c.args.port.node < length nodes = c.requires.port.0 in
+    let told = g.G.Given.told c.args.given.now in
+    let mid = c.select_term.new.tags in
+    let memo = c.select_term.new.memo in
+    subst (SelectionFits nodes mid told memo c.args.port) c.in-Before.is (c.in_ok-first.ensures.fits told)
+
+pub returns-in-None-clause-fits : goal.returns-in-None-clause-fits
+returns-in-None-clause-fits g c =
+    let nodes = (graph_of c.args.g.now).nodes in
+    let lawful = nodes_of (graph_of c.args.g.now) c.args.g.now.lawful in
+    let lt : c.args.port.node < length nodes = c.requires.port.0 in
+    let told = g.G.Given.told c.args.given.now in
+    let mid = c.select_term.new.tags in
+    let memo = c.select_term.new.memo in
+    let fact : selector_of memo c.args.port.node ≡ Some c.in-Selects.t = subst (SelectionFits nodes mid told memo c.args.port) c.in-Selects.is (c.in_ok-first.ensures.fits told) in
+    let fits : IsValue mid c.in-Selects.t = c.in_ok-first.ensures.memo.selectors c.args.port.node c.in-Selects.t fact in
+    let term = value_term (heads_of mid) c.in-Selects.t in
+    (fits, sym c.value.ensures ∙ ap (option_map value_behind) c.in-None.is, fact)
+
+pub returns-in-None-clause-right : goal.returns-in-None-clause-right
+returns-in-None-clause-right g c =
+    let nodes = (graph_of c.args.g.now).nodes in
+    let lawful = nodes_of (graph_of c.args.g.now) c.args.g.now.lawful in
+    let lt : c.args.port.node < length nodes = c.requires.port.0 in
+    let told = g.G.Given.told c.args.given.now in
+    let mid = c.select_term.new.tags in
+    let memo = c.select_term.new.memo in
+    let fact : selector_of memo c.args.port.node ≡ Some c.in-Selects.t = subst (SelectionFits nodes mid told memo c.args.port) c.in-Selects.is (c.in_ok-first.ensures.fits told) in
+    let fits : IsValue mid c.in-Selects.t = c.in_ok-first.ensures.memo.selectors c.args.port.node c.in-Selects.t fact in
+    let term = value_term (heads_of mid) c.in-Selects.t in
+    λ s tells holds m.
+    let e : selector_scan s nodes c.args.port.node ≡ Forms term = subst (SelectionRight s nodes mid c.args.port) c.in-Selects.is (c.in_ok-first.ensures.right s m) in
+    selector_needs s nodes lawful c.args.port lt (picking_selects (node_at nodes c.args.port.node).what c.requires.selects) term e (sym (tells c.in-Selects.t fits) ∙ sym c.value.ensures ∙ ap (option_map value_behind) c.in-None.is)
+
+pub returns-in-Some-clause-memo : goal.returns-in-Some-clause-memo
+returns-in-Some-clause-memo g c =
+    let nodes = (graph_of c.args.g.now).nodes in
+    let lawful = nodes_of (graph_of c.args.g.now) c.args.g.now.lawful in
+    let lt : c.args.port.node < length nodes = c.requires.port.0 in
+    let told = g.G.Given.told c.args.given.now in
+    let mid = c.select_term.new.tags in
+    let memo = c.select_term.new.memo in
+    on_ok_then c.picked.result c.picked.ensures.goes_on (λ more. memo_fits_grows nodes mid c.picked.new.tags more memo c.in_ok-first.ensures.memo)
+
+pub returns-in-Some-clause-fits : goal.returns-in-Some-clause-fits
+returns-in-Some-clause-fits g c =
+    c.picked.ensures.fits (g.G.Given.told c.args.given.now)
+
+pub returns-in-Some-clause-memo_right : goal.returns-in-Some-clause-memo_right
+returns-in-Some-clause-memo_right g c =
+    let nodes = (graph_of c.args.g.now).nodes in
+    let lawful = nodes_of (graph_of c.args.g.now) c.args.g.now.lawful in
+    let lt : c.args.port.node < length nodes = c.requires.port.0 in
+    let told = g.G.Given.told c.args.given.now in
+    let mid = c.select_term.new.tags in
+    let memo = c.select_term.new.memo in
+    λ s m. on_ok_then c.picked.result c.picked.ensures.goes_on (λ more. memo_right_grows s nodes mid c.picked.new.tags more memo c.in_ok-first.ensures.memo (c.in_ok-first.ensures.memo_right s m))
+
+pub returns-in-Some-clause-right : goal.returns-in-Some-clause-right
+returns-in-Some-clause-right g c =
+    let nodes = (graph_of c.args.g.now).nodes in
+    let lawful = nodes_of (graph_of c.args.g.now) c.args.g.now.lawful in
+    let lt : c.args.port.node < length nodes = c.requires.port.0 in
+    let told = g.G.Given.told c.args.given.now in
+    let mid = c.select_term.new.tags in
+    let memo = c.select_term.new.memo in
+    let fact : selector_of memo c.args.port.node ≡ Some c.in-Selects.t = subst (SelectionFits nodes mid told memo c.args.port) c.in-Selects.is (c.in_ok-first.ensures.fits told) in
+    let fits : IsValue mid c.in-Selects.t = c.in_ok-first.ensures.memo.selectors c.args.port.node c.in-Selects.t fact in
+    let term = value_term (heads_of mid) c.in-Selects.t in
+    λ s tells holds m. if_ok_by c.picked.result (λ x. StepRight s nodes c.picked.new.tags c.args.port x) c.picked.ensures.goes_on (λ more.
+    let before = tells_before told mid c.picked.new.tags more s tells in
+    let e : selector_scan s nodes c.args.port.node ≡ Forms term = subst (SelectionRight s nodes mid c.args.port) c.in-Selects.is (c.in_ok-first.ensures.right s m) in
+    let v : s.told term ≡ Some (value_behind c.in-Some.v) = sym (before c.in-Selects.t fits) ∙ sym c.value.ensures ∙ ap (option_map value_behind) c.in-Some.is in
+    c.picked.ensures.right s holds (c.in_ok-first.ensures.memo_right s m) (λ s' m'. selector_picks s nodes lawful c.args.port lt c.requires.selects term e (value_behind c.in-Some.v) v s' m'))
+
+pub select_term-requires-clause-selects : goal.select_term-requires-clause-selects
+select_term-requires-clause-selects g c = picking_selects (node_at (graph_of c.args.g.now).nodes c.args.port.node).what c.requires.selects
+
+pub returns-in-Some-clause-goes_on : goal.returns-in-Some-clause-goes_on
+returns-in-Some-clause-goes_on g c = on_ok_then c.picked.result c.picked.ensures.goes_on (λ more. goes_on_then c.args.tags.now c.select_term.new.tags c.picked.new.tags c.in_ok-first.ensures.goes_on more)
+
+pub returns-in-Some-clause-memo_found : goal.returns-in-Some-clause-memo_found
+returns-in-Some-clause-memo_found g c = λ m. on_ok_then c.picked.result c.picked.ensures.goes_on (λ more.
+    memo_found_grows (graph_of c.args.g.now).nodes c.select_term.new.tags c.picked.new.tags more c.in_ok-first.ensures.formed.formed c.args.links.now.links c.select_term.new.memo c.in_ok-first.ensures.memo (c.in_ok-first.ensures.memo_found c.args.links.now.links m))

@@ -1,0 +1,218 @@
+// Resolving an input: a loop of steps along the way to the port that is looked at.
+ghost use Rattle.dx_demand.specs.Terms.{AreExact};
+ghost use Rattle.std.specs.Prelude.{◌≡◌, ◌<◌, ℕ, List, None, length, slice_index_or, [], ◌∷◌, IfOk, OnOk};
+ghost use Rattle.dx_graph.specs.Graph.{MayTake};
+ghost use Rattle.dx_graph.specs.GraphView.{graph_of};
+ghost use Rattle.dx_tags.specs.declared.term.Term.{Term};
+ghost use Rattle.dx_tags.specs.Closed.{GoesOn};
+ghost use Rattle.dx_meaning.specs.Scan.{Sight};
+ghost use Rattle.dx_demand.specs.Memo.{answers_of, formed_of, IsPort, input_scan, port_scan, shown, SettledFits, EmptyMemo};
+ghost use Rattle.dx_demand.specs.Picked.{LinksFit};
+ghost use Rattle.dx_demand.specs.Found.{Kept, SettledFound, ResolvedFound, IsClosed};
+ghost use Rattle.dx_links.specs.LinkMap.{LinkMap};
+ghost use Rattle.dx_demand.specs.Steps.{Sees, SeenFits, SeenRight, KeepsSelectors, ResolvedFits, shown_resolved};
+
+use crate::given::Given;
+use crate::seen::{Frame, Memo, Seen, pop_frame, push_frame, top_of};
+use crate::settled::{Answer, Port, Resolved, Settled};
+use crate::step::{Step, constant_tag, next_step};
+use dx_base::Items;
+use dx_graph::{Graph, Input};
+use dx_links::Links;
+use dx_tags::{Tags, ValueTag, Written};
+use indexmap::IndexMap;
+use std::alloc::{AllocError, Global};
+use std::mem;
+
+impl Seen {
+    /// Nothing is resolved of the graph yet.
+    pub fn new(alloc: Global, g: &Graph) -> Result<Seen, AllocError>
+        ensures fits { (terms : List Term) → IfOk result (λ seen. SeenFits (graph_of g.now).nodes terms seen) }
+        ensures right { (s : Sight) (terms : List Term) → IfOk result (λ seen. SeenRight s (graph_of g.now).nodes terms seen) }
+        ensures closed { (links : LinkMap) (terms : List Term) → IfOk result (λ seen. IsClosed links terms seen) }
+        ensures none { IfOk result (λ seen. (t : ℕ) → formed_of seen.memo t ≡ None) }
+    {
+        let memo = empty_memo(alloc, g)?;
+        Ok(Seen {
+            memo,
+            stack: no_frames(alloc),
+        })
+    }
+}
+
+fn no_frames(alloc: Global) -> Vec<Frame>
+    ensures { result.items ≡ [] }
+{
+    Vec::new(alloc)
+}
+
+fn empty_memo(alloc: Global, g: &Graph) -> Result<Memo, AllocError>
+    ensures { IfOk result (λ m. EmptyMemo (length (graph_of g.now).nodes) m) }
+{
+    let selectors = no_selectors(alloc, g.len())?;
+    Ok(Memo {
+        answers: IndexMap::new(alloc),
+        selectors,
+        formed: IndexMap::new(alloc),
+    })
+}
+
+/// So many selectors without terms.
+fn no_selectors(alloc: Global, count: u32) -> Result<Vec<Option<ValueTag>>, AllocError>
+    ensures none { IfOk result (λ xs. (n : ℕ) → slice_index_or xs.items n None ≡ None) }
+    ensures places { IfOk result (λ xs. length xs.items ≡ count) }
+{
+    let mut selectors = Vec::new(alloc);
+    for _ in 0..count {
+        selectors.push(None)?;
+    }
+    Ok(selectors)
+}
+
+fn resolved(settled: Settled) -> Resolved
+    ensures right { (nodes : _) (terms : _) → shown_resolved nodes terms result ≡ shown nodes terms settled }
+    ensures fits { (nodes : _) (terms : _) (given : _) (m : _) → SettledFits nodes terms settled → ResolvedFits nodes terms given m result }
+    ensures found { (l : _) (terms : _) (first : _) → SettledFound l terms first settled → ResolvedFound l terms first result }
+{
+    match settled {
+        Settled::Value(t) => Resolved::Value(t),
+        Settled::Off => Resolved::Off,
+        Settled::Halt(n, code) => Resolved::Halt(n, code),
+    }
+}
+
+/// What an input comes to by the values that are given: the term of its value, or that it takes no part, or the next
+/// selector whose value is needed. Where more values are given it goes on from there.
+pub fn resolve<G: Given>(
+    alloc: Global,
+    g: &Graph,
+    i: &Input,
+    links: &Links,
+    written: &Written,
+    tags: &mut Tags,
+    seen: &mut Seen,
+    given: &G,
+) -> Result<Resolved, AllocError>
+    requires input { MayTake (graph_of g.now).nodes (length (graph_of g.now).nodes) i.now }
+    requires formed { AreExact tags.old }
+    requires links { LinksFit tags.old links.now.links }
+    requires seen { SeenFits (graph_of g.now).nodes tags.old seen.old }
+    ensures formed { AreExact tags.new }
+    ensures goes_on { OnOk result (GoesOn tags.old tags.new) }
+    ensures seen { OnOk result (SeenFits (graph_of g.now).nodes tags.new seen.new) }
+    ensures kept { OnOk result (KeepsSelectors seen.old.memo seen.new.memo) }
+    ensures fits { IfOk result (λ r. ResolvedFits (graph_of g.now).nodes tags.new (G.told given.now) seen.new.memo r) }
+    ensures seen_right { (s : Sight) → Sees (G.told given.now) links.now.links written.now.files tags.new s → SeenRight s (graph_of g.now).nodes tags.old seen.old → OnOk result (SeenRight s (graph_of g.now).nodes tags.new seen.new) }
+    ensures right { (s : Sight) → Sees (G.told given.now) links.now.links written.now.files tags.new s → SeenRight s (graph_of g.now).nodes tags.old seen.old → IfOk result (λ r. input_scan s (graph_of g.now).nodes i.now ≡ shown_resolved (graph_of g.now).nodes tags.new r) }
+    ensures closed { IsClosed links.now.links tags.old seen.old → OnOk result (IsClosed links.now.links tags.new seen.new) }
+    ensures found { IsClosed links.now.links tags.old seen.old → IfOk result (λ r. ResolvedFound links.now.links tags.new (formed_of seen.new.memo) r) }
+    ensures first { OnOk result (Kept (formed_of seen.old.memo) (formed_of seen.new.memo)) }
+{
+    match i {
+        Input::Constant(c) => {
+            let t = constant_tag(tags, c.share()?)?;
+            Ok(Resolved::Value(t))
+        }
+        Input::Result(node, result_number) => {
+            let port = Port {
+                node: *node,
+                result: *result_number,
+            };
+            resolve_port(alloc, g, port, links, written, tags, seen, given)
+        }
+    }
+}
+
+fn resolve_port<G: Given>(
+    alloc: Global,
+    g: &Graph,
+    root: Port,
+    links: &Links,
+    written: &Written,
+    tags: &mut Tags,
+    seen: &mut Seen,
+    given: &G,
+) -> Result<Resolved, AllocError>
+    requires port { IsPort (graph_of g.now).nodes root }
+    requires formed { AreExact tags.old }
+    requires links { LinksFit tags.old links.now.links }
+    requires seen { SeenFits (graph_of g.now).nodes tags.old seen.old }
+    ensures formed { AreExact tags.new }
+    ensures goes_on { OnOk result (GoesOn tags.old tags.new) }
+    ensures seen { OnOk result (SeenFits (graph_of g.now).nodes tags.new seen.new) }
+    ensures kept { OnOk result (KeepsSelectors seen.old.memo seen.new.memo) }
+    ensures fits { IfOk result (λ r. ResolvedFits (graph_of g.now).nodes tags.new (G.told given.now) seen.new.memo r) }
+    ensures seen_right { (s : Sight) → Sees (G.told given.now) links.now.links written.now.files tags.new s → SeenRight s (graph_of g.now).nodes tags.old seen.old → OnOk result (SeenRight s (graph_of g.now).nodes tags.new seen.new) }
+    ensures right { (s : Sight) → Sees (G.told given.now) links.now.links written.now.files tags.new s → SeenRight s (graph_of g.now).nodes tags.old seen.old → IfOk result (λ r. port_scan s (graph_of g.now).nodes root ≡ shown_resolved (graph_of g.now).nodes tags.new r) }
+    ensures closed { IsClosed links.now.links tags.old seen.old → OnOk result (IsClosed links.now.links tags.new seen.new) }
+    ensures found { IsClosed links.now.links tags.old seen.old → IfOk result (λ r. ResolvedFound links.now.links tags.new (formed_of seen.new.memo) r) }
+    ensures first { OnOk result (Kept (formed_of seen.old.memo) (formed_of seen.new.memo)) }
+{
+    match seen.memo.answer(root) {
+        Some(a) => Ok(resolved(a.settled)),
+        None => settle_port(alloc, g, root, links, written, tags, seen, given),
+    }
+}
+
+/// Goes on with a port that isn't settled, until it is, or until the value of a selector is needed.
+fn settle_port<G: Given>(
+    alloc: Global,
+    g: &Graph,
+    root: Port,
+    links: &Links,
+    written: &Written,
+    tags: &mut Tags,
+    seen: &mut Seen,
+    given: &G,
+) -> Result<Resolved, AllocError>
+    requires port { IsPort (graph_of g.now).nodes root }
+    requires unanswered { answers_of seen.old.memo root ≡ None }
+    requires formed { AreExact tags.old }
+    requires links { LinksFit tags.old links.now.links }
+    requires seen { SeenFits (graph_of g.now).nodes tags.old seen.old }
+    ensures formed { AreExact tags.new }
+    ensures goes_on { OnOk result (GoesOn tags.old tags.new) }
+    ensures seen { OnOk result (SeenFits (graph_of g.now).nodes tags.new seen.new) }
+    ensures kept { OnOk result (KeepsSelectors seen.old.memo seen.new.memo) }
+    ensures fits { IfOk result (λ r. ResolvedFits (graph_of g.now).nodes tags.new (G.told given.now) seen.new.memo r) }
+    ensures seen_right { (s : Sight) → Sees (G.told given.now) links.now.links written.now.files tags.new s → SeenRight s (graph_of g.now).nodes tags.old seen.old → OnOk result (SeenRight s (graph_of g.now).nodes tags.new seen.new) }
+    ensures right { (s : Sight) → Sees (G.told given.now) links.now.links written.now.files tags.new s → SeenRight s (graph_of g.now).nodes tags.old seen.old → IfOk result (λ r. port_scan s (graph_of g.now).nodes root ≡ shown_resolved (graph_of g.now).nodes tags.new r) }
+    ensures closed { IsClosed links.now.links tags.old seen.old → OnOk result (IsClosed links.now.links tags.new seen.new) }
+    ensures found { IsClosed links.now.links tags.old seen.old → IfOk result (λ r. ResolvedFound links.now.links tags.new (formed_of seen.new.memo) r) }
+    ensures first { OnOk result (Kept (formed_of seen.old.memo) (formed_of seen.new.memo)) }
+{
+    let mut top = top_of(alloc, &mut seen.stack, root);
+    'steps: loop {
+        match next_step(
+            alloc,
+            g,
+            top.port,
+            &mut top.arguments,
+            links,
+            written,
+            tags,
+            &mut seen.memo,
+            given,
+        )? {
+            Step::Settles(a) => {
+                seen.memo.settle(top.port, a)?;
+                match pop_frame(&mut seen.stack) {
+                    None => return Ok(resolved(a.settled)),
+                    Some(below) => top = below,
+                }
+            }
+            Step::Awaits(port) => {
+                let awaited = Frame {
+                    port,
+                    arguments: Items::new(alloc),
+                };
+                push_frame(&mut seen.stack, mem::replace(&mut top, awaited))?;
+            }
+            Step::Needs(t) => {
+                let node = top.port.node;
+                push_frame(&mut seen.stack, top)?;
+                return Ok(Resolved::Need(t, node));
+            }
+        }
+    }
+}

@@ -1,0 +1,152 @@
+//! The evaluation of an expression over a block of items.
+
+ghost use Rattle.std.specs.Prelude.{◌≡◌, ◌-◌, ◌≤◌, IfOk, Some, [], length};
+ghost use Rattle.std.specs.List.{range_with_len};
+ghost use Rattle.dx_expr.specs.Shape as shapes;
+ghost use Rattle.dx_expr_blocks.specs.Block.{block_of};
+ghost use Rattle.dx_expr_blocks.specs.Found.{IsFound};
+ghost use Rattle.dx_expr_blocks.specs.Items.{items_of, all_below};
+
+use crate::binary::on_both;
+use crate::block::{Block, count, first, item_at};
+use crate::load::{constant, input_run};
+use crate::sides::{chosen, picks};
+use crate::unary::{decisions, on_each};
+use crate::{Columns, Found, Spare};
+use dx_expr::{Binary, EvalFail, Expression, Inputs, single_value};
+use std::alloc::{AllocError, Global};
+
+/// What a block gives, item by item.
+fn one_by_one<I: Inputs>(
+    alloc: Global,
+    spare: &mut Spare,
+    e: &Expression,
+    inputs: &I,
+    block: Block<'_>,
+) -> Result<Found, AllocError>
+    requires single { shapes.shape_of (I.given inputs.now).shape e.now ≡ Some [] }
+    requires within { all_below (I.items inputs.now) (items_of block) }
+    ensures { IfOk result (λ found. IsFound (block_of (I.given inputs.now) e.now (items_of block.entry)) found) }
+{
+    let mut values = spare.values(alloc, 0, 0)?;
+    for place in 0..count(block) {
+        match single_value(alloc, e, inputs, item_at(block, place) as u64) {
+            Ok(v) => values.push(v)?,
+            Err(EvalFail::Fault(fault)) => {
+                return Ok(Found {
+                    values,
+                    fault: Some(fault),
+                });
+            }
+            Err(EvalFail::Memory) => return Err(AllocError),
+        }
+    }
+    Ok(Found {
+        values,
+        fault: None,
+    })
+}
+
+/// What a block gives of an expression that is a single value: the values of its items up to the first one that has a
+/// fault, and that fault.
+pub fn evaluate<I: Columns>(
+    alloc: Global,
+    spare: &mut Spare,
+    e: &Expression,
+    inputs: &I,
+    block: Block<'_>,
+) -> Result<Found, AllocError>
+    requires single { shapes.shape_of (I.given inputs.now).shape e.now ≡ Some [] }
+    requires within { all_below (I.items inputs.now) (items_of block) }
+    ensures { IfOk result (λ found. IsFound (block_of (I.given inputs.now) e.now (items_of block.entry)) found) }
+{
+    match e {
+        Expression::Number(n) => constant(alloc, spare, i64::from(*n), count(block)),
+        Expression::Input(k) => input_run(alloc, spare, inputs, *k, block),
+        Expression::Unary(operator, a) => {
+            let found = evaluate(alloc, spare, a.get(), inputs, block)?;
+            Ok(on_each(*operator, found))
+        }
+        Expression::Binary(operator, a, b) => match *operator {
+            Binary::Or => {
+                let left = evaluate(alloc, spare, a.get(), inputs, block)?;
+                let items = picks(alloc, spare, left.values.as_slice(), block, false)?;
+                let right = evaluate(
+                    alloc,
+                    spare,
+                    b.get(),
+                    inputs,
+                    Block::Listed(items.as_slice()),
+                )?;
+                let rest = left.values.len().saturating_sub(items.len());
+                spare.keep_items(items)?;
+                let looked = decisions(right);
+                let fixed = constant(alloc, spare, 1, rest)?;
+                chosen(spare, left, fixed, looked)
+            }
+            Binary::And => {
+                let left = evaluate(alloc, spare, a.get(), inputs, block)?;
+                let items = picks(alloc, spare, left.values.as_slice(), block, true)?;
+                let right = evaluate(
+                    alloc,
+                    spare,
+                    b.get(),
+                    inputs,
+                    Block::Listed(items.as_slice()),
+                )?;
+                let rest = left.values.len().saturating_sub(items.len());
+                spare.keep_items(items)?;
+                let looked = decisions(right);
+                let fixed = constant(alloc, spare, 0, rest)?;
+                chosen(spare, left, looked, fixed)
+            }
+            Binary::Dot => one_by_one(alloc, spare, e, inputs, block),
+            other => {
+                let left = evaluate(alloc, spare, a.get(), inputs, block)?;
+                let reached = first(block, left.values.len());
+                let right = evaluate(alloc, spare, b.get(), inputs, reached)?;
+                on_both(spare, other, left, right)
+            }
+        },
+        Expression::Choice(condition, a, b) => {
+            let conditions = evaluate(alloc, spare, condition.get(), inputs, block)?;
+            let one_items = picks(alloc, spare, conditions.values.as_slice(), block, true)?;
+            let ones = evaluate(
+                alloc,
+                spare,
+                a.get(),
+                inputs,
+                Block::Listed(one_items.as_slice()),
+            )?;
+            spare.keep_items(one_items)?;
+            let other_items = picks(alloc, spare, conditions.values.as_slice(), block, false)?;
+            let others = evaluate(
+                alloc,
+                spare,
+                b.get(),
+                inputs,
+                Block::Listed(other_items.as_slice()),
+            )?;
+            spare.keep_items(other_items)?;
+            chosen(spare, conditions, ones, others)
+        }
+        Expression::Part(_, _) => one_by_one(alloc, spare, e, inputs, block),
+        Expression::Vector(_) => unreachable!(),
+    }
+}
+
+/// What the items from one to before another give.
+pub fn evaluate_range<I: Columns>(
+    alloc: Global,
+    spare: &mut Spare,
+    e: &Expression,
+    inputs: &I,
+    from: usize,
+    to: usize,
+) -> Result<Found, AllocError>
+    requires single { shapes.shape_of (I.given inputs.now).shape e.now ≡ Some [] }
+    requires within { to ≤ I.items inputs.now }
+    ensures { IfOk result (λ found. IsFound (block_of (I.given inputs.now) e.now (range_with_len from (to - from))) found) }
+{
+    evaluate(alloc, spare, e, inputs, Block::Range(from, to))
+}

@@ -1,0 +1,27 @@
+//! Expressions over blocks of items: an operator at a time, into buffers that are made once and used again.
+#![tactic(auto)]
+
+mod binary;
+mod block;
+mod eval;
+mod found;
+mod inputs;
+mod load;
+mod operators;
+mod sides;
+mod spare;
+mod steps;
+mod unary;
+
+pub use binary::{on_both, operate, operate_wide};
+pub use block::{Block, count, first, item_at};
+pub use dx_expr::{Binary, EvalFail, Expression, ItemFault, Unary};
+pub use eval::{evaluate, evaluate_range};
+pub use found::{Found, Stop};
+pub use inputs::{Columns, Source};
+pub use load::{constant, input_run};
+pub use operators::{Operator, checked, truth};
+pub use sides::{chosen, merge, merge_evenly, pick, picks};
+pub use spare::Spare;
+pub use steps::{Step, fill, filled};
+pub use unary::{decisions, on_each};

@@ -1,0 +1,67 @@
+// All items of an expression: by blocks where each has a single value, and else one after the other.
+ghost use Rattle.std.specs.Prelude.{◌≡◌, ◌≤◌, ◌*◌, [], true, length, IsSome, Some, IfOk};
+ghost use Rattle.std.specs.List.{list_all};
+ghost use Rattle.dx_base.specs.Answers.{Answers, refused};
+ghost use Rattle.dx_base.specs.Elem.{in_range};
+ghost use Rattle.dx_base.specs.declared.elem.ElemType.TheVariants.{Int};
+ghost use Rattle.dx_expr.specs.Shape as shapes;
+ghost use Rattle.dx_expr.specs.Value as spec;
+ghost use Rattle.dx_expr_eval.specs.Items.{all_values, faultless};
+
+use crate::numbers::{evaluate_numbers, find_fault_of_numbers};
+use crate::vectors::{evaluate_vectors, find_fault_of_vectors};
+use dx_base::{Fail, Items};
+use dx_expr::{Expression, Inputs, ItemFault, is_single, shape_of};
+use dx_expr_blocks::Columns;
+use std::alloc::Global;
+
+// Whether each item has a single value.
+fn is_number<I: Inputs>(e: &Expression, inputs: &I) -> bool
+    ensures { result ≡ true → shapes.shape_of (I.given inputs.now).shape e.now ≡ Some [] }
+{
+    match shape_of(e, inputs) {
+        Some(shape) => is_single(shape),
+        None => false,
+    }
+}
+
+/// The values of the items from 0 on, so many, item by item and each with all its values.
+///
+/// Where an item has none, the answer is the first fault of the first such item (User's Reference, Compute).
+pub fn evaluate<I: Columns>(
+    alloc: Global,
+    e: &Expression,
+    inputs: &I,
+    items: u64,
+) -> Result<Items<i64>, Fail<ItemFault>>
+    requires fits { IsSome (shapes.shape_of (I.given inputs.now).shape e.now) }
+    requires within { items ≤ I.items inputs.now }
+    ensures values { Answers refused (all_values (I.given inputs.now) e.now items) result }
+    ensures count { (s : shapes.Shape) → shapes.shape_of (I.given inputs.now).shape e.now ≡ Some s →
+        IfOk result (λ vs. length vs ≡ items * spec.size s) }
+    ensures ints { IfOk result (λ vs. list_all (in_range Int) vs ≡ true) }
+{
+    if is_number(e, inputs) {
+        evaluate_numbers(alloc, e, inputs, items as usize)
+    } else {
+        evaluate_vectors(alloc, e, inputs, items)
+    }
+}
+
+/// Whether each of so many items has its values; where one has none, the first fault of the first such item.
+pub fn find_fault<I: Columns>(
+    alloc: Global,
+    e: &Expression,
+    inputs: &I,
+    items: u64,
+) -> Result<(), Fail<ItemFault>>
+    requires fits { IsSome (shapes.shape_of (I.given inputs.now).shape e.now) }
+    requires within { items ≤ I.items inputs.now }
+    ensures { Answers refused (faultless (all_values (I.given inputs.now) e.now items)) result }
+{
+    if is_number(e, inputs) {
+        find_fault_of_numbers(alloc, e, inputs, items as usize)
+    } else {
+        find_fault_of_vectors(alloc, e, inputs, items)
+    }
+}

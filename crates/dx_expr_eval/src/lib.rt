@@ -1,0 +1,9 @@
+//! The values of all items of an expression, or the first fault.
+#![tactic(auto)]
+
+mod items;
+mod numbers;
+mod vectors;
+mod wide;
+
+pub use items::{evaluate, find_fault};

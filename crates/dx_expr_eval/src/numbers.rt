@@ -1,0 +1,71 @@
+// Expressions that are a single value for each item, by blocks of items.
+ghost use Rattle.std.specs.Prelude.{◌≡◌, ◌≤◌, ◌*◌, [], true, length, Some, IfOk};
+ghost use Rattle.std.specs.List.{list_all};
+ghost use Rattle.dx_base.specs.Answers.{Answers, refused};
+ghost use Rattle.dx_base.specs.Elem.{in_range};
+ghost use Rattle.dx_base.specs.declared.elem.ElemType.TheVariants.{Int};
+ghost use Rattle.dx_expr.specs.Shape.{shape_of as spec_shape_of};
+ghost use Rattle.dx_expr_eval.specs.Items.{all_values, faultless};
+
+use crate::wide::append;
+use dx_base::{Fail, Items};
+use dx_expr::{Expression, ItemFault};
+use dx_expr_blocks::{Columns, Spare, evaluate_range};
+use std::alloc::Global;
+
+/// How many items a block has: so few that its buffers stay near the processor.
+const BLOCK: usize = 1024;
+
+/// The values of so many items.
+pub(crate) fn evaluate_numbers<I: Columns>(
+    alloc: Global,
+    e: &Expression,
+    inputs: &I,
+    items: usize,
+) -> Result<Items<i64>, Fail<ItemFault>>
+    requires single { spec_shape_of (I.given inputs.now).shape e.now ≡ Some [] }
+    requires within { items ≤ I.items inputs.now }
+    ensures values { Answers refused (all_values (I.given inputs.now) e.now items) result }
+    ensures count { IfOk result (λ vs. length vs ≡ items) }
+    ensures ints { IfOk result (λ vs. list_all (in_range Int) vs ≡ true) }
+{
+    let mut spare = Spare::new(alloc);
+    let mut found = Vec::with_capacity(alloc, items)?;
+    let mut from = 0;
+    'turns: while from < items {
+        let to = from.saturating_add(BLOCK).min(items);
+        let block = evaluate_range(alloc, &mut spare, e, inputs, from, to)?;
+        if let Some(fault) = block.fault {
+            return Err(Fail::Refused(fault));
+        }
+        append(&mut found, block.values.as_slice())?;
+        spare.keep_values(block.values)?;
+        from = to;
+    }
+    Ok(Items::from_vec(found))
+}
+
+/// Whether each of so many items has its value.
+pub(crate) fn find_fault_of_numbers<I: Columns>(
+    alloc: Global,
+    e: &Expression,
+    inputs: &I,
+    items: usize,
+) -> Result<(), Fail<ItemFault>>
+    requires single { spec_shape_of (I.given inputs.now).shape e.now ≡ Some [] }
+    requires within { items ≤ I.items inputs.now }
+    ensures { Answers refused (faultless (all_values (I.given inputs.now) e.now items)) result }
+{
+    let mut spare = Spare::new(alloc);
+    let mut from = 0;
+    'turns: while from < items {
+        let to = from.saturating_add(BLOCK).min(items);
+        let block = evaluate_range(alloc, &mut spare, e, inputs, from, to)?;
+        if let Some(fault) = block.fault {
+            return Err(Fail::Refused(fault));
+        }
+        spare.keep_values(block.values)?;
+        from = to;
+    }
+    Ok(())
+}

@@ -1,0 +1,2 @@
+pub mod StrayLaws
+pub mod GridLaws

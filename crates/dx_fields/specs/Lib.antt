@@ -1,0 +1,4 @@
+pub mod References
+pub mod Stray
+pub mod Faults
+pub mod Grids

@@ -1,0 +1,48 @@
+// Values that name no item.
+ghost use Rattle.std.specs.Prelude.{◌≡◌, ◌<◌, ◌≤◌, Some};
+ghost use Rattle.dx_arrays.specs.Classes.{plain_of};
+ghost use Rattle.dx_fields.specs.Stray as spec;
+
+use dx_objects::Array;
+
+/// The number of the first value of an array that names none of so many items, the values counted item by item from 0.
+pub(crate) fn first_stray(array: &Array, items: u64) -> Option<u64>
+    ensures { result ≡ spec.first_stray array.now items }
+{
+    match array.plain_values() {
+        Some(values) => first_stored_stray(array, values, items),
+        None => first_stray_by_number(array, items),
+    }
+}
+
+fn names_item(items: u64, value: i64) -> bool
+    ensures { result ≡ spec.names_item items value }
+{
+    0 <= value && (value as i128) < items as i128
+}
+
+// Of a plain array, which stores these values.
+fn first_stored_stray(array: &Array, values: &[i64], items: u64) -> Option<u64>
+    requires { plain_of array.now.class ≡ Some values.now }
+    ensures { result ≡ spec.first_stray array.now items }
+{
+    let _items = array.items();
+    for (i, value) in values.iter().enumerate() {
+        if !names_item(items, *value) {
+            return Some(i as u64);
+        }
+    }
+    None
+}
+
+fn first_stray_by_number(array: &Array, items: u64) -> Option<u64>
+    ensures { result ≡ spec.first_stray array.now items }
+{
+    let width = array.width();
+    for i in 0..array.items() * width {
+        if !names_item(items, array.value(i / width, i % width)) {
+            return Some(i);
+        }
+    }
+    None
+}

@@ -1,0 +1,9 @@
+pub mod EmptyLaws
+pub mod Getting
+pub mod LawfulConst
+pub mod Names
+pub mod NextLaws
+pub mod RunSteps
+pub mod Sound
+pub mod TellLaws
+pub mod Stacking

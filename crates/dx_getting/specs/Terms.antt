@@ -1,0 +1,24 @@
+-- The values of links by their terms.
+use Rattle.std.specs.Prelude.{ℕ, List, [], ◌∷◌, map, refl}
+use Rattle.std.specs.Coded.{Coded, code_by, coded×, coded_ℕ, coded_list}
+use Rattle.std.specs.declared.rc.Rc.{Rc}
+use Rattle.std.specs.declared.alloc.Global.{Global}
+use Rattle.dx_base.specs.Object.{Tree}
+use Rattle.dx_base.specs.ObjectCode.{coded_tree}
+use Rattle.dx_tags.specs.declared.term.ValueTag.{ValueTag}
+
+abbrev pub BoundValues : Type 0
+BoundValues = List (ValueTag × Tree)
+
+abbrev pub bound_values : List (ValueTag × Rc Tree Global) → BoundValues
+bound_values xs = map (λ (x : ValueTag × Rc Tree Global). (x.0, x.1.value)) xs
+
+abbrev pub coded_tag : Coded ValueTag
+coded_tag =
+    code_by (ℕ × ℕ) (coded× coded_ℕ coded_ℕ)
+    (λ t. (t.tag, t.result))
+    (λ p. record { tag = p.0; result = p.1 })
+    (λ _. refl)
+
+abbrev pub coded_bound : Coded BoundValues
+coded_bound = coded_list (coded× coded_tag coded_tree)

@@ -1,0 +1,21 @@
+use Rattle.std.proofs.Common.{◌≡◌, ◌<◌, ◌≤◌, ◌+◌, length}
+use Rattle.std.specs.Prelude.{vec_capacity}
+use Rattle.std.specs.Vec.Iter.{into_iter_items, into_iter_len}
+use Rattle.dx_links.specs.LinkMap.{after}
+use Rattle.dx_links.specs.Places.{changes_of, whole}
+use Rattle.dx_links.proofs.LinkLaws.{AreSorted}
+use Rattle.dx_links.proofs.gap.make.Given as goal
+
+-- what is left is still to be made, and there is room for it
+abbrev pub invariant-loop-placed : goal.invariant-loop-placed
+invariant-loop-placed l = record {
+  can : (goal.iterator-loop-placed).can_next l.placed-iterator;
+  finite : (goal.iterator-loop-placed).is_finite l.placed-iterator;
+  len : into_iter_len l.placed-iterator ≡ length (into_iter_items l.placed-iterator);
+  room : length l.below.items + length l.above.items + length (into_iter_items l.placed-iterator) ≤ vec_capacity l.below;
+  room_above : 0 < length (into_iter_items l.placed-iterator) → length l.below.items + length l.above.items + length (into_iter_items l.placed-iterator) ≤ vec_capacity l.above;
+  sorted : AreSorted (whole l.below.items l.above.items);
+  so_far : after (whole l.below.items l.above.items) (changes_of (into_iter_items l.placed-iterator)) ≡ after (whole l.initial.below.items l.initial.above.items) (changes_of l.fn.changes.items);
+  capacity : vec_capacity l.initial.below ≤ vec_capacity l.below;
+  capacity_above : vec_capacity l.initial.above ≤ vec_capacity l.above;
+}

@@ -1,0 +1,4 @@
+pub mod Agreeing
+pub mod Grows
+pub mod Keeping
+pub mod SameTerms

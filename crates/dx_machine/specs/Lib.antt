@@ -1,0 +1,4 @@
+pub mod Agree
+pub mod Covered
+pub mod Machine
+pub mod Sound

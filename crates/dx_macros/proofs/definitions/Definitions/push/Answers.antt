@@ -1,8 +1,0 @@
-use Rattle.std.proofs.Common.{◌∙◌}
-use Rattle.dx_macros.specs.Shown.{index_of}
-use Rattle.dx_macros.proofs.Indexing.{index_push}
-use Rattle.dx_macros.proofs.definitions.Definitions.push.Goals as goal
-
-pub note_new-self-inside-requires : goal.note_new-self-inside-requires
-note_new-self-inside-requires c =
-    index_push c.self.inside.list.items c.deref.result.now c.args.a c.self.inside.noted (index_of c.self.inside.places) (c.deref.ensures.value ∙ c.in_ok-push.ensures.items) c.self.invariant

@@ -1,9 +1,0 @@
-use Rattle.std.proofs.Common.{◌-◌, map, length}
-use Rattle.dx_macros.specs.Shown.{text_of, index_of, IsIndexed}
-use Rattle.dx_macros.proofs.definitions.note_new.Given as goal
-
-abbrev pub invariant-loop-noted : goal.invariant-loop-noted
-invariant-loop-noted l = IsIndexed l.noted (index_of l.places) (map text_of l.definitions)
-
-abbrev pub decreases-loop-noted : goal.decreases-loop-noted
-decreases-loop-noted l = length l.definitions - l.noted

@@ -1,0 +1,21 @@
+// Laws of the meaning of calls.
+ghost use Rattle.dx_meaning.specs.More.{ScansStay};
+ghost use Rattle.dx_meaning.specs.Rows.{Examples};
+ghost use Rattle.dx_meaning.specs.Term.{TermsAreRight};
+
+/// What a tree comes to without resting on a value that isn't told stays as more is told.
+pub fn scans_stay()
+    ensures { ScansStay }
+{}
+
+/// Where each link's value is what its term denotes, a tree that is neither Off nor Halt is the value that its term denotes,
+/// or is refused with the first code on its term's way.
+pub fn terms_are_right()
+    ensures { TermsAreRight }
+{}
+
+/// A Switch looks at the input that is chosen alone, what is off runs nothing, the name of an Import is control, and what was
+/// written is read: a few scripts whose outcomes are computed by the definitions.
+pub fn examples_compute()
+    ensures { Examples }
+{}

@@ -1,0 +1,6 @@
+//! What a call of a script means: what it comes to, which runs of modules that demands, and which term its value has.
+#![tactic(auto)]
+
+mod laws;
+
+pub use laws::{examples_compute, scans_stay, terms_are_right};

@@ -1,0 +1,27 @@
+use Rattle.std.proofs.Common.{◌+◌, ◌-◌, ◌∙◌, ap, rules, arith}
+use Rattle.std.proofs.lemmas.Grind.{common_steps}
+use Rattle.std.proofs.lemmas.Result.{err_from_is_err_and}
+use Rattle.dx_places.specs.Grammar.{and_then}
+use Rattle.dx_places.proofs.Turns.{one_more, no_more}
+use Rattle.dx_native_lex.proofs.Exits.{exit}
+use Rattle.dx_native_grammar.specs.Grammar.{deltas}
+use Rattle.dx_native_arrays.proofs.arrays.deltas.Goals as goal
+
+pub returns-in_err-found : goal.returns-in_err-found
+unfolding deltas
+returns-in_err-found c =
+    let e = one_more (λ n. (deltas c.args.n n c.loop-i.found).read c.loop-i.cursor) c.args.lines c.loop-i._i c.loop-i-test.true c.loop-i.invariant in
+    let p = err_from_is_err_and c.from_residual.result c.from_residual.ensures.1 in
+    exit _ ((deltas c.args.n c.args.lines c.args.found).read c.args.cursor.now) _ _ _ _ p.1 p.2 c.in_err-found.ensures (λ f r. e ∙ ap (λ r. and_then r (λ v m. (deltas c.args.n (c.args.lines - (c.loop-i._i + 1)) v).read m)) r)
+
+pub loop-i-preserved : goal.loop-i-preserved
+unfolding deltas
+loop-i-preserved c =
+    let e = one_more (λ n. (deltas c.args.n n c.loop-i.found).read c.loop-i.cursor) c.args.lines c.loop-i._i c.loop-i-test.true c.loop-i.invariant in
+    first_of (search rules, grind (arith, common_steps))
+
+pub returns : goal.returns
+unfolding deltas
+returns c =
+    let e = no_more (λ n. (deltas c.args.n n c.loop-i.found).read c.loop-i.cursor) c.args.lines c.loop-i._i c.loop-i-test.false c.loop-i.invariant in
+    first_of (search rules, grind (arith, common_steps))

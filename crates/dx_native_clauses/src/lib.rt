@@ -1,0 +1,9 @@
+//! The clauses of a native file, read by one pass over its bytes.
+#![tactic(auto)]
+
+mod file;
+mod table;
+
+pub use dx_native_grammar::{Attribute, Body, Clause, Content, Given, ListClass, Part};
+pub use file::read_clauses;
+pub use table::{ClauseTable, FileClauses};

@@ -1,0 +1,3 @@
+pub mod Somes
+pub mod Levels
+pub mod OneLevel

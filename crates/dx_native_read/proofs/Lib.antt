@@ -1,0 +1,5 @@
+pub mod Fitting
+pub mod Naming
+pub mod Whole
+pub mod Stepping
+pub mod Answered

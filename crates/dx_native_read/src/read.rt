@@ -1,0 +1,163 @@
+//! Reading a native file.
+
+ghost use Rattle.std.specs.Prelude.{◌≡◌, IfOk, Some, None, Ok, Err, Result, length, option_map, slice_get, true};
+ghost use Rattle.dx_base.specs.Object.{Tree};
+ghost use Rattle.dx_base.specs.ObjectLimits.{IsLawful};
+ghost use Rattle.dx_base.specs.ObjectNumbers.{steps_by_ints};
+ghost use Rattle.dx_native_lex.specs.declared.fault.NativeError.{NativeError as Fault};
+ghost use Rattle.dx_native_grammar.specs.Meaning as spec;
+ghost use Rattle.dx_native_grammar.specs.Native.{IsNative};
+ghost use Rattle.dx_native_sound.specs.Sound.{Every, IsSound};
+ghost use Rattle.dx_native_read.specs.Answer.{Means, Answers, native_of};
+
+use dx_base::{Bytes, NativeKind};
+use dx_native_clauses::{ClauseTable, FileClauses, read_clauses};
+use dx_native_levels::object_levels;
+use dx_native_lex::{NativeError, NativeFail};
+use dx_native_references::references_fault;
+use dx_native_walk::{BuildFail, clause_object};
+use dx_objects::Object;
+use std::alloc::Global;
+
+/// The clause that is asked for, else that of the last `default`, else the last one.
+fn wanted(file: &FileClauses, which: Option<&Bytes>) -> Option<usize>
+    ensures { result ≡ spec.wanted file.now (option_map (λ b. b.now) which.entry) }
+{
+    if let Some(name) = which {
+        return file.clauses.place(name);
+    }
+    match &file.default {
+        Some(name) => file.clauses.place(&name.text),
+        None => file.clauses.as_slice().len().checked_sub(1),
+    }
+}
+
+fn refused(kind: NativeKind, at: u64) -> NativeFail
+    ensures { result ≡ NativeFail.Refused (record { kind = kind; at = at }) }
+{
+    NativeFail::Refused(NativeError { kind, at })
+}
+
+/// The offset of the name of clause number i.
+fn name_place(clauses: &ClauseTable, i: usize) -> u64
+    ensures { result ≡ spec.name_place (slice_get clauses.now i) }
+{
+    match clauses.as_slice().get(i) {
+        Some(clause) => clause.name.at,
+        None => 0,
+    }
+}
+
+/// The same object, which is within the limits as each is.
+fn within_limits(object: Object) -> Object
+    ensures same { result ≡ object }
+    ensures lawful { IsLawful result }
+{
+    let _size = object.size();
+    object
+}
+
+/// The object of clause number i, or why it is none. The offset is that of the clause's name.
+fn object_at(alloc: Global, clauses: &ClauseTable, i: usize, at: u64) -> Result<Object, NativeFail>
+    requires sound { Every IsSound clauses.now }
+    requires references { spec.clauses_fault clauses.now clauses.now ≡ None }
+    ensures means { Means (spec.object_or (spec.tree_at clauses.now 64 i) at) result }
+    ensures ints { IfOk result (λ t. steps_by_ints t ≡ true) }
+{
+    match object_levels(alloc, clauses, i)? {
+        None => Err(refused(NativeKind::TooDeep, at)),
+        Some(_) => object_within(alloc, clauses, i, at),
+    }
+}
+
+/// The object of clause number i, which has at most 64 levels, or why it is none.
+fn object_within(
+    alloc: Global,
+    clauses: &ClauseTable,
+    i: usize,
+    at: u64,
+) -> Result<Object, NativeFail>
+    requires sound { Every IsSound clauses.now }
+    requires references { spec.clauses_fault clauses.now clauses.now ≡ None }
+    requires levels { spec.tree_at clauses.now 64 i ≡ None → ⊥ }
+    ensures means { Means (spec.object_or (spec.tree_at clauses.now 64 i) at) result }
+    ensures ints { IfOk result (λ t. steps_by_ints t ≡ true) }
+{
+    match clause_object(alloc, clauses, i) {
+        Ok(object) => Ok(within_limits(object)),
+        Err(fail) => Err(native_fail(fail, at)),
+    }
+}
+
+/// Why the object of a clause is none, where its name has this offset.
+fn native_fail(fail: BuildFail, at: u64) -> NativeFail
+    ensures { result ≡ native_of fail at }
+{
+    match fail {
+        BuildFail::Deep => refused(NativeKind::TooDeep, at),
+        BuildFail::Broken => refused(NativeKind::TooLarge, at),
+        BuildFail::Memory => NativeFail::Memory,
+    }
+}
+
+/// What the clauses of a text of this length mean.
+#[tactic(auto, unfolding(dx_native_grammar::specs::Meaning::meant))]
+fn object_of_file(
+    alloc: Global,
+    file: &FileClauses,
+    which: Option<&Bytes>,
+    len: u64,
+) -> Result<Object, NativeFail>
+    requires sound { Every IsSound file.now.clauses }
+    ensures means { Means (spec.meant file.now (option_map (λ b. b.now) which.entry) len) result }
+    ensures ints { IfOk result (λ t. steps_by_ints t ≡ true) }
+{
+    if let Some(fault) = references_fault(file) {
+        return Err(NativeFail::Refused(fault));
+    }
+    match wanted(file, which) {
+        None => Err(refused(NativeKind::NoVariable, len)),
+        Some(i) => object_at(alloc, &file.clauses, i, name_place(&file.clauses, i)),
+    }
+}
+
+/// The object that a native file means: the one that `which` names, else the one that its last `default` names, else the
+/// last one, each reference replaced by the object that it names. A clause is made into one object, which all that refer
+/// to it share.
+///
+/// A file that means none is refused with a kind and an offset in bytes from 0:
+/// - `Syntax` at a token or byte that doesn't fit, and at a name that stands twice.
+/// - `FloatType` at a word that begins as a number and is none where a number may stand, at the types `float` and
+///   `double`, and at a word in the place of `type`.
+/// - `UnknownClass` at a word behind `class` that is none of the ten classes.
+/// - `ValueRange` at a number that is outside its range, and at the class word of a grid or a regular array with an item
+///   outside its type.
+/// - `TooManyItems` at a number of items above the limits, and at the class word of a grid with more.
+/// - `Truncated` at the end of the text, where a clause wants more.
+/// - `OtherFile` at `file` behind `value` or `data`, and at a number behind `data`.
+/// - `NoObject` at a reference, the last `default` included, that names no object.
+/// - `BadPart` at a component that is no array, and at a member of a composite group that is no field.
+/// - `NoVariable` at the end of the text, where no object has the name that is asked for, or there is no object.
+/// - `TooDeep` at the name of the object in its clause, where it has more than 64 levels, as in a cycle.
+/// - `TooLarge` there, where it is beyond another limit of objects.
+///
+/// The first seven are looked for first, and the first of them in the file counts; then the next two, and the first in the
+/// file of these; then the last three in this order.
+pub fn read_object(alloc: Global, bytes: &[u8], which: Option<&Bytes>) -> Result<Object, NativeFail>
+    // What is answered is what the text means: an object, or the kind and the offset of its refusal.
+    ensures answers { Answers bytes.now (option_map (λ b. b.now) which.entry) result }
+    // What the text means is answered, unless memory runs out.
+    ensures only { (r : Result Tree Fault) → IsNative bytes.now (option_map (λ b. b.now) which.entry) r → Means r result }
+    // The origins and deltas of regular arrays and of grids' points are ints.
+    ensures ints { IfOk result (λ t. steps_by_ints t ≡ true) }
+{
+    answer(alloc, bytes, which)
+}
+
+fn answer(alloc: Global, bytes: &[u8], which: Option<&Bytes>) -> Result<Object, NativeFail>
+    ensures answers { Answers bytes.now (option_map (λ b. b.now) which.entry) result }
+    ensures ints { IfOk result (λ t. steps_by_ints t ≡ true) }
+{
+    let file = read_clauses(alloc, bytes)?;
+    object_of_file(alloc, &file, which, bytes.len() as u64)
+}

@@ -1,0 +1,11 @@
+//! The object of a clause: a walk by depth first, in which each clause is made into one object, shared by all that refer
+//! to it.
+#![tactic(auto)]
+
+mod copies;
+mod fail;
+mod memo;
+mod walk;
+
+pub use fail::BuildFail;
+pub use walk::clause_object;

@@ -1,0 +1,245 @@
+//! The walk.
+
+ghost use Rattle.std.specs.Prelude.{◌≡◌, ◌<◌, ◌≤◌, length, OnOk, slice_get, Some, None, IfOk, MatchOption};
+ghost use Rattle.dx_base.specs.Object as object_spec;
+ghost use Rattle.dx_base.specs.ObjectLimits.{unplaced};
+ghost use Rattle.dx_native_grammar.specs.Meaning.{tree_at, named_at, parts_at, attributes_at, given_at, body_at, clause_at, listed_tree};
+ghost use Rattle.dx_native_walk.specs.Answer.{IsKnown, Builds, BuildsParts, BuildsObject, Makes_of, Fits};
+ghost use Rattle.dx_objects.specs.Makes.{Makes};
+
+use crate::copies::{array_copy, int_object, name_copy};
+use crate::fail::BuildFail;
+use crate::memo::Memo;
+use dx_base::Bytes;
+use dx_native_clauses::{Attribute, Body, Clause, ClauseTable, Given, ListClass, Part as Line};
+use dx_native_lex::Named;
+use dx_objects::{Array, Object, ObjectError, Part, Parts};
+use std::alloc::Global;
+use std::rc::Rc;
+
+fn clause_of(clauses: &ClauseTable, i: usize) -> Option<&Clause>
+    ensures { MatchOption result (slice_get clauses.now i ≡ None) (λ c. slice_get clauses.now i ≡ Some c.now) }
+{
+    clauses.as_slice().get(i)
+}
+
+/// The object that is built already, if it has no more levels than these.
+fn built(object: &Rc<Object>, calls: u64) -> Result<Rc<Object>, BuildFail>
+    ensures { Fits object.now.value calls result }
+{
+    if object.levels() > calls {
+        return Err(BuildFail::Deep);
+    }
+    Ok(object.clone()?)
+}
+
+fn array_object(alloc: Global, array: &Array, attributes: Parts) -> Result<Object, BuildFail>
+    ensures { Makes_of (object_spec.array array.now (unplaced attributes)) result }
+{
+    match Object::array(array_copy(alloc, array)?, attributes) {
+        Ok(object) => Ok(object),
+        Err(_) => Err(BuildFail::Broken),
+    }
+}
+
+fn text_object(alloc: Global, text: &Bytes, attributes: Parts) -> Result<Object, BuildFail>
+    ensures { Makes_of (object_spec.text text.now (unplaced attributes)) result }
+{
+    match Object::text(Bytes::copy_of(alloc, text.bytes())?, attributes) {
+        Ok(object) => Ok(object),
+        Err(_) => Err(BuildFail::Broken),
+    }
+}
+
+fn made(class: ListClass, parts: Parts, attributes: Parts) -> Result<Object, ObjectError>
+    ensures { Makes (listed_tree class parts (unplaced attributes)) result }
+{
+    match class {
+        ListClass::Field => Object::field(parts, attributes),
+        ListClass::Group => Object::group(parts, attributes),
+        ListClass::Composite => Object::composite(parts, attributes),
+        ListClass::Series => Object::series(parts, attributes),
+    }
+}
+
+fn listed_object(class: ListClass, parts: Parts, attributes: Parts) -> Result<Object, BuildFail>
+    ensures { Makes_of (listed_tree class parts (unplaced attributes)) result }
+{
+    match made(class, parts, attributes) {
+        Ok(object) => Ok(object),
+        Err(_) => Err(BuildFail::Broken),
+    }
+}
+
+#[cycle(build)]
+fn named(
+    alloc: Global,
+    clauses: &ClauseTable,
+    memo: &mut Memo,
+    name: &Named,
+    calls: u64,
+) -> Result<Rc<Object>, BuildFail>
+    requires { IsKnown clauses.now memo.old }
+    ensures built { Builds (named_at clauses.now (tree_at clauses.now calls) name.now.text) result }
+    ensures known { OnOk result (IsKnown clauses.now memo.new) }
+{
+    match clauses.place(&name.text) {
+        Some(i) => build(alloc, clauses, memo, i, calls),
+        None => Err(BuildFail::Deep),
+    }
+}
+
+#[cycle(build)]
+fn parts(
+    alloc: Global,
+    clauses: &ClauseTable,
+    memo: &mut Memo,
+    lines: &[Line],
+    calls: u64,
+) -> Result<Parts, BuildFail>
+    requires { IsKnown clauses.now memo.old }
+    ensures built { BuildsParts (parts_at (named_at clauses.now (tree_at clauses.now calls)) lines.now) result }
+    ensures known { OnOk result (IsKnown clauses.now memo.new) }
+{
+    let mut parts = Parts::new(alloc);
+    for line in lines {
+        let object = named(alloc, clauses, memo, &line.target, calls)?;
+        let name = name_copy(alloc, &line.name)?;
+        parts.push(Part {
+            name,
+            position: line.position,
+            object,
+        })?;
+    }
+    Ok(parts)
+}
+
+#[cycle(build)]
+fn given(
+    alloc: Global,
+    clauses: &ClauseTable,
+    memo: &mut Memo,
+    value: &Given,
+    calls: u64,
+) -> Result<Rc<Object>, BuildFail>
+    requires { IsKnown clauses.now memo.old }
+    ensures built { Builds (given_at calls (named_at clauses.now (tree_at clauses.now calls)) value.now) result }
+    ensures known { OnOk result (IsKnown clauses.now memo.new) }
+{
+    if calls == 0 {
+        return Err(BuildFail::Deep);
+    }
+    match value {
+        Given::Text(text) => {
+            let object = text_object(alloc, text, Parts::new(alloc))?;
+            Ok(Rc::new(alloc, object)?)
+        }
+        Given::Number(number) => Ok(int_object(alloc, *number)?),
+        Given::Object(name) => named(alloc, clauses, memo, name, calls),
+    }
+}
+
+#[cycle(build)]
+fn attributes(
+    alloc: Global,
+    clauses: &ClauseTable,
+    memo: &mut Memo,
+    lines: &[Attribute],
+    calls: u64,
+) -> Result<Parts, BuildFail>
+    requires { IsKnown clauses.now memo.old }
+    ensures built { BuildsParts (attributes_at calls (named_at clauses.now (tree_at clauses.now calls)) lines.now) result }
+    ensures known { OnOk result (IsKnown clauses.now memo.new) }
+{
+    let mut parts = Parts::new(alloc);
+    for line in lines {
+        let object = given(alloc, clauses, memo, &line.value, calls)?;
+        let name = Bytes::copy_of(alloc, line.name.bytes())?;
+        parts.push(Part {
+            name: Some(name),
+            position: 0,
+            object,
+        })?;
+    }
+    Ok(parts)
+}
+
+/// The object of a body with these attributes.
+#[cycle(build)]
+fn body_object(
+    alloc: Global,
+    clauses: &ClauseTable,
+    memo: &mut Memo,
+    body: &Body,
+    attributes: Parts,
+    calls: u64,
+) -> Result<Object, BuildFail>
+    requires { IsKnown clauses.now memo.old }
+    ensures built { BuildsObject (body_at (named_at clauses.now (tree_at clauses.now calls)) body.now (Some (unplaced attributes))) result }
+    ensures known { OnOk result (IsKnown clauses.now memo.new) }
+{
+    match body {
+        Body::Array(array) => array_object(alloc, array, attributes),
+        Body::Text(text) => text_object(alloc, text, attributes),
+        Body::Parts(class, lines) => {
+            let parts = parts(alloc, clauses, memo, lines.as_slice(), calls)?;
+            listed_object(*class, parts, attributes)
+        }
+    }
+}
+
+/// The object of a clause, whose parts and attributes have at most so many levels.
+#[cycle(build)]
+fn object_of(
+    alloc: Global,
+    clauses: &ClauseTable,
+    memo: &mut Memo,
+    clause: &Clause,
+    calls: u64,
+) -> Result<Object, BuildFail>
+    requires { IsKnown clauses.now memo.old }
+    ensures built { BuildsObject (clause_at calls (named_at clauses.now (tree_at clauses.now calls)) (Some clause.now)) result }
+    ensures known { OnOk result (IsKnown clauses.now memo.new) }
+{
+    let lines = clause.content.attributes.as_slice();
+    let others = attributes(alloc, clauses, memo, lines, calls)?;
+    body_object(alloc, clauses, memo, &clause.content.body, others, calls)
+}
+
+/// The object of clause number i, of at most so many levels.
+#[cycle(build)]
+fn build(
+    alloc: Global,
+    clauses: &ClauseTable,
+    memo: &mut Memo,
+    i: usize,
+    calls: u64,
+) -> Result<Rc<Object>, BuildFail>
+    requires { IsKnown clauses.now memo.old }
+    ensures built { Builds (tree_at clauses.now calls i) result }
+    ensures known { OnOk result (IsKnown clauses.now memo.new) }
+{
+    let Some(clause) = clause_of(clauses, i) else {
+        return Err(BuildFail::Deep);
+    };
+    if let Some(object) = memo.get(i) {
+        return built(object, calls);
+    }
+    if calls == 0 {
+        return Err(BuildFail::Deep);
+    }
+    let object = Rc::new(alloc, object_of(alloc, clauses, memo, clause, calls - 1)?)?;
+    memo.set(i, object.clone()?);
+    Ok(object)
+}
+
+/// The object of clause number i, of at most 64 levels.
+pub fn clause_object(alloc: Global, clauses: &ClauseTable, i: usize) -> Result<Object, BuildFail>
+    ensures { BuildsObject (tree_at clauses.now 64 i) result }
+{
+    let Some(clause) = clause_of(clauses, i) else {
+        return Err(BuildFail::Deep);
+    };
+    let mut memo = Memo::new(alloc, clauses.as_slice().len())?;
+    object_of(alloc, clauses, &mut memo, clause, 63)
+}

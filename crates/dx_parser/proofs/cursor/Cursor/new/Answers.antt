@@ -1,5 +1,0 @@
-use Rattle.dx_base.specs.Tokens.Reading.{start}
-use Rattle.dx_parser.proofs.cursor.Cursor.new.Goals as goal
-
-pub read-requires : goal.read-requires
-read-requires c = start
