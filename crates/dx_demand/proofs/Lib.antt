@@ -13,3 +13,4 @@ pub mod FormedTerms
 pub mod FormedPorts
 pub mod FormedSteps
 pub mod FormedLoop
+pub mod Calls

@@ -6,3 +6,4 @@ pub mod Steps
 pub mod Terms
 pub mod Found
 pub mod Forming
+pub mod Calling

@@ -21,6 +21,8 @@ ghost use Rattle.dx_meaning.specs.More.{More};
 ghost use Rattle.dx_demand.specs.Memo.{FirstNodes, answers_of, formed_of, with_formed, node_scans, port_scan, IsPort, MemoFits, MemoRight};
 ghost use Rattle.dx_demand.specs.Stack.{Begins};
 ghost use Rattle.dx_meaning.specs.Forming.{after, with_term, file_forms, call_formed, HasAll};
+ghost use Rattle.dx_meaning.specs.Met.{met_at, picked_met};
+ghost use Rattle.dx_demand.specs.Calling.{SelectorsValued, AreValued, KnownValued, StepMet, SelectionMet, IsNoModule, node_met, port_met};
 ghost use Rattle.dx_demand.specs.Forming.{named_terms, formings, with_own, IsCallTag, NameCalls, MemoFormed, KnownForms, input_forms, node_forms, first_forms, forms_with, HasFront, calls_forms, input_part, pick_part, FormsStep, FormsSelection};
 ghost use Rattle.dx_demand.specs.Picked.{LinksFit};
 ghost use Rattle.dx_demand.specs.Found.{NeedsNoCall, Kept, AllFound, ArgumentsFound, MemoFound, KnownFound, StepFound, SelectionFound};
@@ -119,6 +121,7 @@ fn known_of(g: &Graph, i: &Input, tags: &mut Tags, memo: &Memo) -> Result<Known,
     ensures right { (s : Sight) → MemoRight s (graph_of g.now).nodes tags.old memo.now → IfOk result (λ k. KnownRight s (graph_of g.now).nodes tags.new i.now k) }
     ensures found { (l : LinkMap) → MemoFound l tags.old memo.now → IfOk result (λ k. KnownFound l tags.new (formed_of memo.now) k) }
     ensures forms { (s : Sight) → MemoFormed s (graph_of g.now).nodes tags.old memo.now → IfOk result (λ k. KnownForms (input_forms s (graph_of g.now).nodes i.now) (formings (graph_of g.now).nodes tags.old memo.now) (formings (graph_of g.now).nodes tags.new memo.now) k) }
+    ensures valued { IfOk result (λ k. KnownValued (answers_of memo.now) i.now k) }
 {
     match i {
         Input::Constant(c) => {
@@ -251,6 +254,8 @@ fn module_step(
     ensures found { (l : LinkMap) → MemoFound l tags.old memo.old → AllFound l tags.old (formed_of memo.old) arguments.old → IfOk result (λ x. StepFound l tags.new (formed_of memo.new) x) }
     ensures forms { (s : Sight) → MemoRight s (graph_of g.now).nodes tags.old memo.old → Begins (heads_of tags.old) (node_scans s (graph_of g.now).nodes port.node) arguments.old → MemoFormed s (graph_of g.now).nodes tags.old memo.old → HasAll (formings (graph_of g.now).nodes tags.old memo.old) (first_forms (length arguments.old) (node_forms s (graph_of g.now).nodes port.node)) →
         HasFront s (graph_of g.now).nodes (formings (graph_of g.now).nodes tags.old memo.old) port (calls_forms (graph_of g.now).nodes port called file) → IfOk result (λ x. FormsStep s (graph_of g.now).nodes tags.old memo.old tags.new memo.new port (length arguments.new) x) }
+    ensures valued { AreValued (answers_of memo.old) (node_at (graph_of g.now).nodes port.node).inputs (length arguments.old) → OnOk result (AreValued (answers_of memo.old) (node_at (graph_of g.now).nodes port.node).inputs (length arguments.new)) }
+    ensures met { (s : Sight) → AreValued (answers_of memo.old) (node_at (graph_of g.now).nodes port.node).inputs (length arguments.old) → IfOk result (λ x. StepMet s (graph_of g.now).nodes (answers_of memo.old) port x) }
 {
     let inputs = g.node(port.node).inputs.as_slice();
     while arguments.len() < inputs.len() {
@@ -289,6 +294,7 @@ fn chosen(g: &Graph, port: Port, k: usize, tags: &mut Tags, memo: &Memo) -> Resu
     ensures found { (l : LinkMap) → MemoFound l tags.old memo.now → IfOk result (λ x. StepFound l tags.new (formed_of memo.now) x) }
     ensures forms { (s : Sight) → MemoFormed s (graph_of g.now).nodes tags.old memo.now → HasFront s (graph_of g.now).nodes (formings (graph_of g.now).nodes tags.old memo.now) port (input_part (graph_of g.now).nodes port k) →
         IfOk result (λ x. FormsStep s (graph_of g.now).nodes tags.old memo.now tags.new memo.now port 0 x) }
+    ensures met { (s : Sight) → IsNoModule (node_at (graph_of g.now).nodes port.node).what → port_met s (graph_of g.now).nodes port ≡ met_at (node_met s (graph_of g.now).nodes port.node) k → IfOk result (λ x. StepMet s (graph_of g.now).nodes (answers_of memo.now) port x) }
 {
     let inputs = g.node(port.node).inputs.as_slice();
     if k < inputs.len() {
@@ -340,6 +346,8 @@ fn select_term(
     ensures found { (l : LinkMap) → MemoFound l tags.old memo.old → IfOk result (λ x. SelectionFound l tags.new (formed_of memo.new) x) }
     ensures forms { (s : Sight) → MemoRight s (graph_of g.now).nodes tags.old memo.old → MemoFormed s (graph_of g.now).nodes tags.old memo.old →
         IfOk result (λ x. FormsSelection s (graph_of g.now).nodes tags.old memo.old tags.new memo.new port x) }
+    ensures met { (s : Sight) → IfOk result (λ x. SelectionMet s (graph_of g.now).nodes (answers_of memo.old) port x) }
+    ensures selected { SelectorsValued (graph_of g.now).nodes memo.old → OnOk result (SelectorsValued (graph_of g.now).nodes memo.new) }
 {
     match memo.selector(port.node) {
         Some(t) => Ok(Selection::Selects(t)),
@@ -398,6 +406,8 @@ fn picked(
     ensures forms { (s : Sight) → MemoFormed s (graph_of g.now).nodes tags.old memo.now →
         HasFront s (graph_of g.now).nodes (formings (graph_of g.now).nodes tags.old memo.now) port (pick_part (graph_of g.now).nodes port (plain.pick (forms_with links.now.links) (node_at (graph_of g.now).nodes port.node).what (node_at (graph_of g.now).nodes port.node).place port.result (value_behind v.entry))) →
         IfOk result (λ x. FormsStep s (graph_of g.now).nodes tags.old memo.now tags.new memo.now port 0 x) }
+    ensures met { (s : Sight) → Holds links.now.links tags.new s → IsNoModule (node_at (graph_of g.now).nodes port.node).what → port_met s (graph_of g.now).nodes port ≡ picked_met (node_met s (graph_of g.now).nodes port.node) (plain.pick (terms_in s) (node_at (graph_of g.now).nodes port.node).what (node_at (graph_of g.now).nodes port.node).place port.result (value_behind v.entry)) →
+        IfOk result (λ x. StepMet s (graph_of g.now).nodes (answers_of memo.now) port x) }
 {
     match pick_of(alloc, g, port.node, port.result, v, links)? {
         Pick::Null => {
@@ -461,6 +471,8 @@ fn selector_step<G: Given>(
     ensures found { MemoFound links.now.links tags.old memo.old → IfOk result (λ x. StepFound links.now.links tags.new (formed_of memo.new) x) }
     ensures forms { (s : Sight) → Tells (G.told given.now) tags.new s → Holds links.now.links tags.new s → MemoRight s (graph_of g.now).nodes tags.old memo.old → MemoFormed s (graph_of g.now).nodes tags.old memo.old →
         IfOk result (λ x. FormsStep s (graph_of g.now).nodes tags.old memo.old tags.new memo.new port 0 x) }
+    ensures met { (s : Sight) → Tells (G.told given.now) tags.new s → Holds links.now.links tags.new s → MemoRight s (graph_of g.now).nodes tags.old memo.old → IfOk result (λ x. StepMet s (graph_of g.now).nodes (answers_of memo.old) port x) }
+    ensures selected { SelectorsValued (graph_of g.now).nodes memo.old → OnOk result (SelectorsValued (graph_of g.now).nodes memo.new) }
 {
     match select_term(g, port, place, tags, memo)? {
         Selection::Before(first) => Ok(first),
@@ -525,6 +537,9 @@ fn import_step<G: Given>(
     ensures found { (l : LinkMap) → MemoFound l tags.old memo.old → AllFound l tags.old (formed_of memo.old) arguments.old → IfOk result (λ x. StepFound l tags.new (formed_of memo.new) x) }
     ensures forms { (s : Sight) → Tells (G.told given.now) tags.new s → Wrote written.now.files s → MemoRight s (graph_of g.now).nodes tags.old memo.old → Begins (heads_of tags.old) (node_scans s (graph_of g.now).nodes port.node) arguments.old → MemoFormed s (graph_of g.now).nodes tags.old memo.old → HasAll (formings (graph_of g.now).nodes tags.old memo.old) (first_forms (length arguments.old) (node_forms s (graph_of g.now).nodes port.node)) →
         IfOk result (λ x. FormsStep s (graph_of g.now).nodes tags.old memo.old tags.new memo.new port (length arguments.new) x) }
+    ensures valued { AreValued (answers_of memo.old) (node_at (graph_of g.now).nodes port.node).inputs (length arguments.old) → OnOk result (AreValued (answers_of memo.old) (node_at (graph_of g.now).nodes port.node).inputs (length arguments.new)) }
+    ensures met { (s : Sight) → AreValued (answers_of memo.old) (node_at (graph_of g.now).nodes port.node).inputs (length arguments.old) → IfOk result (λ x. StepMet s (graph_of g.now).nodes (answers_of memo.old) port x) }
+    ensures selected { SelectorsValued (graph_of g.now).nodes memo.old → OnOk result (SelectorsValued (graph_of g.now).nodes memo.new) }
 {
     match select_term(g, port, 0, tags, memo)? {
         Selection::Before(first) => Ok(first),
@@ -539,7 +554,7 @@ fn import_step<G: Given>(
 }
 
 /// Whether a module's first input is a selector.
-fn has_name(called: Module) -> bool
+pub(crate) fn has_name(called: Module) -> bool
     ensures { result ≡ is_some (module_selector called) }
 {
     match called {
@@ -585,6 +600,9 @@ fn called_step<G: Given>(
     ensures found { (l : LinkMap) → MemoFound l tags.old memo.old → AllFound l tags.old (formed_of memo.old) arguments.old → IfOk result (λ x. StepFound l tags.new (formed_of memo.new) x) }
     ensures forms { (s : Sight) → Tells (G.told given.now) tags.new s → Wrote written.now.files s → MemoRight s (graph_of g.now).nodes tags.old memo.old → Begins (heads_of tags.old) (node_scans s (graph_of g.now).nodes port.node) arguments.old → MemoFormed s (graph_of g.now).nodes tags.old memo.old → HasAll (formings (graph_of g.now).nodes tags.old memo.old) (first_forms (length arguments.old) (node_forms s (graph_of g.now).nodes port.node)) →
         IfOk result (λ x. FormsStep s (graph_of g.now).nodes tags.old memo.old tags.new memo.new port (length arguments.new) x) }
+    ensures valued { AreValued (answers_of memo.old) (node_at (graph_of g.now).nodes port.node).inputs (length arguments.old) → OnOk result (AreValued (answers_of memo.old) (node_at (graph_of g.now).nodes port.node).inputs (length arguments.new)) }
+    ensures met { (s : Sight) → AreValued (answers_of memo.old) (node_at (graph_of g.now).nodes port.node).inputs (length arguments.old) → IfOk result (λ x. StepMet s (graph_of g.now).nodes (answers_of memo.old) port x) }
+    ensures selected { SelectorsValued (graph_of g.now).nodes memo.old → OnOk result (SelectorsValued (graph_of g.now).nodes memo.new) }
 {
     if has_name(called) {
         import_step(
@@ -613,6 +631,7 @@ fn effect_step(
     ensures right { (s : Sight) → MemoRight s (graph_of g.now).nodes tags.old memo.now → IfOk result (λ x. StepRight s (graph_of g.now).nodes tags.new port x) }
     ensures found { (l : LinkMap) → MemoFound l tags.old memo.now → IfOk result (λ x. StepFound l tags.new (formed_of memo.now) x) }
     ensures forms { (s : Sight) → MemoFormed s (graph_of g.now).nodes tags.old memo.now → IfOk result (λ x. FormsStep s (graph_of g.now).nodes tags.old memo.now tags.new memo.now port 0 x) }
+    ensures met { (s : Sight) → IfOk result (λ x. StepMet s (graph_of g.now).nodes (answers_of memo.now) port x) }
 {
     match e {
         Effect::SetLocal => chosen(g, port, 1, tags, memo),
@@ -664,6 +683,9 @@ pub(crate) fn next_step<G: Given>(
     ensures found { MemoFound links.now.links tags.old memo.old → AllFound links.now.links tags.old (formed_of memo.old) arguments.old → IfOk result (λ x. StepFound links.now.links tags.new (formed_of memo.new) x) }
     ensures forms { (s : Sight) → Sees (G.told given.now) links.now.links written.now.files tags.new s → MemoRight s (graph_of g.now).nodes tags.old memo.old → Begins (heads_of tags.old) (node_scans s (graph_of g.now).nodes port.node) arguments.old → MemoFormed s (graph_of g.now).nodes tags.old memo.old → HasAll (formings (graph_of g.now).nodes tags.old memo.old) (first_forms (length arguments.old) (node_forms s (graph_of g.now).nodes port.node)) →
         IfOk result (λ x. FormsStep s (graph_of g.now).nodes tags.old memo.old tags.new memo.new port (length arguments.new) x) }
+    ensures valued { AreValued (answers_of memo.old) (node_at (graph_of g.now).nodes port.node).inputs (length arguments.old) → OnOk result (AreValued (answers_of memo.old) (node_at (graph_of g.now).nodes port.node).inputs (length arguments.new)) }
+    ensures met { (s : Sight) → Sees (G.told given.now) links.now.links written.now.files tags.new s → MemoRight s (graph_of g.now).nodes tags.old memo.old → AreValued (answers_of memo.old) (node_at (graph_of g.now).nodes port.node).inputs (length arguments.old) → IfOk result (λ x. StepMet s (graph_of g.now).nodes (answers_of memo.old) port x) }
+    ensures selected { SelectorsValued (graph_of g.now).nodes memo.old → OnOk result (SelectorsValued (graph_of g.now).nodes memo.new) }
 {
     match g.node(port.node).what {
         Function::Module(called) => {

@@ -122,7 +122,7 @@ module_keeps s s' m computing.CollectNamed p result ss ss' h = call_keeps comput
 module_keeps s s' m computing.CollectSeries p result ss ss' h = call_keeps computing.CollectSeries None result (all_scanned ss) (all_scanned ss') (all_keeps ss ss' h)
 module_keeps s s' m computing.Inquire p result ss ss' h = call_keeps computing.Inquire None result (all_scanned ss) (all_scanned ss') (all_keeps ss ss' h)
 
-rule_keeps : (s s' : Sight) → More s s' → (f : Function) (p : Place) (result : ℕ) (ss ss' : List (Scanned ValueTerm)) → EachKeeps ss ss' → Keeps (rule_scanned s f p result ss) (rule_scanned s' f p result ss')
+pub rule_keeps : (s s' : Sight) → More s s' → (f : Function) (p : Place) (result : ℕ) (ss ss' : List (Scanned ValueTerm)) → EachKeeps ss ss' → Keeps (rule_scanned s f p result ss) (rule_scanned s' f p result ss')
 rule_keeps s s' m (function.Module mo) p result ss ss' h = module_keeps s s' m mo p result ss ss' h
 rule_keeps s s' m (function.Effect e) p result ss ss' h = effect_keeps e ss ss' h
 rule_keeps s s' m function.Switch p result ss ss' h = selector_keeps s s' m function.Switch p result ss ss' h

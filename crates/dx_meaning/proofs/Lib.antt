@@ -4,3 +4,4 @@ pub mod Formed
 pub mod FormsStaying
 pub mod Terms
 pub mod Computed
+pub mod MetStaying

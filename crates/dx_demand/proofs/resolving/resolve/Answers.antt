@@ -12,6 +12,9 @@ use Rattle.dx_meaning.proofs.Formed.{after_grows}
 use Rattle.dx_demand.proofs.FormedTerms.{value_formed}
 use Rattle.dx_demand.specs.Forming.{formings, input_forms}
 use Rattle.dx_demand.proofs.FormedSteps.{left_formed_grows, memo_formed_grows}
+use Rattle.dx_demand.specs.Memo.{Answers}
+use Rattle.dx_demand.specs.Calling.{IsValued, ResolvedValued}
+use Rattle.std.specs.Prelude.{IfOk}
 use Rattle.dx_demand.proofs.resolving.resolve.Goals as goal
 
 pub returns-in_ok-t-in-Constant-clause-seen : goal.returns-in_ok-t-in-Constant-clause-seen
@@ -76,3 +79,10 @@ returns-in_ok-t-in-Constant-clause-forms g c = λ s sees right f.
     let e = value_formed nodes old new goes seen.memo f.memo.calls (ConstantTerm k) c.in_ok-t-in-Constant.ensures.terms in
     let same : k ≡ c.in-Constant.c = c.in_ok-share-in-Constant.ensures in
     e ∙ ap (λ (x : Const). after (FormsValue (ConstantTerm x) ∷ []) was) same ∙ sym (ap (λ i. after (input_forms s nodes i) was) c.in-Constant.is)
+
+pub returns-in_ok-t-in-Constant-clause-valued : goal.returns-in_ok-t-in-Constant-clause-valued
+returns-in_ok-t-in-Constant-clause-valued g c = subst (IsValued (answers_of c.args.seen.now.memo)) (sym c.in-Constant.is) tt
+
+pub returns-in-Result-clause-valued : goal.returns-in-Result-clause-valued
+returns-in-Result-clause-valued g c =
+    subst (λ i. IfOk c.resolve_port.result (λ r. ResolvedValued (answers_of c.resolve_port.new.seen.memo) i r)) (sym c.in-Result.is) c.resolve_port.ensures.valued

@@ -22,6 +22,8 @@ use Rattle.dx_demand.specs.Forming.{KnownForms, formings, input_forms, port_form
 use Rattle.dx_demand.proofs.FormedTerms.{value_formed}
 use Rattle.dx_demand.proofs.FormedPorts.{chosen_formed, chosen_null, chosen_awaits, reaches_grow}
 use Rattle.dx_demand.proofs.FormedSteps.{formation_of, toward_same}
+use Rattle.dx_demand.specs.Calling.{KnownValued}
+use Rattle.dx_demand.proofs.Calls.{chosen_met, alone_met, met_past}
 use Rattle.dx_demand.proofs.step.chosen.Goals as goal
 
 pub known_of-requires-clause-input : goal.known_of-requires-clause-input
@@ -133,3 +135,22 @@ returns-in_ok-t-clause-forms c = λ s m h.
     let e = value_formed nodes old new c.in_ok-t.ensures.goes_on c.args.memo.now m.calls null_term c.in_ok-t.ensures.terms in
     let r = chosen_null s nodes c.args.port c.args.k was now h (omega (arith, whole, c.if-k-inputs.false)) e in
     (formation_of s nodes old new c.in_ok-t.ensures.goes_on c.args.memo.now c.args.port 0 r.0 m tt, r.1)
+
+pub returns-in-Settled-clause-met : goal.returns-in-Settled-clause-met
+returns-in-Settled-clause-met c = λ s no h.
+    let nodes = (graph_of c.args.g.now).nodes in
+    let inputs = (node_at nodes c.args.port.node).inputs in
+    let same : c.as_slice-inputs.result.now ≡ inputs = c.as_slice-inputs.ensures ∙ ap (λ (x : Node). x.inputs) c.node.ensures in
+    let x = c.index-inputs-k.result in
+    let at : slice_get inputs c.args.k ≡ Some x = slot c.as_slice-inputs.result.now inputs c.args.k c.args.k x same refl c.if-k-inputs.true c.index-inputs-k.is in
+    let answers = answers_of c.args.memo.now in
+    let whole = ap length same in
+    chosen_met s nodes answers c.args.port c.args.k x c.in-Settled.settled no h (omega (arith, whole, c.if-k-inputs.true)) at (subst (KnownValued answers x) c.in-Settled.is c.in_ok-settled.ensures.valued)
+
+pub returns-in_ok-t-clause-met : goal.returns-in_ok-t-clause-met
+returns-in_ok-t-clause-met c = λ s no h.
+    let nodes = (graph_of c.args.g.now).nodes in
+    let inputs = (node_at nodes c.args.port.node).inputs in
+    let same : c.as_slice-inputs.result.now ≡ inputs = c.as_slice-inputs.ensures ∙ ap (λ (x : Node). x.inputs) c.node.ensures in
+    let whole = ap length same in
+    alone_met s nodes (answers_of c.args.memo.now) c.args.port c.in_ok-t.t no (h ∙ met_past s nodes c.args.port.node c.args.k (omega (arith, whole, c.if-k-inputs.false)))

@@ -20,6 +20,10 @@ use Rattle.dx_meaning.proofs.Formed.{all_grow}
 use Rattle.dx_demand.specs.Forming.{formings, node_forms, first_forms, SelectionForms, FormsStep}
 use Rattle.dx_demand.proofs.FormedPorts.{selector_untold, named_formed}
 use Rattle.dx_demand.proofs.FormedSteps.{formation_with, step_then}
+use Rattle.std.specs.Prelude.{IfOk, OnOk}
+use Rattle.dx_demand.specs.Memo.{Answers, answers_of}
+use Rattle.dx_demand.specs.Calling.{AreValued, SelectionMet, StepMet}
+use Rattle.dx_demand.proofs.Calls.{selectors_kept}
 use Rattle.dx_demand.proofs.step.import_step.Goals as goal
 
 pub select_term-requires-clause-selects : goal.select_term-requires-clause-selects
@@ -200,3 +204,29 @@ returns-in_ok-file-in-Some-clause-forms g c = λ s tells wrote m b w a.
     let kept = all_grow was (formings nodes mid memo) selected.0.toward.grows (first_forms (length c.args.arguments.now) (node_forms s nodes c.args.port.node)) a in
     c.module_step.ensures.forms s (c.in_ok-first.ensures.memo_right s m) begun selected.0.memo kept
     (named_formed s nodes lawful c.args.port lt c.args.called c.requires.what (name_selects (node_at nodes c.args.port.node).what c.args.called c.requires.what c.requires.selects) term e (value_behind c.in-Some.v) v c.in_ok-file-in-Some.file (c.in_ok-file-in-Some.ensures s wrote) (formings nodes mid memo) there)))
+
+pub returns-in-Before-clause-met : goal.returns-in-Before-clause-met
+returns-in-Before-clause-met g c = λ s a. subst (SelectionMet s (graph_of c.args.g.now).nodes (answers_of c.args.memo.now) c.args.port) c.in-Before.is (c.in_ok-first.ensures.met s)
+
+pub returns-in_ok-file-in-Some-clause-met : goal.returns-in_ok-file-in-Some-clause-met
+returns-in_ok-file-in-Some-clause-met g c = λ s a.
+    let nodes = (graph_of c.args.g.now).nodes in
+    let inputs = (node_at nodes c.args.port.node).inputs in
+    let same = c.in_ok-first.ensures.answers in
+    subst (λ (x : Answers). IfOk c.module_step.result (λ y. StepMet s nodes x c.args.port y)) same
+    (c.module_step.ensures.met s (subst (λ (x : Answers). AreValued x inputs (length c.args.arguments.now)) (sym same) a))
+
+pub returns-in_ok-file-in-Some-clause-valued : goal.returns-in_ok-file-in-Some-clause-valued
+returns-in_ok-file-in-Some-clause-valued g c = λ a.
+    let nodes = (graph_of c.args.g.now).nodes in
+    let inputs = (node_at nodes c.args.port.node).inputs in
+    let same = c.in_ok-first.ensures.answers in
+    subst (λ (x : Answers). OnOk c.module_step.result (AreValued x inputs (length c.module_step.new.arguments))) same
+    (c.module_step.ensures.valued (subst (λ (x : Answers). AreValued x inputs (length c.args.arguments.now)) (sym same) a))
+
+pub returns-in_ok-file-in-Some-clause-selected : goal.returns-in_ok-file-in-Some-clause-selected
+returns-in_ok-file-in-Some-clause-selected g c = λ h. on_ok_then c.module_step.result c.module_step.ensures.goes_on (λ more.
+    selectors_kept (graph_of c.args.g.now).nodes c.select_term.new.memo c.module_step.new.memo c.module_step.ensures.answers c.module_step.ensures.selectors (c.in_ok-first.ensures.selected h))
+
+pub returns-in_ok-file-in-Some-clause-goes_on : goal.returns-in_ok-file-in-Some-clause-goes_on
+returns-in_ok-file-in-Some-clause-goes_on g c = on_ok_then c.module_step.result c.module_step.ensures.goes_on (λ more. goes_on_then c.args.tags.now c.select_term.new.tags c.module_step.new.tags c.in_ok-first.ensures.goes_on more)

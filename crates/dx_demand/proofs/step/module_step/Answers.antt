@@ -6,7 +6,7 @@ use Rattle.dx_base.specs.Modules.{Takes}
 use Rattle.dx_demand.proofs.Taken.{node_takes}
 use Rattle.dx_demand.specs.Terms.{MayRead, AreArguments, IsValue}
 use Rattle.dx_demand.proofs.Terms.{arguments_on, arguments_push}
-use Rattle.std.proofs.Common.{◌≡◌, ◌<◌, ◌≤◌, ◌∙◌, [], ◌∷◌, ◌++◌, ℕ, suc, length, Some, sym, ap, subst, arith, length-append}
+use Rattle.std.proofs.Common.{◌≡◌, ◌<◌, ◌≤◌, ◌∙◌, [], ◌∷◌, ◌++◌, ℕ, suc, length, Some, None, sym, ap, subst, arith, length-append}
 use Rattle.std.specs.Prelude.{slice_get}
 use Rattle.dx_graph.specs.declared.node.Node.{Node}
 use Rattle.dx_graph.specs.Graph.{node_at}
@@ -30,6 +30,8 @@ use Rattle.dx_meaning.proofs.Formed.{all_grow, after_has}
 use Rattle.dx_demand.specs.Forming.{KnownForms, formings, input_forms, port_forms, node_forms, first_forms, calls_forms}
 use Rattle.dx_demand.proofs.FormedPorts.{argument_next, argument_ends, argument_awaits, arguments_end, first_more, forms_slot, front_grows, toward_then, reaches_grow}
 use Rattle.dx_demand.proofs.FormedSteps.{formation_of, toward_same, memo_formed_grows, form_formed}
+use Rattle.dx_demand.specs.Calling.{AreValued, KnownValued}
+use Rattle.dx_demand.proofs.Calls.{one_valued, none_valued, module_met}
 use Rattle.dx_demand.proofs.step.module_step.Goals as goal
 
 pub known_of-requires-clause-input : goal.known_of-requires-clause-input
@@ -77,6 +79,10 @@ loop-inputs-preserved c =
           subst (AllFound l new first) (sym pushed) (all_found_push l new first ts c.in-Settled-Value.t
           (all_found_grows old new goes l first first (kept_itself first) ts c.loop-inputs.invariant.earlier.earlier (c.loop-inputs.invariant.found l m f))
           (subst (KnownFound l new first) is (c.in_ok-t.ensures.found l (memo_found_grows nodes c.args.tags.now old c.loop-inputs.invariant.goes_on c.requires.formed.formed l c.args.memo.now c.requires.memo m))));
+      valued = λ v.
+          let answers = answers_of c.args.memo.now in
+          let count : length c.push.new.self ≡ suc (length ts) = (let long = ap length pushed in let app = length-append ts (c.in-Settled-Value.t ∷ []) in omega (arith, long, app)) in
+          subst (AreValued answers inputs) (sym count) (one_valued answers inputs (length ts) x (c.loop-inputs.invariant.valued v) at (subst (KnownValued answers x) is c.in_ok-t.ensures.valued));
       forms = λ s m b w a h.
           let was = formings nodes c.args.tags.now c.args.memo.now in
           let mid = formings nodes old c.args.memo.now in
@@ -435,3 +441,19 @@ returns-clause-forms c = λ s m b w a h.
       },
       r.1,
     )
+
+pub returns-clause-valued : goal.returns-clause-valued
+returns-clause-valued c = λ v.
+    let answers = answers_of c.args.memo.now in
+    let inputs = (node_at (graph_of c.args.g.now).nodes c.args.port.node).inputs in
+    subst (AreValued answers inputs) (sym (ap length (c.replace-all.ensures.after ∙ c.new.ensures))) (none_valued answers inputs)
+
+pub returns-clause-met : goal.returns-clause-met
+returns-clause-met c = λ s v.
+    let nodes = (graph_of c.args.g.now).nodes in
+    let answers = answers_of c.args.memo.now in
+    let inputs = (node_at nodes c.args.port.node).inputs in
+    let same : c.as_slice-inputs.result.now ≡ inputs = c.as_slice-inputs.ensures ∙ ap (λ (x : Node). x.inputs) c.node.ensures in
+    let long = ap length same in
+    let count : length c.loop-inputs.arguments ≡ length inputs = omega (arith, long, c.loop-inputs-test.false, c.len.ensures, c.loop-inputs.invariant.few) in
+    module_met s nodes answers c.args.port c.args.called None c.in_ok-t-2.t c.requires.what (subst (AreValued answers inputs) count (c.loop-inputs.invariant.valued v))

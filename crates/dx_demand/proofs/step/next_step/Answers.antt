@@ -74,3 +74,27 @@ returns-in-Switch-clause-forms g c = λ s sees m b w a.
 pub returns-in-GetLocal-clause-forms : goal.returns-in-GetLocal-clause-forms
 returns-in-GetLocal-clause-forms g c = λ s sees m b w a.
     step_with c.selector_step-in-GetLocal.result s (graph_of c.args.g.now).nodes c.args.tags.now c.args.memo.now c.selector_step-in-GetLocal.new.tags c.selector_step-in-GetLocal.new.memo c.args.port (length c.args.arguments.now) a (c.selector_step-in-GetLocal.ensures.forms s sees.told sees.linked m w)
+
+pub returns-in-Module-clause-met : goal.returns-in-Module-clause-met
+returns-in-Module-clause-met g c = λ s sees m a. c.called_step.ensures.met s a
+
+pub returns-in-Effect-clause-met : goal.returns-in-Effect-clause-met
+returns-in-Effect-clause-met g c = λ s sees m a. c.effect_step.ensures.met s
+
+pub returns-in-Switch-clause-met : goal.returns-in-Switch-clause-met
+returns-in-Switch-clause-met g c = λ s sees m a. c.selector_step.ensures.met s sees.told sees.linked m
+
+pub returns-in-GetLocal-clause-met : goal.returns-in-GetLocal-clause-met
+returns-in-GetLocal-clause-met g c = λ s sees m a. c.selector_step-in-GetLocal.ensures.met s sees.told sees.linked m
+
+pub returns-in-Effect-clause-valued : goal.returns-in-Effect-clause-valued
+returns-in-Effect-clause-valued g c = λ a. on_ok_then c.effect_step.result c.effect_step.ensures.goes_on (λ more. a)
+
+pub returns-in-Switch-clause-valued : goal.returns-in-Switch-clause-valued
+returns-in-Switch-clause-valued g c = λ a. on_ok_then c.selector_step.result c.selector_step.ensures.goes_on (λ more. a)
+
+pub returns-in-GetLocal-clause-valued : goal.returns-in-GetLocal-clause-valued
+returns-in-GetLocal-clause-valued g c = λ a. on_ok_then c.selector_step-in-GetLocal.result c.selector_step-in-GetLocal.ensures.goes_on (λ more. a)
+
+pub returns-in-Effect-clause-selected : goal.returns-in-Effect-clause-selected
+returns-in-Effect-clause-selected g c = λ h. on_ok_then c.effect_step.result c.effect_step.ensures.goes_on (λ more. h)

@@ -21,6 +21,10 @@ use Rattle.dx_demand.specs.Forming.{formings, named_terms, node_forms, forms_wit
 use Rattle.dx_demand.proofs.FormedTerms.{value_formed}
 use Rattle.dx_demand.proofs.FormedPorts.{picked_formed}
 use Rattle.dx_demand.proofs.FormedSteps.{formation_of}
+use Rattle.dx_meaning.specs.Met.{picked_met}
+use Rattle.dx_demand.specs.Memo.{answers_of}
+use Rattle.dx_demand.specs.Calling.{node_met}
+use Rattle.dx_demand.proofs.Calls.{code_met, alone_met}
 use Rattle.dx_demand.proofs.step.picked.Goals as goal
 
 pub returns-in_ok-t-in-Null-clause-right : goal.returns-in_ok-t-in-Null-clause-right
@@ -154,3 +158,31 @@ returns-in-Input-clause-forms c = λ s m h.
     let chosen = pick (forms_with c.args.links.now.links) what place c.args.port.result (value_behind c.args.v) in
     let is : chosen ≡ PickInput c.in-Input.k = sym c.in_ok-pick_of.ensures.forms ∙ ap pick_forms c.in-Input.is in
     c.chosen.ensures.forms s m (record { front = h.front; there = h.there; split = λ s' more. h.split s' more ∙ ap (λ x. h.front ++ picked_forms (node_forms s' nodes c.args.port.node) x) is })
+
+pub returns-in_ok-t-in-Null-clause-met : goal.returns-in_ok-t-in-Null-clause-met
+returns-in_ok-t-in-Null-clause-met c = λ s holds no h.
+    let nodes = (graph_of c.args.g.now).nodes in
+    let term = value_term (heads_of c.constant_tag.new.tags) in
+    let found = code_met nodes c.args.links.now.links c.constant_tag.new.tags s holds c.args.port (value_behind c.args.v) c.in_ok-pick_of.field-0 (c.in_ok-pick_of.ensures.right term) h in
+    alone_met s nodes (answers_of c.args.memo.now) c.args.port c.in_ok-t-in-Null.t no (found ∙ ap (λ (x : Pick). picked_met (node_met s nodes c.args.port.node) (shown_pick term x)) c.in-Null.is)
+
+pub returns-in_ok-t-in-Text-clause-met : goal.returns-in_ok-t-in-Text-clause-met
+returns-in_ok-t-in-Text-clause-met c = λ s holds no h.
+    let nodes = (graph_of c.args.g.now).nodes in
+    let term = value_term (heads_of c.constant_tag-in-Text.new.tags) in
+    let found = code_met nodes c.args.links.now.links c.constant_tag-in-Text.new.tags s holds c.args.port (value_behind c.args.v) c.in_ok-pick_of.field-0 (c.in_ok-pick_of.ensures.right term) h in
+    alone_met s nodes (answers_of c.args.memo.now) c.args.port c.in_ok-t-in-Text.t no (found ∙ ap (λ (x : Pick). picked_met (node_met s nodes c.args.port.node) (shown_pick term x)) c.in-Text.is)
+
+pub returns-in-Held-clause-met : goal.returns-in-Held-clause-met
+returns-in-Held-clause-met c = λ s holds no h.
+    let nodes = (graph_of c.args.g.now).nodes in
+    let term = value_term (heads_of c.args.tags.now) in
+    let found = code_met nodes c.args.links.now.links c.args.tags.now s holds c.args.port (value_behind c.args.v) c.in_ok-pick_of.field-0 (c.in_ok-pick_of.ensures.right term) h in
+    alone_met s nodes (answers_of c.args.memo.now) c.args.port c.in-Held.t no (found ∙ ap (λ (x : Pick). picked_met (node_met s nodes c.args.port.node) (shown_pick term x)) c.in-Held.is)
+
+pub returns-in-Input-clause-met : goal.returns-in-Input-clause-met
+returns-in-Input-clause-met c = λ s holds no h.
+    let nodes = (graph_of c.args.g.now).nodes in
+    let term = value_term (heads_of c.chosen.new.tags) in
+    let found = code_met nodes c.args.links.now.links c.chosen.new.tags s holds c.args.port (value_behind c.args.v) c.in_ok-pick_of.field-0 (c.in_ok-pick_of.ensures.right term) h in
+    c.chosen.ensures.met s no (found ∙ ap (λ (x : Pick). picked_met (node_met s nodes c.args.port.node) (shown_pick term x)) c.in-Input.is)

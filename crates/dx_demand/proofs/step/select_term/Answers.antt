@@ -25,6 +25,9 @@ use Rattle.dx_meaning.specs.Forming.{HasAll}
 use Rattle.dx_demand.specs.Forming.{KnownForms, formings, input_forms, port_forms, selector_formed, Toward}
 use Rattle.dx_demand.proofs.FormedPorts.{selector_next, selector_over, selector_awaits, toward_itself}
 use Rattle.dx_demand.proofs.FormedSteps.{formings_same, formation_of, toward_same, memo_formed_grows, select_formed}
+use Rattle.dx_demand.specs.Calling.{KnownValued}
+use Rattle.dx_demand.proofs.Memos.{answers_same}
+use Rattle.dx_demand.proofs.Calls.{select_valued}
 use Rattle.dx_demand.proofs.step.select_term.Goals as goal
 
 pub known_of-requires-clause-input : goal.known_of-requires-clause-input
@@ -330,3 +333,22 @@ returns-in-Open-clause-forms c = λ s r m.
     let k = subst (KnownForms (input_forms s nodes x) was now) c.in-Open.is (c.in_ok-t-in-None.ensures.forms s m) in
     let t = toward_same (port_forms s nodes c.args.port) was now k in
     (formation_of s nodes old new goes memo c.args.port 0 t m tt, selector_awaits s nodes lawful c.args.port lt c.requires.selects c.in-Open.awaited (at ∙ ap Some open_.0) now)
+
+pub returns-in-Settled-Value-clause-selected : goal.returns-in-Settled-Value-clause-selected
+returns-in-Settled-Value-clause-selected c = λ h.
+    let nodes = (graph_of c.args.g.now).nodes in
+    let lawful = nodes_of (graph_of c.args.g.now) c.args.g.now.lawful in
+    let lt : c.args.port.node < length nodes = c.requires.port.0 in
+    let inputs = (node_at nodes c.args.port.node).inputs in
+    let same : c.as_slice.result.now ≡ inputs = c.as_slice.ensures ∙ ap (λ (x : Node). x.inputs) c.node.ensures in
+    let place = selector_at (node_at nodes c.args.port.node).what in
+    let x = c.index-as_slice-place.result in
+    let whole = ap length same in
+    let there = selector_within nodes lawful c.args.port.node lt c.requires.selects in
+    let at : slice_get inputs place ≡ Some x = slot c.as_slice.result.now inputs c.args.place place x same c.requires.place (omega (arith, whole, there, c.requires.place)) c.index-as_slice-place.is in
+    let memo = c.args.memo.now in
+    let is : c.in_ok-t-in-None.field-0 ≡ known.Settled (settled.Value c.in-Settled-Value.t) = c.in-Settled-Value.is ∙ ap known.Settled c.in-Settled-Value.field-0-is in
+    let sel : Selects memo c.select.new.self c.args.port.node c.in-Settled-Value.t = (c.select.ensures.selectors, c.select.ensures.answers, c.select.ensures.formed) in
+    let within : c.args.port.node < length memo.selectors.items = omega (arith, lt, c.requires.memo.places) in
+    let answers : answers_of c.select.new.self ≡ answers_of memo = λ i q. answers_same memo c.select.new.self c.select.ensures.answers q i in
+    select_valued nodes memo c.select.new.self c.args.port.node c.in-Settled-Value.t x sel within answers at (subst (KnownValued (answers_of memo) x) is c.in_ok-t-in-None.ensures.valued) h
