@@ -181,7 +181,7 @@ pub value_formed : (nodes : List Node) (old new : List Term) → GoesOn old new 
 value_formed nodes old new g m h u e = λ i. record { terms = e i; calls = calls_grow nodes old new g m h i }
 
 -- the test of calls is that of their tags
-same_tags : (terms : List Term) → NamesExactly terms → (a b : ℕ) (x : IsCallTag terms a) (y : IsCallTag terms b) → same_call (call_in (head_at (heads_of terms) a)) y.call ≡ (b == a)
+pub same_tags : (terms : List Term) → NamesExactly terms → (a b : ℕ) (x : IsCallTag terms a) (y : IsCallTag terms b) → same_call (call_in (head_at (heads_of terms) a)) y.call ≡ (b == a)
 same_tags terms exact a b x y = same_test (same_call (call_in (head_at (heads_of terms) a)) y.call) (b == a)
     (λ q.
     let one : call_in (head_at (heads_of terms) a) ≡ x.call = ap call_in x.head in

@@ -14,3 +14,4 @@ pub mod FormedPorts
 pub mod FormedSteps
 pub mod FormedLoop
 pub mod Calls
+pub mod Searched

@@ -7,3 +7,4 @@ pub mod Terms
 pub mod Found
 pub mod Forming
 pub mod Calling
+pub mod Searching
