@@ -1,0 +1,10 @@
+//! What an execution does, as definitions: the acts of its effects, what it prints, puts, sets and ends with, and the course of
+//! the cache machine over it.
+#![tactic(auto)]
+
+mod laws;
+
+pub use laws::{
+    examples_compute, executions_leave_what_is_meant, looking_is_meant, looking_resumes,
+    looks_go_on, ready_stays,
+};
