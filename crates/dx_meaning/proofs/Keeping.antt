@@ -38,7 +38,7 @@ beside_keeps (Forms t) s' (Ends (Stops site code)) r' p q = rw (p, q) refl
 beside_keeps (Forms t) s' (Ends (Needs site u)) r' p q = tt
 beside_keeps (Forms t) s' (Forms ts) r' p q = rw (p, q) refl
 
-all_keeps : (ss ss' : List (Scanned ValueTerm)) → EachKeeps ss ss' → Keeps (all_scanned ss) (all_scanned ss')
+pub all_keeps : (ss ss' : List (Scanned ValueTerm)) → EachKeeps ss ss' → Keeps (all_scanned ss) (all_scanned ss')
 all_keeps [] [] h = refl
 all_keeps (s ∷ ss) (s' ∷ ss') h = beside_keeps s s' (all_scanned ss) (all_scanned ss') h.0 (all_keeps ss ss' h.1)
 all_keeps [] (s' ∷ ss') h = absurd h

@@ -1,3 +1,6 @@
 pub mod Keeping
+pub mod SameTerms
+pub mod Formed
+pub mod FormsStaying
 pub mod Terms
 pub mod Computed
