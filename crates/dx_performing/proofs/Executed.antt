@@ -22,9 +22,8 @@ use Rattle.dx_meaning.specs.Scan.{null_term, scan_each, all_scanned}
 use Rattle.dx_meaning.specs.Term.{Names, LinksDenote, term_at, terms_of}
 use Rattle.dx_performing.specs.Acts.{Act, Prints, Puts, Sets, Refuses, act}
 use Rattle.dx_performing.specs.Execution.{Set, Execution, Links, link_at, put_link, after_sets, after_exports, performing, deciding, demanding, execution, behind}
-use Rattle.dx_performing.specs.Looks.{looks_all}
 use Rattle.dx_performing.specs.Kept.{Kept, Link, LinkTerms, SetTerm, link_in, objects_of, current, set_terms, put_term, after_set_terms, held_links, is_full, emptied}
-use Rattle.dx_performing.specs.Course.{Fixed, At, Came, HasValues, world_of, around_of, sight_of, begins, came, sets_by, ends_by, worked, unless, course, committed, unless_full}
+use Rattle.dx_performing.specs.Course.{Fixed, At, Came, HasValues, world_of, around_of, sight_of, begins, came, sets_by, ends_by, worked, unless, course, committed, unless_full, look_at}
 use Rattle.dx_performing.specs.Meant.{IsFull, CameSo, LinksRight, LeavesWhatIsMeant}
 use Rattle.dx_performing.proofs.Meant.{effect_comes}
 
@@ -150,7 +149,7 @@ course_sets x k r (TreeCall (function.Effect e) p args ∷ cs) at =
     by_decided x k e p at (execution (world_of x k) cs) (course x k cs) (course_sets x k r cs)
     (together (outcomes (world_of x k) args)).decided (terms_of (world_of x k) (names_of k) args) (demand (together (outcomes (world_of x k) args))) (came (around_of x k) (all_scanned (scan_each (sight_of x k) args)))
     (effect_comes (world_of x k) (names_of k) (sight_of x k) (denote x k r) (full x k) args)
-    (worked x k e p (looks_all (sight_of x k) args) (all_scanned (scan_each (sight_of x k) args)) at) refl
+    (worked x k e p (look_at (sight_of x k) args) at) refl
 course_sets x k r (TreeCall (function.Module m) p args ∷ cs) at = course_sets x k r cs at
 course_sets x k r (TreeCall function.Switch p args ∷ cs) at = course_sets x k r cs at
 course_sets x k r (TreeCall function.Route p args ∷ cs) at = course_sets x k r cs at

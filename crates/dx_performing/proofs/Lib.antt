@@ -1,6 +1,7 @@
+pub mod Alike
 pub mod Computed
 pub mod Executed
-pub mod LooksGoOn
 pub mod Meant
 pub mod Ready
 pub mod Resumed
+pub mod SelectorsGoOn

@@ -43,27 +43,34 @@ abbrev pub set_of : (List ℕ → Key) → Values → Act
 set_of to_key (v ∷ link ∷ []) = setting to_key v (text_in link)
 set_of to_key other = Refuses BadArgument
 
--- ---- Export: an object, a name that isn't empty, and a format that is NULL or `dx`, the first that doesn't fit counting
+-- ---- Export: an object, a name that isn't empty, and a format that is NULL or `dx`; the first that doesn't fit decides
 
-abbrev pub in_format : Option (List ℕ) → List ℕ → Tree → Act
-in_format None name object = Refuses BadArgument
-in_format (Some format) name object = if bytes_eq format (codes "dx") then Puts name (native.text_of object) else Refuses Unsupported
+abbrev pub object_in : Value → Result Tree Code
+object_in None = Err BadArgument
+object_in (Some object) = Ok object
 
-abbrev pub format_checked : Value → List ℕ → Tree → Act
-format_checked None name object = Puts name (native.text_of object)
-format_checked (Some format) name object = in_format (text_of format) name object
+abbrev pub name_in : Option (List ℕ) → Result (List ℕ) Code
+name_in None = Err BadArgument
+name_in (Some []) = Err BadArgument
+name_in (Some (b ∷ bs)) = Ok (b ∷ bs)
 
-abbrev pub name_checked : Option (List ℕ) → Value → Tree → Act
-name_checked None format object = Refuses BadArgument
-name_checked (Some []) format object = Refuses BadArgument
-name_checked (Some (b ∷ bs)) format object = format_checked format (b ∷ bs) object
+abbrev pub format_text : Option (List ℕ) → Option Code
+format_text None = Some BadArgument
+format_text (Some format) = if bytes_eq format (codes "dx") then None else Some Unsupported
 
-abbrev pub object_checked : Value → Value → Value → Act
-object_checked None name format = Refuses BadArgument
-object_checked (Some object) name format = name_checked (text_in name) format object
+-- the code of a format that isn't taken
+abbrev pub format_code : Value → Option Code
+format_code None = None
+format_code (Some format) = format_text (text_of format)
+
+abbrev pub putting : Result Tree Code → Result (List ℕ) Code → Option Code → Act
+putting (Err code) name format = Refuses code
+putting (Ok object) (Err code) format = Refuses code
+putting (Ok object) (Ok name) (Some code) = Refuses code
+putting (Ok object) (Ok name) None = Puts name (native.text_of object)
 
 abbrev pub export_of : Values → Act
-export_of (object ∷ name ∷ format ∷ []) = object_checked object name format
+export_of (object ∷ name ∷ format ∷ []) = putting (object_in object) (name_in (text_in name)) (format_code format)
 export_of other = Refuses BadArgument
 
 -- ---- the five effects; a local link stands under the path of its Set

@@ -9,18 +9,20 @@ use Rattle.dx_macros.specs.Site.{steps_text}
 use Rattle.dx_macros.specs.Tree.{Place, CallTree, TreeCall, Trees}
 use Rattle.dx_objects.specs.Runs.{Values, Answer}
 use Rattle.dx_objects.specs.Values.{value_at}
-use Rattle.dx_tags.specs.Closed.{ValueTerm, ResultTerm, ValueTerms, NoTerm, AndTerm}
+use Rattle.dx_tags.specs.Closed.{ValueTerm, ValueTerms, NoTerm, AndTerm}
 use Rattle.dx_tags.specs.Files.{content_of}
 use Rattle.dx_links.specs.declared.key.Key.{Key}
 use Rattle.dx_links.specs.Denotes.{Around, denotes, all_denote}
 use Rattle.dx_machine.specs.Machine.{Event, Cleared, FormedCall, Frame, State, Got, Went, and_then, state_at, get_all}
 use Rattle.dx_meaning.specs.Outcome.{Value}
 use Rattle.dx_meaning.specs.Meaning.{World}
+use Rattle.dx_meaning.specs.Met.{Called}
 use Rattle.dx_meaning.specs.Scan.{Sight, IsOff, Stops, Needs, Scanned, Forms, Ends, scan_each, all_scanned}
+use Rattle.dx_meaning.specs.Forming.{Formed, Formings, each_forms, all_forms, after}
 use Rattle.dx_performing.specs.Acts.{act, is_refusal}
 use Rattle.dx_performing.specs.Execution.{Execution, execution, world_with, after_exports}
-use Rattle.dx_performing.specs.Looks.{Look, FormsTerm, FormsCall, Selects, looks_all}
-use Rattle.dx_performing.specs.Kept.{Kept, Link, SetTerm, link_in, with_term, set_terms, after_set_terms, current, is_full, emptied}
+use Rattle.dx_performing.specs.Selectors.{selectors_all}
+use Rattle.dx_performing.specs.Kept.{Kept, Link, SetTerm, link_in, set_terms, after_set_terms, current, is_full, emptied}
 
 -- what stays the same from execution to execution: what modules answer, the files, and the budget of the cache
 pub record Fixed : Type 0 where
@@ -58,48 +60,50 @@ frame_with x k formed = record {
 
 -- ---- where an execution stands
 
--- the entries, the known calls and the events; the calls formed in this execution, in order; the terms formed since the last
--- emptying; and the Sets so far
+-- the entries, the known calls and the events; the terms formed since the last emptying, and the calls that formed theirs first in
+-- this execution; and the Sets so far
 pub record At : Type 0 where
   pub state : State
-  pub formed : List FormedCall
-  pub terms : List ValueTerm
+  pub formings : Formings
   pub sets : List SetTerm
 
 abbrev pub begins : Kept → At
-begins k = record { state = record { entries = k.entries; known = []; events = [] }; formed = []; terms = k.terms; sets = [] }
+begins k = record { state = record { entries = k.entries; known = []; events = [] }; formings = record { terms = k.terms; calls = [] }; sets = [] }
 
--- ---- what looks come to
+-- a call with its site and its cache attribute
+abbrev pub formed_call : Called → FormedCall
+formed_call c = record { call = c.call; site = steps_text c.place.site; attribute = c.place.cache }
 
-abbrev pub calls_in : List Look → List FormedCall
-calls_in [] = []
-calls_in (FormsTerm t ∷ ls) = calls_in ls
-calls_in (FormsCall p c ∷ ls) = record { call = c; site = steps_text p.site; attribute = p.cache } ∷ calls_in ls
-calls_in (Selects t ∷ ls) = calls_in ls
+abbrev pub formed_calls : Formings → List FormedCall
+formed_calls formings = map formed_call formings.calls
 
-abbrev pub terms_after : List ValueTerm → List Look → List ValueTerm
-terms_after ts [] = ts
-terms_after ts (FormsTerm t ∷ ls) = terms_after (with_term ts t) ls
-terms_after ts (FormsCall p c ∷ ls) = terms_after (with_term ts (ResultTerm 0 c)) ls
-terms_after ts (Selects t ∷ ls) = terms_after ts ls
-
--- the selectors that are got, in order
-abbrev pub selectors_in : List Look → ValueTerms
-selectors_in [] = NoTerm
-selectors_in (FormsTerm t ∷ ls) = selectors_in ls
-selectors_in (FormsCall p c ∷ ls) = selectors_in ls
-selectors_in (Selects t ∷ ls) = AndTerm t (selectors_in ls)
+abbrev pub as_terms : List ValueTerm → ValueTerms
+as_terms [] = NoTerm
+as_terms (t ∷ ts) = AndTerm t (as_terms ts)
 
 -- ---- one effect
+
+-- what looking at its arguments comes to: their terms, what it forms, and the selectors that it meets
+pub record Looked : Type 0 where
+  pub terms : Scanned ValueTerms
+  pub forms : List Formed
+  pub selectors : List ValueTerm
+
+abbrev pub look_at : Sight → Trees → Looked
+look_at s args = record {
+  terms = all_scanned (scan_each s args);
+  forms = all_forms (scan_each s args) (each_forms s args);
+  selectors = selectors_all s args;
+}
 
 -- the arguments are got where each has a term
 abbrev pub get_scanned : Frame → Scanned ValueTerms → State → Got
 get_scanned k (Forms ts) s = get_all k ts s
 get_scanned k (Ends e) s = Went s
 
--- the selectors are got as they are met, and then the arguments; the site of a call is that of the first that formed it
-abbrev pub effect_got : Frame → List Look → Scanned ValueTerms → State → Got
-effect_got k ls scanned s = and_then (get_all k (selectors_in ls) s) (get_scanned k scanned)
+-- the selectors are got as they are met, and then the arguments
+abbrev pub effect_got : Frame → Looked → State → Got
+effect_got k looked s = and_then (get_all k (as_terms looked.selectors) s) (get_scanned k looked.terms)
 
 -- the values of its arguments, or none where it is passed over, or its execution ends at it
 pub data Came : Type 0 where
@@ -127,14 +131,14 @@ ends_by e p (HasValues ts values) = is_refusal (act e p values)
 ends_by e p PassedOver = false
 ends_by e p IsRefused = true
 
-abbrev pub worked : Fixed → Kept → Effect → Place → List Look → Scanned ValueTerms → At → At
-worked x k e p ls scanned at =
-    let formed = at.formed ++ calls_in ls in
+-- the site of a call is that of the first that formed its term
+abbrev pub worked : Fixed → Kept → Effect → Place → Looked → At → At
+worked x k e p looked at =
+    let formings = after looked.forms at.formings in
     record {
-      state = state_at (effect_got (frame_with x k formed) ls scanned at.state);
-      formed = formed;
-      terms = terms_after at.terms ls;
-      sets = at.sets ++ sets_by e p (came (around_of x k) scanned);
+      state = state_at (effect_got (frame_with x k (formed_calls formings)) looked at.state);
+      formings = formings;
+      sets = at.sets ++ sets_by e p (came (around_of x k) looked.terms);
     }
 
 -- ---- effects one behind the other
@@ -145,10 +149,9 @@ unless false now later = later
 
 abbrev pub effect_course : Fixed → Kept → Effect → Place → Trees → (At → At) → At → At
 effect_course x k e p args rest at =
-    let s = sight_of x k in
-    let scanned = all_scanned (scan_each s args) in
-    let now = worked x k e p (looks_all s args) scanned at in
-    unless (ends_by e p (came (around_of x k) scanned)) now (rest now)
+    let looked = look_at (sight_of x k) args in
+    let now = worked x k e p looked at in
+    unless (ends_by e p (came (around_of x k) looked.terms)) now (rest now)
 
 abbrev pub call_course : Fixed → Kept → CallTree → (At → At) → At → At
 call_course x k (TreeCall (function.Effect e) p args) rest at = effect_course x k e p args rest at
@@ -164,7 +167,7 @@ course x k (c ∷ cs) at = call_course x k c (course x k cs) at
 abbrev pub committed : Kept → Execution → At → Kept
 committed k done at = record {
   entries = at.state.entries;
-  terms = at.terms;
+  terms = at.formings.terms;
   links = if is_some done.error then k.links else after_set_terms k.links at.sets;
   held = k.held;
   written = after_exports k.written done.exports;

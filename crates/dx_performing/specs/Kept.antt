@@ -1,14 +1,13 @@
 -- What the cache machine keeps between executions, and how an execution leaves it.
-use Rattle.std.specs.Prelude.{ℕ, zero, suc, List, [], ◌∷◌, ◌++◌, map, length, Option, Some, None, option_map, Bool, nat_lt, if◌then◌else◌}
+use Rattle.std.specs.Prelude.{ℕ, zero, suc, List, [], ◌∷◌, ◌++◌, map, length, Option, Some, None, option_map, Bool, nat_lt}
 use Rattle.std.specs.Map.{lookup, remove_entry}
 use Rattle.std.specs.BTreeMap.{insert_entry, is_at}
 use Rattle.dx_base.specs.Object.{Tree as Object}
 use Rattle.dx_objects.specs.Runs.{Values}
-use Rattle.dx_tags.specs.Closed.{ValueTerm, ConstantTerm, HeldTerm, ResultTerm, FileTerm, ValueTerms}
+use Rattle.dx_tags.specs.Closed.{ValueTerm, HeldTerm, ValueTerms}
 use Rattle.dx_tags.specs.Files.{FileMap}
 use Rattle.dx_links.specs.declared.key.Key.{Key}
 use Rattle.dx_links.specs.LinkMap.{key_cmp}
-use Rattle.dx_links.specs.Getting.{has_value}
 use Rattle.dx_machine.specs.Machine.{Cached}
 use Rattle.dx_meaning.specs.Term.{term_at}
 use Rattle.dx_performing.specs.Acts.{Act, Prints, Puts, Sets, Refuses}
@@ -23,7 +22,7 @@ pub record Link : Type 0 where
 abbrev pub LinkTerms : Type 0
 LinkTerms = List (Key × Link)
 
--- the entries from the oldest, the terms formed since the last emptying, the links, the values held since then, and what was written
+-- the entries from the oldest, the terms formed since the last emptying, each once and a call as its first result, the links, the values held since then, and what was written
 pub record Kept : Type 0 where
   pub entries : List Cached
   pub terms : List ValueTerm
@@ -44,18 +43,6 @@ objects_of links = map (λ (l : Key × Link). (l.0, l.1.object)) links
 
 abbrev pub current : Kept → Current
 current k = record { links = objects_of k.links; written = k.written }
-
--- ---- terms, each once
-
--- a result counts as its call
-abbrev pub counted : ValueTerm → ValueTerm
-counted (ConstantTerm c) = ConstantTerm c
-counted (HeldTerm n) = HeldTerm n
-counted (FileTerm bytes) = FileTerm bytes
-counted (ResultTerm result c) = ResultTerm 0 c
-
-abbrev pub with_term : List ValueTerm → ValueTerm → List ValueTerm
-with_term ts t = if has_value ts (counted t) then ts else ts ++ counted t ∷ []
 
 -- ---- Sets, with the terms of their objects
 

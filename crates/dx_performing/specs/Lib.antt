@@ -1,8 +1,9 @@
 pub mod Acts
+pub mod Alike
 pub mod Course
 pub mod Execution
 pub mod Kept
-pub mod Looks
 pub mod Meant
 pub mod Resuming
 pub mod Rows
+pub mod Selectors

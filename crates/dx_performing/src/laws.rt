@@ -1,6 +1,7 @@
 // What is true of executions and their courses.
+ghost use Rattle.dx_performing.specs.Alike.{GetAllAlike, GetsAlike};
 ghost use Rattle.dx_performing.specs.Meant.{EffectsComeSo, LeavesWhatIsMeant, ScansAreMeant};
-ghost use Rattle.dx_performing.specs.Resuming.{AllLooksGoOn, LookingResumes, LooksGoOn, ReadyStays};
+ghost use Rattle.dx_performing.specs.Resuming.{AllSelectorsGoOn, LookingResumes, ReadyStays, SelectorsGoOn};
 ghost use Rattle.dx_performing.specs.Rows.{Examples};
 
 /// What an effect prints, puts, sets or refuses; what is passed over; where an execution ends; and which runs, hits and stored
@@ -9,10 +10,11 @@ pub fn examples_compute()
     ensures { Examples }
 {}
 
-/// Looking by what is told is the beginning of looking by more: all of it, or as far as the first selector that isn't told.
-pub fn looks_go_on()
-    ensures one { LooksGoOn }
-    ensures all { AllLooksGoOn }
+/// The selectors that looking meets by what is told are the first that it meets by more: all of them, or those up to the first
+/// that isn't told.
+pub fn selectors_go_on()
+    ensures one { SelectorsGoOn }
+    ensures all { AllSelectorsGoOn }
 {}
 
 /// A term that was got needs nothing more, and so it is with all that needed nothing before.
@@ -36,4 +38,10 @@ pub fn looking_is_meant()
 /// Behind an execution the links hold, and there is written, what the meaning says.
 pub fn executions_leave_what_is_meant()
     ensures { LeavesWhatIsMeant }
+{}
+
+/// A getting whose calls were formed is the same, whatever is formed behind them.
+pub fn formed_calls_stay()
+    ensures one { GetsAlike }
+    ensures all { GetAllAlike }
 {}

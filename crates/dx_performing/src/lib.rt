@@ -5,6 +5,6 @@
 mod laws;
 
 pub use laws::{
-    examples_compute, executions_leave_what_is_meant, looking_is_meant, looking_resumes,
-    looks_go_on, ready_stays,
+    examples_compute, executions_leave_what_is_meant, formed_calls_stay, looking_is_meant,
+    looking_resumes, ready_stays, selectors_go_on,
 };

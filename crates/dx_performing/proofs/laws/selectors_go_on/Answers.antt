@@ -1,5 +1,5 @@
-use Rattle.dx_performing.proofs.LooksGoOn.{tree_goes_on, all_go_on}
-use Rattle.dx_performing.proofs.laws.looks_go_on.Goals as goal
+use Rattle.dx_performing.proofs.SelectorsGoOn.{tree_goes_on, all_go_on}
+use Rattle.dx_performing.proofs.laws.selectors_go_on.Goals as goal
 
 pub returns-clause-one : goal.returns-clause-one
 returns-clause-one c = tree_goes_on
