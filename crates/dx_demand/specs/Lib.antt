@@ -5,3 +5,4 @@ pub mod Stack
 pub mod Steps
 pub mod Terms
 pub mod Found
+pub mod Forming

@@ -8,6 +8,8 @@ ghost use Rattle.dx_tags.specs.Closed.{GoesOn};
 ghost use Rattle.dx_meaning.specs.Scan.{Sight};
 ghost use Rattle.dx_demand.specs.Memo.{answers_of, formed_of, IsPort, input_scan, port_scan, shown, SettledFits, EmptyMemo};
 ghost use Rattle.dx_demand.specs.Picked.{LinksFit};
+ghost use Rattle.dx_meaning.specs.Forming.{after};
+ghost use Rattle.dx_demand.specs.Forming.{formings, input_forms, port_forms, SeenFormed};
 ghost use Rattle.dx_demand.specs.Found.{Kept, SettledFound, ResolvedFound, IsClosed};
 ghost use Rattle.dx_links.specs.LinkMap.{LinkMap};
 ghost use Rattle.dx_demand.specs.Steps.{Sees, SeenFits, SeenRight, KeepsSelectors, ResolvedFits, shown_resolved};
@@ -30,6 +32,7 @@ impl Seen {
         ensures fits { (terms : List Term) → IfOk result (λ seen. SeenFits (graph_of g.now).nodes terms seen) }
         ensures right { (s : Sight) (terms : List Term) → IfOk result (λ seen. SeenRight s (graph_of g.now).nodes terms seen) }
         ensures closed { (links : LinkMap) (terms : List Term) → IfOk result (λ seen. IsClosed links terms seen) }
+        ensures formed { (s : Sight) (terms : List Term) → IfOk result (λ seen. SeenFormed s (graph_of g.now).nodes terms seen) }
         ensures none { IfOk result (λ seen. (t : ℕ) → formed_of seen.memo t ≡ None) }
     {
         let memo = empty_memo(alloc, g)?;
@@ -107,6 +110,8 @@ pub fn resolve<G: Given>(
     ensures closed { IsClosed links.now.links tags.old seen.old → OnOk result (IsClosed links.now.links tags.new seen.new) }
     ensures found { IsClosed links.now.links tags.old seen.old → IfOk result (λ r. ResolvedFound links.now.links tags.new (formed_of seen.new.memo) r) }
     ensures first { OnOk result (Kept (formed_of seen.old.memo) (formed_of seen.new.memo)) }
+    ensures seen_formed { (s : Sight) → Sees (G.told given.now) links.now.links written.now.files tags.new s → SeenRight s (graph_of g.now).nodes tags.old seen.old → SeenFormed s (graph_of g.now).nodes tags.old seen.old → OnOk result (SeenFormed s (graph_of g.now).nodes tags.new seen.new) }
+    ensures forms { (s : Sight) → Sees (G.told given.now) links.now.links written.now.files tags.new s → SeenRight s (graph_of g.now).nodes tags.old seen.old → SeenFormed s (graph_of g.now).nodes tags.old seen.old → OnOk result (formings (graph_of g.now).nodes tags.new seen.new.memo ≡ after (input_forms s (graph_of g.now).nodes i.now) (formings (graph_of g.now).nodes tags.old seen.old.memo)) }
 {
     match i {
         Input::Constant(c) => {
@@ -147,6 +152,8 @@ fn resolve_port<G: Given>(
     ensures closed { IsClosed links.now.links tags.old seen.old → OnOk result (IsClosed links.now.links tags.new seen.new) }
     ensures found { IsClosed links.now.links tags.old seen.old → IfOk result (λ r. ResolvedFound links.now.links tags.new (formed_of seen.new.memo) r) }
     ensures first { OnOk result (Kept (formed_of seen.old.memo) (formed_of seen.new.memo)) }
+    ensures seen_formed { (s : Sight) → Sees (G.told given.now) links.now.links written.now.files tags.new s → SeenRight s (graph_of g.now).nodes tags.old seen.old → SeenFormed s (graph_of g.now).nodes tags.old seen.old → OnOk result (SeenFormed s (graph_of g.now).nodes tags.new seen.new) }
+    ensures forms { (s : Sight) → Sees (G.told given.now) links.now.links written.now.files tags.new s → SeenRight s (graph_of g.now).nodes tags.old seen.old → SeenFormed s (graph_of g.now).nodes tags.old seen.old → OnOk result (formings (graph_of g.now).nodes tags.new seen.new.memo ≡ after (port_forms s (graph_of g.now).nodes root) (formings (graph_of g.now).nodes tags.old seen.old.memo)) }
 {
     match seen.memo.answer(root) {
         Some(a) => Ok(resolved(a.settled)),
@@ -180,6 +187,8 @@ fn settle_port<G: Given>(
     ensures closed { IsClosed links.now.links tags.old seen.old → OnOk result (IsClosed links.now.links tags.new seen.new) }
     ensures found { IsClosed links.now.links tags.old seen.old → IfOk result (λ r. ResolvedFound links.now.links tags.new (formed_of seen.new.memo) r) }
     ensures first { OnOk result (Kept (formed_of seen.old.memo) (formed_of seen.new.memo)) }
+    ensures seen_formed { (s : Sight) → Sees (G.told given.now) links.now.links written.now.files tags.new s → SeenRight s (graph_of g.now).nodes tags.old seen.old → SeenFormed s (graph_of g.now).nodes tags.old seen.old → OnOk result (SeenFormed s (graph_of g.now).nodes tags.new seen.new) }
+    ensures forms { (s : Sight) → Sees (G.told given.now) links.now.links written.now.files tags.new s → SeenRight s (graph_of g.now).nodes tags.old seen.old → SeenFormed s (graph_of g.now).nodes tags.old seen.old → OnOk result (formings (graph_of g.now).nodes tags.new seen.new.memo ≡ after (port_forms s (graph_of g.now).nodes root) (formings (graph_of g.now).nodes tags.old seen.old.memo)) }
 {
     let mut top = top_of(alloc, &mut seen.stack, root);
     'steps: loop {

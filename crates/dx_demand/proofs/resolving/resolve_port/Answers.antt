@@ -1,6 +1,8 @@
 use Rattle.dx_demand.specs.Memo.{formed_of}
 use Rattle.std.proofs.Common.{◌≡◌, ◌∙◌, sym}
 use Rattle.dx_graph.specs.GraphView.{graph_of}
+use Rattle.dx_meaning.proofs.Formed.{after_same}
+use Rattle.dx_demand.specs.Forming.{formings, port_forms}
 use Rattle.dx_demand.proofs.resolving.resolve_port.Goals as goal
 
 pub returns-in-Some-clause-fits : goal.returns-in-Some-clause-fits
@@ -8,3 +10,8 @@ returns-in-Some-clause-fits g c = c.resolved.ensures.fits (graph_of c.args.g.now
 
 pub returns-in-Some-clause-found : goal.returns-in-Some-clause-found
 returns-in-Some-clause-found g c = λ cl. c.resolved.ensures.found c.args.links.now.links c.args.tags.now (formed_of c.args.seen.now.memo) (cl.memo.answers c.args.root c.in-Some.a (sym c.answer.ensures ∙ c.in-Some.is))
+
+pub returns-in-Some-clause-forms : goal.returns-in-Some-clause-forms
+returns-in-Some-clause-forms g c = λ s sees seen f.
+    let nodes = (graph_of c.args.g.now).nodes in
+    sym (after_same (port_forms s nodes c.args.root) (formings nodes c.args.tags.now c.args.seen.now.memo) (f.memo.answers c.args.root c.in-Some.a (sym c.answer.ensures ∙ c.in-Some.is)))
