@@ -25,4 +25,7 @@ examples = record {
   first_time = refl;
   second_time = refl;
   no_budget = refl;
+  run_site = refl;
+  error_site = refl;
+  link_needs_no_run = refl;
 }

@@ -1,5 +1,6 @@
 pub mod Alike
 pub mod Computed
+pub mod EntriesSound
 pub mod Executed
 pub mod Meant
 pub mod Ready

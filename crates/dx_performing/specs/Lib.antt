@@ -7,3 +7,4 @@ pub mod Meant
 pub mod Resuming
 pub mod Rows
 pub mod Selectors
+pub mod SoundEntries

@@ -88,6 +88,17 @@ refused = module_call computing.Inquire (codes "Inquire") (AndTree null NoTree)
 abbrev off : Tree
 off = ResultTree 0 (TreeCall function.Route (at (codes "Route")) (AndTree (int (pos 2)) (AndTree (int (pos 5)) NoTree)))
 
+-- the k-th call of Inquire in `m`, which is refused
+abbrev again_refused : ℕ → Tree
+again_refused k = ResultTree 0 (TreeCall (function.Module computing.Inquire) (record { site = Nth (codes "m") 1 ∷ Nth (codes "Inquire") k ∷ []; path = Nth (codes "m") 1 ∷ []; cache = 1 }) (AndTree null NoTree))
+
+-- the first is formed and passed over, and the second is the one that the error names
+abbrev formed_before : List CallTree
+formed_before = print (module_call computing.Collect (codes "Collect") (AndTree (again_refused 1) (AndTree off NoTree))) ∷ print (again_refused 2) ∷ []
+
+abbrev get_global : Tree → Tree
+get_global link = ResultTree 0 (TreeCall function.GetGlobal (at (codes "GetGlobal")) (AndTree null (AndTree link NoTree)))
+
 -- ---- executions with no links and nothing written
 
 abbrev fresh : Current
@@ -110,6 +121,10 @@ once budget = (executed (fixed budget) (print (collect (int (pos 5))) ∷ []) ne
 -- the same execution once more
 abbrev again : ℕ → List Event
 again budget = (executed (fixed budget) (print (collect (int (pos 5))) ∷ []) (executed (fixed budget) (print (collect (int (pos 5))) ∷ []) new).kept).events
+
+-- a link is set, and looked at in a later execution
+abbrev set_and_get : List Event
+set_and_get = (executed (fixed 0) (print (get_global (word (codes "n"))) ∷ []) (executed (fixed 0) (set_global (collect (int (pos 5))) (word (codes "n")) ∷ []) new).kept).events
 
 abbrev collected : Event
 collected = RanAt (steps_text (at (codes "Collect")).site) (record { run = (computing.Collect, Some (number (pos 5)) ∷ []); own = None })
@@ -142,3 +157,8 @@ pub record Examples : Type 0 where
   pub first_time : once 1000 ≡ collected ∷ KeptAt (steps_text (at (codes "Collect")).site) (results_size (Some (number (pos 5)) ∷ [])) ∷ []
   pub second_time : again 1000 ≡ HitAt (steps_text (at (codes "Collect")).site) ∷ []
   pub no_budget : again 0 ≡ collected ∷ []
+  -- a run has the site of the call that formed its term first, and an error that of the call that the meaning names
+  pub run_site : (executed (fixed 0) formed_before new).events ≡ RanAt (steps_text (Nth (codes "m") 1 ∷ Nth (codes "Inquire") 1 ∷ [])) (record { run = (computing.Inquire, None ∷ []); own = None }) ∷ []
+  pub error_site : (done formed_before).error ≡ Some (record { site = Nth (codes "m") 1 ∷ Nth (codes "Inquire") 2 ∷ []; failure = Refused Overflow })
+  -- the value of a link needs no run, whatever is stored
+  pub link_needs_no_run : set_and_get ≡ []

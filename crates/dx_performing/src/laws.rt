@@ -3,6 +3,7 @@ ghost use Rattle.dx_performing.specs.Alike.{GetAllAlike, GetsAlike};
 ghost use Rattle.dx_performing.specs.Meant.{EffectsComeSo, LeavesWhatIsMeant, ScansAreMeant};
 ghost use Rattle.dx_performing.specs.Resuming.{AllSelectorsGoOn, LookingResumes, ReadyStays, SelectorsGoOn};
 ghost use Rattle.dx_performing.specs.Rows.{Examples};
+ghost use Rattle.dx_performing.specs.SoundEntries.{EntriesStaySound};
 
 /// What an effect prints, puts, sets or refuses; what is passed over; where an execution ends; and which runs, hits and stored
 /// results its course has: a few executions that the definitions compute.
@@ -44,4 +45,10 @@ pub fn executions_leave_what_is_meant()
 pub fn formed_calls_stay()
     ensures one { GetsAlike }
     ensures all { GetAllAlike }
+{}
+
+/// Behind an execution each entry has the results that its call denotes, no two have one call, and their stated sizes don't exceed
+/// the budget.
+pub fn entries_stay_sound()
+    ensures { EntriesStaySound }
 {}
