@@ -5,12 +5,14 @@ use Rattle.dx_graph.specs.Graph.{Node, node_at}
 use Rattle.dx_graph.specs.Unfolding.{calls_of, tree_of, trees_of}
 use Rattle.dx_tags.specs.declared.term.Term.{Term}
 use Rattle.dx_tags.specs.declared.term.ValueTag.{ValueTag}
-use Rattle.dx_tags.specs.Closed.{ValueTerm, Head, heads_of, value_term, GoesOn}
+use Rattle.dx_base.specs.declared.function.Module.{Module}
+use Rattle.dx_macros.specs.Tree.{Place}
+use Rattle.dx_tags.specs.Closed.{ValueTerm, Head, heads_of, value_term, value_terms, GoesOn}
 use Rattle.dx_meaning.specs.Picking as plain
 use Rattle.dx_meaning.specs.Picking.{selector_at}
 use Rattle.dx_meaning.specs.Scan.{Sight, Stop, Scanned, Forms, Ends}
 use Rattle.dx_meaning.specs.More.{More, Keeps}
-use Rattle.dx_meaning.specs.Forming.{Formed, Formings, forms_in, after, FormsKeep, HasAll, Grows}
+use Rattle.dx_meaning.specs.Forming.{Formed, Formings, forms_in, file_forms, call_formed, after, FormsKeep, HasAll, Grows}
 use Rattle.dx_meaning.proofs.Formed.{grows_itself, grows_then, all_grow, after_same}
 use Rattle.dx_meaning.proofs.FormsStaying.{EachFormsKeep, forms_at_keep, forms_keep, each_forms_keep}
 use Rattle.dx_links.specs.LinkMap.{LinkMap, held_at}
@@ -218,3 +220,8 @@ step_then (Err e) s nodes old m mid m1 new m2 p count a f = tt
 pub left_formed_grows : (s : Sight) (nodes : List Node) (was now : Formings) → Grows was now → (fs : List Frame) → LeftFormed s nodes was fs → LeftFormed s nodes now fs
 left_formed_grows s nodes was now g [] h = tt
 left_formed_grows s nodes was now g (f ∷ fs) h = stack_formed_grows s nodes was now g f.port (f ∷ fs) h
+
+-- a call of the same file and arguments
+pub called_as : (now was : Formings) (p : Place) (m : Module) (hs : List Head) (file own : Option (List ℕ)) (us ts : List ValueTag) → now ≡ after (file_forms file ++ call_formed p m file (value_terms hs us) ∷ []) was → file ≡ own → us ≡ ts →
+    now ≡ after (file_forms own ++ call_formed p m own (value_terms hs ts) ∷ []) was
+called_as now was p m hs file own us ts e f u = e ∙ ap₂ (λ (x : Option (List ℕ)) (y : List ValueTag). after (file_forms x ++ call_formed p m x (value_terms hs y) ∷ []) was) f u

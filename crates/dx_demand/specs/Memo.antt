@@ -54,6 +54,7 @@ with_formed first t n = λ u. first_or (first u) n (t == u)
 -- nothing is settled of so many nodes
 pub record EmptyMemo (count : ℕ) (m : Memo) : Type 0 where
   pub formed : (t : ℕ) → formed_of m t ≡ None
+  pub none : m.formed.entries ≡ []
   pub answers : (p : Port) → answers_of m p ≡ None
   pub selectors : (n : ℕ) → selector_of m n ≡ None
   pub places : length m.selectors.items ≡ count

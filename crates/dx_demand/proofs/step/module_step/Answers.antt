@@ -29,7 +29,7 @@ use Rattle.dx_meaning.specs.Forming.{after, file_forms, call_formed, HasAll}
 use Rattle.dx_meaning.proofs.Formed.{all_grow, after_has}
 use Rattle.dx_demand.specs.Forming.{KnownForms, formings, input_forms, port_forms, node_forms, first_forms, calls_forms}
 use Rattle.dx_demand.proofs.FormedPorts.{argument_next, argument_ends, argument_awaits, arguments_end, first_more, forms_slot, front_grows, toward_then, reaches_grow}
-use Rattle.dx_demand.proofs.FormedSteps.{formation_of, toward_same, memo_formed_grows, form_formed}
+use Rattle.dx_demand.proofs.FormedSteps.{formation_of, toward_same, memo_formed_grows, form_formed, called_as}
 use Rattle.dx_demand.specs.Calling.{AreValued, KnownValued}
 use Rattle.dx_demand.proofs.Calls.{one_valued, none_valued, module_met}
 use Rattle.dx_demand.proofs.step.module_step.Goals as goal
@@ -428,9 +428,7 @@ returns-clause-forms c = λ s m b w a h.
     let count : length inputs ≡ length ts = omega (arith, long, c.loop-inputs-test.false, c.len.ensures, c.loop-inputs.invariant.few) in
     let place = (node_at nodes c.args.port.node).place in
     let e : now ≡ after (file_forms c.args.file ++ call_formed place c.args.called c.args.file (value_terms (heads_of old) ts) ∷ []) mid =
-    c.in_ok-t-2.ensures.forms nodes middle.calls
-    ∙ ap (λ us. after (file_forms c.loop-inputs.file-1 ++ call_formed place c.args.called c.loop-inputs.file-1 (value_terms (heads_of old) us) ∷ []) mid) c.replace-all.ensures.value
-    ∙ ap (λ f. after (file_forms f ++ call_formed place c.args.called f (value_terms (heads_of old) ts) ∷ []) mid) c.loop-inputs.invariant.file in
+    called_as now mid place c.args.called (heads_of old) _ c.args.file _ ts (c.in_ok-t-2.ensures.forms nodes middle.calls) c.loop-inputs.invariant.file c.replace-all.ensures.value in
     let r = arguments_end s nodes c.args.port c.args.called c.args.file mid (heads_of old) ts front so_far.there begun count now e in
     let whole = toward_then (port_forms s nodes c.args.port) was mid now so_far.toward r.0 in
     let goes = goes_on_then c.args.tags.now old new c.loop-inputs.invariant.goes_on c.in_ok-t-2.ensures.goes_on in (
