@@ -8,15 +8,14 @@ use Rattle.dx_graph.specs.declared.node.Input.{Input}
 use Rattle.dx_graph.specs.declared.node.Input.TheVariants as input
 use Rattle.dx_tags.specs.declared.term.Term.{Term}
 use Rattle.dx_tags.specs.Closed.{ValueTerm, ConstantTerm, heads_of, value_term}
-use Rattle.dx_meaning.specs.Scan.{Sight, Scanned, Forms, scan}
+use Rattle.dx_meaning.specs.Scan.{Sight, Forms, scan}
 use Rattle.dx_meaning.specs.More.{More}
-use Rattle.dx_meaning.specs.Met.{Called, met, met_at}
+use Rattle.dx_meaning.specs.Met.{met}
 use Rattle.dx_meaning.proofs.MetStaying.{MetKeep, met_keeps}
-use Rattle.dx_demand.specs.Memo.{Answers, answers_of, input_at, input_scan, port_scan, shown, MemoRight}
+use Rattle.dx_demand.specs.Memo.{answers_of, input_at, input_scan, port_scan, shown, MemoRight}
 use Rattle.dx_demand.specs.Steps.{SeenRight}
-use Rattle.dx_demand.specs.Calling.{node_met, input_met, port_met, HasValue, IsValued, PassedMet, ValueMet, AnswerMet, MemoMet, SeenMet}
+use Rattle.dx_demand.specs.Calling.{port_met, IsValued, PassedMet, AnswerMet, SeenMet}
 use Rattle.dx_demand.specs.declared.settled.Port.{Port}
-use Rattle.dx_demand.specs.declared.settled.Answer.{Answer}
 use Rattle.dx_demand.specs.declared.settled.Settled.{Settled}
 use Rattle.dx_demand.specs.declared.settled.Settled.TheVariants as settled
 use Rattle.dx_demand.specs.declared.seen.Memo.{Memo}

@@ -6,7 +6,7 @@ use Rattle.dx_base.specs.Modules.{Takes}
 use Rattle.dx_demand.proofs.Taken.{node_takes}
 use Rattle.dx_demand.specs.Terms.{MayRead, AreArguments, IsValue}
 use Rattle.dx_demand.proofs.Terms.{arguments_on, arguments_push}
-use Rattle.std.proofs.Common.{◌≡◌, ◌<◌, ◌≤◌, ◌∙◌, [], ◌∷◌, ◌++◌, ℕ, suc, length, Some, None, sym, ap, subst, arith, length-append}
+use Rattle.std.proofs.Common.{◌≡◌, ◌<◌, ◌∙◌, [], ◌∷◌, ◌++◌, suc, length, Some, None, sym, ap, subst, arith, length-append}
 use Rattle.std.specs.Prelude.{slice_get}
 use Rattle.dx_graph.specs.declared.node.Node.{Node}
 use Rattle.dx_graph.specs.Graph.{node_at}
@@ -14,8 +14,8 @@ use Rattle.dx_graph.specs.GraphView.{graph_of}
 use Rattle.dx_graph.specs.Unfolding.{calls_of}
 use Rattle.dx_tags.specs.Closed.{ResultTerm, CallOf, heads_of, value_term, value_terms}
 use Rattle.dx_tags.proofs.Growth.{goes_on_then}
-use Rattle.dx_meaning.specs.Scan.{Sight, IsOff, Stops, Forms, Ends, all_scanned, call_scanned, with_file}
-use Rattle.dx_demand.specs.Memo.{answers_of, site_of, node_scans, input_scan, input_at}
+use Rattle.dx_meaning.specs.Scan.{IsOff, Stops, Forms, Ends, all_scanned, call_scanned, with_file}
+use Rattle.dx_demand.specs.Memo.{answers_of, site_of, node_scans, input_scan}
 use Rattle.dx_demand.specs.Stack.{Begins}
 use Rattle.dx_demand.specs.Steps.{KnownFits, KnownRight}
 use Rattle.dx_demand.specs.declared.step.Known.TheVariants as known
