@@ -1,11 +1,10 @@
 -- The calls that data meets, along the steps of a port.
-use Rattle.std.proofs.Common.{◌≡◌, ◌⊎◌, ⊎_elim, inl, inr, ℕ, zero, suc, ◌<◌, ◌≤◌, List, [], ◌∷◌, ◌++◌, length, Option, Some, None, Bool, true, false, refl, sym, ap, ap₂, ◌∙◌, subst, arith}
-use Rattle.std.specs.Prelude.{slice_get, if◌then◌else◌, Result, Ok, Err, OnOk, IfOk}
+use Rattle.std.proofs.Common.{◌≡◌, ◌⊎◌, ⊎_elim, inl, inr, ℕ, zero, suc, ◌<◌, ◌≤◌, List, [], ◌∷◌, ◌++◌, length, Option, Some, None, Bool, true, false, refl, sym, ap, ◌∙◌, subst, arith}
+use Rattle.std.specs.Prelude.{slice_get}
 use Rattle.dx_base.specs.declared.function.Function.{Function}
 use Rattle.dx_base.specs.declared.function.Function.TheVariants as function
 use Rattle.dx_base.specs.declared.function.Module.{Module}
 use Rattle.dx_base.specs.declared.function.Effect.{Effect}
-use Rattle.dx_base.specs.declared.function.Effect.TheVariants as effect
 use Rattle.dx_macros.specs.Tree.{Place, ResultTree, CallTree}
 use Rattle.dx_graph.specs.Graph.{Node, node_at, AreNodes}
 use Rattle.dx_graph.specs.Unfolding.{calls_of, tree_of, trees_of}
@@ -18,13 +17,13 @@ use Rattle.dx_links.specs.LinkMap.{LinkMap}
 use Rattle.dx_meaning.specs.Outcome.{Value}
 use Rattle.dx_meaning.specs.Picking.{pick, selector_at}
 use Rattle.dx_meaning.specs.Picking as plain
-use Rattle.dx_meaning.specs.Scan.{Sight, Scanned, Forms, scanned_at, terms_in}
+use Rattle.dx_meaning.specs.Scan.{Sight, Scanned, Forms, terms_in}
 use Rattle.dx_meaning.specs.Met.{Called, met, each_met, met_at, picked_met, told_met, selected_met, selector_met, effect_met, met_rule}
-use Rattle.dx_demand.specs.Memo.{Answers, answers_of, with_answer, same_port, selector_of, input_at, node_scans, selector_scan, EmptyMemo}
+use Rattle.dx_demand.specs.Memo.{Answers, answers_of, with_answer, same_port, input_at, node_scans, selector_scan, EmptyMemo}
 use Rattle.dx_demand.specs.Picked.{shelf_with, shown_pick}
-use Rattle.dx_demand.specs.Stack.{fresh, Opens}
+use Rattle.dx_demand.specs.Stack.{Opens}
 use Rattle.dx_demand.specs.Steps.{Holds, IsPicking}
-use Rattle.dx_demand.specs.Calling.{node_met, input_met, port_met, HasValue, IsValued, AreValued, IsNoModule, PassedMet, ValueMet, AnswerMet, MemoMet, SelectorsValued, StackValued, KnownValued}
+use Rattle.dx_demand.specs.Calling.{node_met, input_met, port_met, HasValue, IsValued, AreValued, IsNoModule, PassedMet, AnswerMet, MemoMet, SelectorsValued, StackValued, KnownValued}
 use Rattle.dx_demand.specs.declared.settled.Port.{Port}
 use Rattle.dx_demand.specs.declared.settled.Answer.{Answer}
 use Rattle.dx_demand.specs.declared.settled.Settled.{Settled}
@@ -34,7 +33,7 @@ use Rattle.dx_demand.specs.declared.seen.Memo.{Memo}
 use Rattle.dx_demand.specs.declared.pick.Pick.{Pick}
 use Rattle.dx_demand.specs.declared.step.Known.TheVariants as known
 use Rattle.dx_demand.proofs.Stacks.{answer_put, port_itself, port_of}
-use Rattle.dx_demand.proofs.Memos.{Selects, selected, selectors_same, answers_same}
+use Rattle.dx_demand.proofs.Memos.{Selects, selected, selectors_same}
 use Rattle.dx_demand.proofs.Ports.{call_unfolds}
 use Rattle.dx_demand.proofs.Picks.{shelf_same}
 

@@ -1,21 +1,20 @@
 -- What was formed where the loop over a port's steps stands.
-use Rattle.std.proofs.Common.{◌≡◌, ℕ, List, [], ◌∷◌, ◌++◌, length, Option, refl, sym, ap, ◌∙◌, subst, append-nil}
-use Rattle.dx_graph.specs.Graph.{Node, node_at}
+use Rattle.std.proofs.Common.{◌≡◌, List, [], ◌∷◌, ◌++◌, length, sym, ap, ◌∙◌, subst, append-nil}
+use Rattle.dx_graph.specs.Graph.{Node}
 use Rattle.dx_tags.specs.declared.term.Term.{Term}
 use Rattle.dx_tags.specs.declared.term.ValueTag.{ValueTag}
 use Rattle.dx_meaning.specs.Scan.{Sight, Stop, Ends}
-use Rattle.dx_meaning.specs.Forming.{Formed, Formings, after, HasAll, Grows}
-use Rattle.dx_meaning.proofs.Formed.{all_grow, all_append, after_same, grows_then}
+use Rattle.dx_meaning.specs.Forming.{Formed, Formings, after, HasAll}
+use Rattle.dx_meaning.proofs.Formed.{all_append, after_same}
 use Rattle.dx_demand.specs.Memo.{answers_of, with_answer, port_scan}
 use Rattle.dx_demand.specs.Stack.{fresh, bottom, Leads}
-use Rattle.dx_demand.specs.Forming.{formings, node_forms, port_forms, first_forms, MemoFormed, IsPart, Reaches, FrameFormed, StackFormed, LeftFormed, SeenFormed, Toward, StepForms, Formation}
+use Rattle.dx_demand.specs.Forming.{formings, port_forms, MemoFormed, Reaches, FrameFormed, StackFormed, LeftFormed, Toward, Formation}
 use Rattle.dx_demand.specs.declared.settled.Port.{Port}
 use Rattle.dx_demand.specs.declared.settled.Answer.{Answer}
 use Rattle.dx_demand.specs.declared.seen.Frame.{Frame}
 use Rattle.dx_demand.specs.declared.seen.Memo.{Memo}
-use Rattle.dx_demand.specs.declared.seen.Seen.{Seen}
 use Rattle.dx_demand.proofs.PortSteps.{with_arguments, more_itself}
-use Rattle.dx_demand.proofs.FormedPorts.{toward_itself, toward_then, toward_part, reaches_grow}
+use Rattle.dx_demand.proofs.FormedPorts.{toward_then, toward_part, reaches_grow}
 use Rattle.dx_demand.proofs.FormedSteps.{formings_same, settle_formed, stack_formed_grows, formed_split, formed_join, left_formed, awaits_formed}
 
 -- since the loop began

@@ -1,26 +1,25 @@
 -- What looking at a node's results forms, by its inputs.
-use Rattle.std.proofs.Common.{◌≡◌, ℕ, zero, suc, ◌+◌, ◌<◌, ◌≤◌, List, [], ◌∷◌, ◌++◌, length, Option, Some, None, refl, sym, ap, ap₂, ◌∙◌, subst, arith, append_assoc, append-nil}
+use Rattle.std.proofs.Common.{◌≡◌, ℕ, zero, suc, ◌<◌, ◌≤◌, List, [], ◌∷◌, ◌++◌, length, Option, Some, None, refl, sym, ap, ap₂, ◌∙◌, subst, arith, append_assoc, append-nil}
 use Rattle.std.specs.Prelude.{slice_get}
 use Rattle.dx_base.specs.declared.function.Function.{Function}
 use Rattle.dx_base.specs.declared.function.Function.TheVariants as function
 use Rattle.dx_base.specs.declared.function.Module.{Module}
 use Rattle.dx_base.specs.declared.function.Module.TheVariants as computing
 use Rattle.dx_base.specs.declared.function.Effect.{Effect}
-use Rattle.dx_base.specs.declared.function.Effect.TheVariants as effect
-use Rattle.dx_macros.specs.Tree.{Place, ResultTree, CallTree, Trees}
+use Rattle.dx_macros.specs.Tree.{Place, ResultTree, CallTree}
 use Rattle.dx_graph.specs.Graph.{Node, node_at, AreNodes}
 use Rattle.dx_graph.specs.Unfolding.{tree_of, trees_of, calls_of}
 use Rattle.dx_graph.specs.declared.node.Input.{Input}
 use Rattle.dx_tags.specs.declared.term.ValueTag.{ValueTag}
-use Rattle.dx_tags.specs.Closed.{ValueTerm, ValueTerms, Head, value_term, value_terms}
+use Rattle.dx_tags.specs.Closed.{ValueTerm, Head, value_term, value_terms}
 use Rattle.dx_meaning.specs.Outcome.{Value}
-use Rattle.dx_meaning.specs.Picking.{Pick, pick, selector_at, module_selector, IsSelecting}
-use Rattle.dx_meaning.specs.Scan.{Sight, Stop, Scanned, Forms, Ends, scanned_beside, all_scanned, scanned_at, written_for, scan, scan_each}
-use Rattle.dx_meaning.specs.More.{More, Keeps}
-use Rattle.dx_meaning.specs.Forming.{Formed, Formings, null_forms, forms_at, forms_beside, all_forms, file_forms, call_formed, call_forms, called_forms, forms_in, picked_forms, valued_forms, told_forms, selected_forms, selector_forms, effect_forms, module_forms, rule_forms, forms, each_forms, after, FormsKeep, Has, HasAll, Grows}
-use Rattle.dx_meaning.proofs.Formed.{grows_itself, grows_then, all_grow, after_grows, after_has, after_same, all_append, all_front, next_same, part_same}
-use Rattle.dx_meaning.proofs.FormsStaying.{EachFormsKeep, forms_at_keep, forms_keep, each_forms_keep, same_forms}
-use Rattle.dx_meaning.proofs.Keeping.{EachKeeps, each_keeps, at_keeps, scan_keeps, forms_kept, same_file}
+use Rattle.dx_meaning.specs.Picking.{pick, selector_at, module_selector, IsSelecting}
+use Rattle.dx_meaning.specs.Scan.{Sight, Stop, Scanned, Forms, Ends, all_scanned, written_for}
+use Rattle.dx_meaning.specs.More.{More}
+use Rattle.dx_meaning.specs.Forming.{Formed, Formings, null_forms, forms_at, forms_beside, all_forms, file_forms, call_formed, call_forms, called_forms, forms_in, picked_forms, valued_forms, told_forms, selected_forms, selector_forms, effect_forms, module_forms, rule_forms, forms, each_forms, after, FormsKeep, HasAll, Grows}
+use Rattle.dx_meaning.proofs.Formed.{grows_itself, grows_then, all_grow, after_grows, after_has, all_append, next_same, part_same}
+use Rattle.dx_meaning.proofs.FormsStaying.{EachFormsKeep, forms_at_keep, each_forms_keep, same_forms}
+use Rattle.dx_meaning.proofs.Keeping.{each_keeps, at_keeps, forms_kept, same_file}
 use Rattle.dx_demand.specs.Memo.{node_scans, input_scan, port_scan, selector_scan, input_at}
 use Rattle.dx_demand.specs.Stack.{Leads, Begins}
 use Rattle.dx_demand.specs.Steps.{IsPicking}

@@ -1,24 +1,25 @@
 -- What was formed stays there along the steps of a port.
-use Rattle.std.proofs.Common.{◌≡◌, ◌⊎◌, ⊎_elim, ℕ, List, [], ◌∷◌, ◌++◌, length, map, ◌<◌, Option, Some, None, option_map, refl, sym, ap, ap₂, ◌∙◌, subst}
-use Rattle.std.specs.Prelude.{Result, Ok, Err, OnOk, IfOk}
+use Rattle.std.proofs.Common.{◌≡◌, ⊎_elim, ℕ, List, [], ◌∷◌, ◌++◌, length, ◌<◌, Option, Some, None, option_map, sym, ap, ap₂, ◌∙◌, subst}
+use Rattle.std.specs.Prelude.{Result, Ok, Err, IfOk}
 use Rattle.dx_graph.specs.Graph.{Node, node_at}
 use Rattle.dx_graph.specs.Unfolding.{calls_of, tree_of, trees_of}
 use Rattle.dx_tags.specs.declared.term.Term.{Term}
 use Rattle.dx_tags.specs.declared.term.ValueTag.{ValueTag}
-use Rattle.dx_tags.specs.Closed.{ValueTerm, Head, heads_of, value_term, GoesOn}
-use Rattle.dx_meaning.specs.Picking as plain
+use Rattle.dx_base.specs.declared.function.Module.{Module}
+use Rattle.dx_macros.specs.Tree.{Place}
+use Rattle.dx_tags.specs.Closed.{ValueTerm, Head, heads_of, value_term, value_terms, GoesOn}
 use Rattle.dx_meaning.specs.Picking.{selector_at}
-use Rattle.dx_meaning.specs.Scan.{Sight, Stop, Scanned, Forms, Ends}
-use Rattle.dx_meaning.specs.More.{More, Keeps}
-use Rattle.dx_meaning.specs.Forming.{Formed, Formings, forms_in, after, FormsKeep, HasAll, Grows}
-use Rattle.dx_meaning.proofs.Formed.{grows_itself, grows_then, all_grow, after_same}
-use Rattle.dx_meaning.proofs.FormsStaying.{EachFormsKeep, forms_at_keep, forms_keep, each_forms_keep}
+use Rattle.dx_meaning.specs.Scan.{Sight, Scanned}
+use Rattle.dx_meaning.specs.More.{More}
+use Rattle.dx_meaning.specs.Forming.{Formed, Formings, forms_in, file_forms, call_formed, after, FormsKeep, HasAll, Grows}
+use Rattle.dx_meaning.proofs.Formed.{all_grow}
+use Rattle.dx_meaning.proofs.FormsStaying.{forms_at_keep, forms_keep, each_forms_keep}
 use Rattle.dx_links.specs.LinkMap.{LinkMap, held_at}
 use Rattle.dx_links.specs.Holding.{Holding}
-use Rattle.dx_demand.specs.Memo.{Answers, answers_of, with_answer, selector_of, formed_of, with_formed, EmptyMemo, shown, port_scan, selector_scan, node_scans, input_at, MemoRight}
-use Rattle.dx_demand.specs.Stack.{fresh, bottom, Opens, Leads, Begins, FrameRight, StackRight}
+use Rattle.dx_demand.specs.Memo.{Answers, answers_of, with_answer, formed_of, EmptyMemo, shown, port_scan, node_scans, input_at, MemoRight}
+use Rattle.dx_demand.specs.Stack.{fresh, bottom, Opens, Leads, StackRight}
 use Rattle.dx_demand.specs.Steps.{Holds, LeftRight, SeenRight}
-use Rattle.dx_demand.specs.Forming.{formings, node_forms, input_forms, port_forms, selector_formed, first_forms, forms_with, IsCallTag, NameCalls, MemoFormed, IsPart, Reaches, FrameFormed, StackFormed, LeftFormed, SeenFormed, Toward, Formation, FormsStep, StepForms}
+use Rattle.dx_demand.specs.Forming.{formings, node_forms, port_forms, selector_formed, first_forms, forms_with, IsCallTag, MemoFormed, Reaches, FrameFormed, StackFormed, LeftFormed, SeenFormed, Toward, Formation, FormsStep}
 use Rattle.dx_demand.specs.declared.settled.Port.{Port}
 use Rattle.dx_demand.specs.declared.settled.Answer.{Answer}
 use Rattle.dx_demand.specs.declared.settled.Settled.{Settled}
@@ -29,9 +30,8 @@ use Rattle.dx_demand.specs.declared.seen.Seen.{Seen}
 use Rattle.dx_demand.specs.declared.step.Step.{Step}
 use Rattle.dx_demand.proofs.Memos.{Selects, FormsOne, selected, answers_same, selectors_same, formed_same, formed_put}
 use Rattle.dx_demand.proofs.Stacks.{answer_put}
-use Rattle.dx_demand.proofs.FormedTerms.{calls_grow, name_calls_grow}
+use Rattle.dx_demand.proofs.FormedTerms.{name_calls_grow}
 use Rattle.dx_demand.proofs.FormedPorts.{reaches_grow, reaches_itself, reaches_then, toward_itself, toward_then, first_keep}
-use Rattle.dx_demand.proofs.PortSteps.{with_arguments}
 use Rattle.dx_demand.proofs.Staying.{more_then}
 
 -- ---- the memo
@@ -218,3 +218,8 @@ step_then (Err e) s nodes old m mid m1 new m2 p count a f = tt
 pub left_formed_grows : (s : Sight) (nodes : List Node) (was now : Formings) → Grows was now → (fs : List Frame) → LeftFormed s nodes was fs → LeftFormed s nodes now fs
 left_formed_grows s nodes was now g [] h = tt
 left_formed_grows s nodes was now g (f ∷ fs) h = stack_formed_grows s nodes was now g f.port (f ∷ fs) h
+
+-- a call of the same file and arguments
+pub called_as : (now was : Formings) (p : Place) (m : Module) (hs : List Head) (file own : Option (List ℕ)) (us ts : List ValueTag) → now ≡ after (file_forms file ++ call_formed p m file (value_terms hs us) ∷ []) was → file ≡ own → us ≡ ts →
+    now ≡ after (file_forms own ++ call_formed p m own (value_terms hs ts) ∷ []) was
+called_as now was p m hs file own us ts e f u = e ∙ ap₂ (λ (x : Option (List ℕ)) (y : List ValueTag). after (file_forms x ++ call_formed p m x (value_terms hs y) ∷ []) was) f u

@@ -1,18 +1,16 @@
 -- Terms and calls that are formed, by their tags.
-use Rattle.std.proofs.Common.{◌≡◌, ◌⊎◌, ⊎_elim, inl, inr, ℕ, zero, suc, ◌+◌, ◌<◌, List, [], ◌∷◌, ◌++◌, length, map, Option, Some, None, Bool, true, false, true≢false, refl, sym, ap, ap₂, ◌∙◌, subst, arith, length-append}
-use Rattle.std.specs.Prelude.{slice_get, is_some, cond, ◌==◌, ◌||◌, if◌then◌else◌, Result, Ok, Err, IfOk, OnOk}
+use Rattle.std.proofs.Common.{◌≡◌, ◌⊎◌, ⊎_elim, inl, inr, ℕ, zero, suc, ◌+◌, ◌<◌, List, [], ◌∷◌, ◌++◌, length, map, Option, Some, None, Bool, true, false, refl, sym, ap, ap₂, ◌∙◌, subst, arith, length-append}
+use Rattle.std.specs.Prelude.{slice_get, is_some, cond, ◌==◌, ◌||◌, Result, Ok, Err, IfOk, OnOk}
 use Rattle.std.specs.Cmp.{unsigned_Decides}
-use Rattle.std.specs.Map.{lookup}
 use Rattle.indexmap.specs.IndexMap.{insert_entry}
 use Rattle.dx_graph.specs.Graph.{Node, node_at}
 use Rattle.dx_tags.specs.declared.term.Term.{Term}
-use Rattle.dx_tags.specs.declared.term.Term.TheVariants.{Constant, Held, Call, File}
-use Rattle.dx_tags.specs.Closed.{ValueTerm, ConstantTerm, FileTerm, ResultTerm, CallTerm, Head, ConstantHead, HeldHead, CallHead, FileHead, head_at, head_of, heads_of, heads_after, result_of_head, AllFormed, AreDistinct, GoesOn, NamesExactly}
-use Rattle.dx_tags.proofs.Growth.{heads_grow, kept_goes_on, longer}
+use Rattle.dx_tags.specs.Closed.{ValueTerm, FileTerm, ResultTerm, CallTerm, Head, ConstantHead, HeldHead, CallHead, FileHead, head_at, head_of, heads_of, heads_after, result_of_head, AllFormed, AreDistinct, GoesOn, NamesExactly}
+use Rattle.dx_tags.proofs.Growth.{heads_grow, longer}
 use Rattle.dx_tags.proofs.ClosedTerms.{head_unfolds, names_exactly}
 use Rattle.dx_links.specs.Getting.{same_value, same_call, has_value}
 use Rattle.dx_meaning.specs.Met.{Called}
-use Rattle.dx_meaning.specs.Forming.{Formed, FormsValue, FormsCall, Formings, is_called, with_term, with_called, file_forms, forming, after, Grows}
+use Rattle.dx_meaning.specs.Forming.{FormsValue, FormsCall, is_called, with_term, with_called, file_forms, forming, after}
 use Rattle.dx_meaning.proofs.SameTerms.{value_is, value_itself, call_is, call_itself, same_test}
 use Rattle.dx_demand.specs.Memo.{formed_of}
 use Rattle.dx_demand.specs.Forming.{Entries, found_in, with_entry, with_own, call_in, called_at, named_terms, formings, IsCallTag, NameCalls}

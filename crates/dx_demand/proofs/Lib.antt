@@ -15,3 +15,4 @@ pub mod FormedSteps
 pub mod FormedLoop
 pub mod Calls
 pub mod Searched
+pub mod CallsStaying

@@ -1,10 +1,7 @@
 -- What the code picks is what is picked.
-use Rattle.std.proofs.Common.{◌≡◌, ℕ, List, Option, refl, sym, ap, ◌∙◌}
-use Rattle.dx_base.specs.declared.function.Function.{Function}
-use Rattle.dx_macros.specs.Tree.{Place}
+use Rattle.std.proofs.Common.{◌≡◌, List, sym, ap, ◌∙◌}
 use Rattle.dx_graph.specs.Graph.{Node, node_at}
 use Rattle.dx_tags.specs.declared.term.Term.{Term}
-use Rattle.dx_tags.specs.declared.term.ValueTag.{ValueTag}
 use Rattle.dx_tags.specs.Closed.{ValueTerm, heads_of, value_term}
 use Rattle.dx_meaning.specs.Outcome.{Value}
 use Rattle.dx_meaning.specs.Picking.{Shelf, pick}

@@ -1,6 +1,6 @@
 -- What is found for a port is the first call of the term that its data meets.
-use Rattle.std.proofs.Common.{◌≡◌, ◌⊎◌, ⊎_elim, inl, inr, ℕ, zero, suc, ◌+◌, ◌<◌, ◌≤◌, List, [], ◌∷◌, ◌++◌, length, Option, Some, None, Bool, true, false, true≢false, refl, sym, ap, ap₂, ◌∙◌, subst, arith, All}
-use Rattle.std.specs.Prelude.{slice_get, option_map, if◌then◌else◌, ◌==◌}
+use Rattle.std.proofs.Common.{◌≡◌, ◌⊎◌, ⊎_elim, inl, inr, ℕ, zero, suc, ◌+◌, ◌<◌, ◌≤◌, List, [], ◌∷◌, ◌++◌, length, Option, Some, None, Bool, true, false, refl, sym, ap, ap₂, ◌∙◌, subst, arith}
+use Rattle.std.specs.Prelude.{slice_get, if◌then◌else◌, ◌==◌}
 use Rattle.std.specs.Cmp.{unsigned_Decides}
 use Rattle.dx_base.specs.declared.function.Function.{Function}
 use Rattle.dx_base.specs.declared.function.Function.TheVariants as function
@@ -14,17 +14,17 @@ use Rattle.dx_graph.specs.declared.node.Input.{Input}
 use Rattle.dx_graph.specs.declared.node.Input.TheVariants as input
 use Rattle.dx_tags.specs.declared.term.Term.{Term}
 use Rattle.dx_tags.specs.declared.term.ValueTag.{ValueTag}
-use Rattle.dx_tags.specs.Closed.{ValueTerm, ValueTerms, ConstantTerm, HeldTerm, ResultTerm, FileTerm, CallTerm, CallOf, Head, ConstantHead, HeldHead, CallHead, FileHead, head_at, heads_of, result_of_head, value_term}
+use Rattle.dx_tags.specs.Closed.{ValueTerm, ValueTerms, ResultTerm, CallTerm, CallOf, Head, ConstantHead, HeldHead, CallHead, FileHead, head_at, heads_of, result_of_head, value_term}
 use Rattle.dx_tags.proofs.ClosedTerms.{names_exactly}
 use Rattle.dx_links.specs.Getting.{same_call}
 use Rattle.dx_meaning.specs.Outcome.{Value}
 use Rattle.dx_meaning.specs.Scan.{Sight, Scanned, Forms, Ends, all_scanned, with_file, scanned_at, call_scanned, written_for, told_scanned, selected, module_scanned, rule_scanned}
-use Rattle.dx_meaning.specs.Met.{Called, all_met, arguments_met, own_met, met_at, met_rule, met, each_met, first_place}
+use Rattle.dx_meaning.specs.Met.{Called, all_met, arguments_met, own_met, met_rule, met, each_met, first_place}
 use Rattle.dx_meaning.proofs.SameTerms.{same_test}
-use Rattle.dx_demand.specs.Memo.{Answers, answers_of, same_port, IsPort, port_scan, node_scans, shown, SettledFits, MemoFits, MemoRight}
+use Rattle.dx_demand.specs.Memo.{Answers, answers_of, same_port, port_scan, node_scans, shown, SettledFits}
 use Rattle.dx_demand.specs.Forming.{IsCallTag, call_in}
-use Rattle.dx_demand.specs.Calling.{node_met, input_met, port_met, HasValue, IsValued, AreValued, PassedMet, ValueMet, AnswerMet, MemoMet}
-use Rattle.dx_demand.specs.Searching.{Calls, under, or_else, first_of, values_of, own_node, under_slot, passed_from, first_in, first_by, met_from, met_by, with_call, place_of, Ground, MetRight, AllMet, AllFresh}
+use Rattle.dx_demand.specs.Calling.{node_met, input_met, port_met, HasValue, IsValued, AreValued, PassedMet, ValueMet, AnswerMet}
+use Rattle.dx_demand.specs.Searching.{Calls, under, or_else, first_of, values_of, own_node, under_slot, passed_from, first_in, met_from, met_by, with_call, place_of, Ground, MetRight, AllMet}
 use Rattle.dx_demand.specs.declared.settled.Port.{Port}
 use Rattle.dx_demand.specs.declared.settled.Answer.{Answer}
 use Rattle.dx_demand.specs.declared.settled.Settled.{Settled}

@@ -1,9 +1,8 @@
 -- The calls that data meets, by what is kept.
-use Rattle.std.specs.Prelude.{◌≡◌, ℕ, ◌<◌, List, [], ◌∷◌, Option, Some, None, option_map, length, slice_get}
+use Rattle.std.specs.Prelude.{◌≡◌, ℕ, ◌<◌, List, [], ◌∷◌, Option, Some, None, length, slice_get}
 use Rattle.dx_base.specs.declared.function.Function.{Function}
 use Rattle.dx_base.specs.declared.function.Function.TheVariants as function
 use Rattle.dx_base.specs.declared.function.Module.{Module}
-use Rattle.dx_macros.specs.Tree.{Place}
 use Rattle.dx_graph.specs.Graph.{Node, node_at}
 use Rattle.dx_graph.specs.Unfolding.{calls_of, tree_of, trees_of}
 use Rattle.dx_graph.specs.declared.node.Input.{Input}

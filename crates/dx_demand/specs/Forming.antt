@@ -17,7 +17,6 @@ use Rattle.dx_meaning.specs.Scan.{Sight, Stop, Scanned, Ends}
 use Rattle.dx_meaning.specs.More.{More}
 use Rattle.dx_meaning.specs.Met.{Called}
 use Rattle.dx_meaning.specs.Forming.{Formed, FormsValue, Formings, null_forms, forms, each_forms, forms_at, with_term, called_forms, picked_forms, after, HasAll, Grows}
-use Rattle.dx_links.specs.declared.key.Key.{Key}
 use Rattle.dx_links.specs.Holding.{Holding}
 use Rattle.dx_links.specs.LinkMap.{LinkMap, held_at}
 use Rattle.dx_demand.specs.Memo.{answers_of, selector_of, formed_of, input_at, port_scan, node_scans}

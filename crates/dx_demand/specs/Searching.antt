@@ -1,12 +1,12 @@
 -- Finding the first call of a term among the nodes of a graph.
-use Rattle.std.specs.Prelude.{◌≡◌, ◌==◌, ℕ, ◌<◌, ◌≤◌, List, [], ◌∷◌, Option, Some, None, option_map, if◌then◌else◌, slice_get, length}
+use Rattle.std.specs.Prelude.{◌≡◌, ◌==◌, ℕ, ◌<◌, ◌≤◌, List, [], ◌∷◌, Option, Some, None, option_map, if◌then◌else◌, slice_get}
 use Rattle.std.specs.HashMap.{get_by, HashMap}
 use Rattle.dx_base.specs.declared.function.Function.{Function}
 use Rattle.dx_base.specs.declared.function.Function.TheVariants as function
 use Rattle.dx_base.specs.declared.function.Module.{Module}
 use Rattle.dx_base.specs.declared.function.Module.TheVariants as computing
 use Rattle.dx_macros.specs.Tree.{Place}
-use Rattle.dx_graph.specs.Graph.{Node, node_at, AreNodes}
+use Rattle.dx_graph.specs.Graph.{Node, node_at}
 use Rattle.dx_graph.specs.declared.node.Input.{Input}
 use Rattle.dx_graph.specs.declared.node.Input.TheVariants as input
 use Rattle.dx_tags.specs.declared.term.Term.{Term}

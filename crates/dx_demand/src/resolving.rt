@@ -37,6 +37,7 @@ impl Seen {
         ensures closed { (links : LinkMap) (terms : List Term) → IfOk result (λ seen. IsClosed links terms seen) }
         ensures formed { (s : Sight) (terms : List Term) → IfOk result (λ seen. SeenFormed s (graph_of g.now).nodes terms seen) }
         ensures met { (s : Sight) → IfOk result (λ seen. SeenMet s (graph_of g.now).nodes seen) }
+        ensures uncalled { IfOk result (λ seen. seen.memo.formed.entries ≡ []) }
         ensures none { IfOk result (λ seen. (t : ℕ) → formed_of seen.memo t ≡ None) }
     {
         let memo = empty_memo(alloc, g)?;

@@ -12,7 +12,6 @@ use Rattle.dx_meaning.proofs.Formed.{after_grows}
 use Rattle.dx_demand.proofs.FormedTerms.{value_formed}
 use Rattle.dx_demand.specs.Forming.{formings, input_forms}
 use Rattle.dx_demand.proofs.FormedSteps.{left_formed_grows, memo_formed_grows}
-use Rattle.dx_demand.specs.Memo.{Answers}
 use Rattle.dx_demand.specs.Calling.{IsValued, ResolvedValued}
 use Rattle.std.specs.Prelude.{IfOk}
 use Rattle.dx_demand.proofs.resolving.resolve.Goals as goal

@@ -1,5 +1,5 @@
 use Rattle.dx_demand.specs.Memo.{formed_of}
-use Rattle.std.proofs.Common.{◌≡◌, ◌∙◌, sym}
+use Rattle.std.proofs.Common.{◌∙◌, sym}
 use Rattle.dx_graph.specs.GraphView.{graph_of}
 use Rattle.dx_meaning.proofs.Formed.{after_same}
 use Rattle.dx_demand.specs.Forming.{formings, port_forms}

@@ -1,19 +1,19 @@
 use Rattle.dx_demand.specs.Memo.{FirstNodes, formed_of}
 use Rattle.dx_demand.specs.Found.{SettledFound, StepFound, StackFound}
 use Rattle.dx_demand.proofs.Finding.{kept_itself, kept_same, same_firsts, settle_found, stack_found_grows, stack_found_split, stack_found_join, opens_found}
-use Rattle.std.proofs.Common.{◌≡◌, ◌∙◌, ◌+◌, ◌*◌, ◌<◌, ◌++◌, ◌∷◌, [], ℕ, List, length, refl, sym, ap, ap₂, subst, arith}
+use Rattle.std.proofs.Common.{◌≡◌, ◌∙◌, ◌+◌, ◌*◌, ◌<◌, ◌++◌, ◌∷◌, [], List, length, sym, ap, ap₂, subst}
 use Rattle.dx_graph.specs.GraphView.{graph_of}
 use Rattle.dx_tags.specs.declared.term.ValueTag.{ValueTag}
 use Rattle.dx_tags.specs.Closed.{heads_of, value_term}
 use Rattle.dx_tags.proofs.Growth.{goes_on_same, goes_on_then}
-use Rattle.dx_meaning.specs.Scan.{Needs, Ends}
-use Rattle.dx_demand.specs.Memo.{Answers, answers_of, with_answer, site_of, shown, SettledFits, IsPort, port_scan}
+use Rattle.dx_meaning.specs.Scan.{Needs}
+use Rattle.dx_demand.specs.Memo.{Answers, answers_of, with_answer, site_of, shown, SettledFits, port_scan}
 use Rattle.dx_demand.specs.Stack.{fresh, bottom, Leads, StackFits, StackRight}
 use Rattle.dx_demand.specs.Steps.{StepFits, StepRight, LeftRight}
 use Rattle.dx_demand.specs.declared.seen.Frame.{Frame}
 use Rattle.dx_demand.proofs.Growing.{links_fit_grows, sees_before}
 use Rattle.dx_demand.proofs.Memos.{settle_fits, settle_right, settle_keeps}
-use Rattle.dx_demand.proofs.Stacks.{Top, stack_split, stack_join, right_join, left_right, bottom_push, opens_fits, opens_right, opens_bottom, open_ports}
+use Rattle.dx_demand.proofs.Stacks.{stack_split, stack_join, right_join, left_right, bottom_push, opens_fits, opens_right, opens_bottom, open_ports}
 use Rattle.dx_demand.proofs.PortSteps.{with_arguments, top_after, right_after, top_begins, awaits_fits, awaits_right, needs_right, below_fits, below_bottom, last_bottom, same_bottom, settled_less}
 use Rattle.dx_graph.specs.Graph.{node_at}
 use Rattle.dx_demand.specs.Memo.{input_at}

@@ -1,6 +1,6 @@
 use Rattle.dx_demand.specs.Found.{AllFound}
 use Rattle.dx_demand.proofs.Finding.{kept_itself, all_found_grows, all_found_push}
-use Rattle.std.proofs.Common.{◌≡◌, ◌⊎◌, ⊎_elim, inl, inr, ◌∙◌, ◌++◌, ◌∷◌, [], Some, None, List, length, sym, ap, subst}
+use Rattle.std.proofs.Common.{◌≡◌, ⊎_elim, inl, ◌∙◌, Some, None, List, length, sym, ap, subst}
 use Rattle.dx_tags.specs.declared.term.Term.TheVariants as term
 use Rattle.dx_tags.specs.declared.term.ValueTag.{ValueTag}
 use Rattle.dx_tags.specs.Closed.{heads_of, value_terms, AreEarlier}

@@ -1,15 +1,14 @@
-use Rattle.std.proofs.Common.{◌≡◌, ◌∙◌, Some, List, sym, subst}
+use Rattle.std.proofs.Common.{◌≡◌, ◌∙◌, Some, sym, subst}
 use Rattle.dx_tags.specs.declared.term.Term.TheVariants as term
-use Rattle.dx_tags.specs.declared.term.ValueTag.{ValueTag}
 use Rattle.dx_demand.specs.Memo.{formed_of}
 use Rattle.dx_demand.specs.Found.{AllFound}
 use Rattle.dx_demand.proofs.Finding.{kept_itself, all_found_grows}
-use Rattle.std.proofs.Common.{ap, [], ◌∷◌, ◌++◌}
+use Rattle.std.proofs.Common.{ap, [], ◌∷◌}
 use Rattle.dx_graph.specs.Graph.{node_at}
 use Rattle.dx_tags.specs.Closed.{CallHead, CallOf, heads_of, value_terms}
 use Rattle.dx_tags.proofs.ClosedTerms.{head_unfolds}
 use Rattle.dx_tags.proofs.Growth.{values_on}
-use Rattle.dx_meaning.specs.Forming.{FormsCall, forming, after, file_forms, call_formed}
+use Rattle.dx_meaning.specs.Forming.{FormsCall, forming, file_forms, call_formed}
 use Rattle.dx_meaning.proofs.Formed.{after_append}
 use Rattle.dx_demand.specs.Forming.{formings, IsCallTag}
 use Rattle.dx_demand.proofs.FormedTerms.{own_formed, call_formed_by, name_calls_grow}

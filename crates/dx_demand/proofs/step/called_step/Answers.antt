@@ -1,7 +1,5 @@
-use Rattle.std.proofs.Common.{refl, inr, ◌≡◌, Some, None}
-use Rattle.std.specs.Prelude.{is_some}
+use Rattle.std.proofs.Common.{refl, inr}
 use Rattle.dx_graph.specs.GraphView.{graph_of}
-use Rattle.dx_meaning.specs.Picking.{module_selector}
 use Rattle.dx_demand.proofs.Memos.{same_selectors_keep}
 use Rattle.dx_demand.proofs.Ports.{unnamed_rule, names_first, names_none}
 use Rattle.dx_demand.proofs.PortSteps.{nodes_of}

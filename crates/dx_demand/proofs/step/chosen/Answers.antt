@@ -1,22 +1,14 @@
-use Rattle.dx_demand.specs.Terms.{IsValue}
-use Rattle.std.proofs.Common.{◌≡◌, ◌<◌, ◌≤◌, ◌∙◌, [], ◌∷◌, ◌++◌, ℕ, length, Some, refl, sym, ap, subst, arith}
+use Rattle.std.proofs.Common.{◌≡◌, ◌<◌, ◌∙◌, length, Some, refl, sym, ap, subst, arith}
 use Rattle.std.specs.Prelude.{slice_get}
 use Rattle.dx_graph.specs.declared.node.Node.{Node}
 use Rattle.dx_graph.specs.Graph.{node_at}
 use Rattle.dx_graph.specs.GraphView.{graph_of}
-use Rattle.dx_graph.specs.Unfolding.{calls_of}
-use Rattle.dx_tags.specs.Closed.{heads_of, value_term}
-use Rattle.dx_meaning.specs.Picking.{selector_at}
-use Rattle.dx_meaning.specs.Scan.{Sight, IsOff, Stops, Forms, Ends}
-use Rattle.dx_demand.specs.Memo.{answers_of, site_of, node_scans, input_scan, input_at, selector_scan}
+use Rattle.dx_meaning.specs.Scan.{Forms}
+use Rattle.dx_demand.specs.Memo.{answers_of}
 use Rattle.dx_demand.specs.Steps.{KnownFits, KnownRight}
-use Rattle.dx_demand.specs.declared.step.Known.TheVariants as known
-use Rattle.dx_demand.specs.declared.settled.Settled.TheVariants as settled
-use Rattle.dx_demand.proofs.Growing.{memo_fits_grows, memo_right_grows}
-use Rattle.dx_demand.proofs.Memos.{Selects, select_fits, select_right}
-use Rattle.dx_demand.proofs.Ports.{each_at, at_some, selector_ends, selector_leads, chosen_is, chosen_past, chosen_leads}
+use Rattle.dx_demand.proofs.Ports.{chosen_is, chosen_past, chosen_leads}
 use Rattle.dx_demand.proofs.PortSteps.{nodes_of, more_itself}
-use Rattle.dx_demand.proofs.Taken.{slot, takes, takes_in, awaited, selector_within}
+use Rattle.dx_demand.proofs.Taken.{slot, takes, takes_in, awaited}
 use Rattle.dx_meaning.specs.Scan.{null_term}
 use Rattle.dx_demand.specs.Forming.{KnownForms, formings, input_forms, port_forms}
 use Rattle.dx_demand.proofs.FormedTerms.{value_formed}

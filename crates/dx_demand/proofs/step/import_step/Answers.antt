@@ -2,12 +2,12 @@ use Rattle.dx_demand.specs.Memo.{formed_of}
 use Rattle.dx_demand.proofs.Finding.{kept_same, all_found_grows}
 use Rattle.dx_demand.specs.Terms.{IsValue}
 use Rattle.dx_demand.proofs.Terms.{arguments_on}
-use Rattle.std.proofs.Common.{inl, ◌≡◌, ◌<◌, ◌∙◌, ℕ, length, Option, Some, None, option_map, refl, sym, ap, subst}
+use Rattle.std.proofs.Common.{inl, ◌≡◌, ◌<◌, ◌∙◌, length, Some, option_map, sym, ap, subst}
 use Rattle.dx_graph.specs.Graph.{node_at}
 use Rattle.dx_graph.specs.GraphView.{graph_of}
 use Rattle.dx_tags.specs.Closed.{heads_of, value_term}
 use Rattle.dx_tags.proofs.Growth.{goes_on_then}
-use Rattle.dx_meaning.specs.Scan.{Sight, Forms}
+use Rattle.dx_meaning.specs.Scan.{Forms}
 use Rattle.dx_demand.specs.Given.{value_behind}
 use Rattle.dx_demand.specs.Memo.{selector_of, selector_scan, node_scans}
 use Rattle.dx_demand.specs.Steps.{SelectionFits, SelectionRight, StepRight}

@@ -6,7 +6,7 @@ use Rattle.dx_base.specs.Modules.{Takes}
 use Rattle.dx_demand.proofs.Taken.{node_takes}
 use Rattle.dx_demand.specs.Terms.{MayRead, AreArguments, IsValue}
 use Rattle.dx_demand.proofs.Terms.{arguments_on, arguments_push}
-use Rattle.std.proofs.Common.{◌≡◌, ◌<◌, ◌≤◌, ◌∙◌, [], ◌∷◌, ◌++◌, ℕ, suc, length, Some, None, sym, ap, subst, arith, length-append}
+use Rattle.std.proofs.Common.{◌≡◌, ◌<◌, ◌∙◌, [], ◌∷◌, ◌++◌, suc, length, Some, None, sym, ap, subst, arith, length-append}
 use Rattle.std.specs.Prelude.{slice_get}
 use Rattle.dx_graph.specs.declared.node.Node.{Node}
 use Rattle.dx_graph.specs.Graph.{node_at}
@@ -14,8 +14,8 @@ use Rattle.dx_graph.specs.GraphView.{graph_of}
 use Rattle.dx_graph.specs.Unfolding.{calls_of}
 use Rattle.dx_tags.specs.Closed.{ResultTerm, CallOf, heads_of, value_term, value_terms}
 use Rattle.dx_tags.proofs.Growth.{goes_on_then}
-use Rattle.dx_meaning.specs.Scan.{Sight, IsOff, Stops, Forms, Ends, all_scanned, call_scanned, with_file}
-use Rattle.dx_demand.specs.Memo.{answers_of, site_of, node_scans, input_scan, input_at}
+use Rattle.dx_meaning.specs.Scan.{IsOff, Stops, Forms, Ends, all_scanned, call_scanned, with_file}
+use Rattle.dx_demand.specs.Memo.{answers_of, site_of, node_scans, input_scan}
 use Rattle.dx_demand.specs.Stack.{Begins}
 use Rattle.dx_demand.specs.Steps.{KnownFits, KnownRight}
 use Rattle.dx_demand.specs.declared.step.Known.TheVariants as known
@@ -29,7 +29,7 @@ use Rattle.dx_meaning.specs.Forming.{after, file_forms, call_formed, HasAll}
 use Rattle.dx_meaning.proofs.Formed.{all_grow, after_has}
 use Rattle.dx_demand.specs.Forming.{KnownForms, formings, input_forms, port_forms, node_forms, first_forms, calls_forms}
 use Rattle.dx_demand.proofs.FormedPorts.{argument_next, argument_ends, argument_awaits, arguments_end, first_more, forms_slot, front_grows, toward_then, reaches_grow}
-use Rattle.dx_demand.proofs.FormedSteps.{formation_of, toward_same, memo_formed_grows, form_formed}
+use Rattle.dx_demand.proofs.FormedSteps.{formation_of, toward_same, memo_formed_grows, form_formed, called_as}
 use Rattle.dx_demand.specs.Calling.{AreValued, KnownValued}
 use Rattle.dx_demand.proofs.Calls.{one_valued, none_valued, module_met}
 use Rattle.dx_demand.proofs.step.module_step.Goals as goal
@@ -428,9 +428,7 @@ returns-clause-forms c = λ s m b w a h.
     let count : length inputs ≡ length ts = omega (arith, long, c.loop-inputs-test.false, c.len.ensures, c.loop-inputs.invariant.few) in
     let place = (node_at nodes c.args.port.node).place in
     let e : now ≡ after (file_forms c.args.file ++ call_formed place c.args.called c.args.file (value_terms (heads_of old) ts) ∷ []) mid =
-    c.in_ok-t-2.ensures.forms nodes middle.calls
-    ∙ ap (λ us. after (file_forms c.loop-inputs.file-1 ++ call_formed place c.args.called c.loop-inputs.file-1 (value_terms (heads_of old) us) ∷ []) mid) c.replace-all.ensures.value
-    ∙ ap (λ f. after (file_forms f ++ call_formed place c.args.called f (value_terms (heads_of old) ts) ∷ []) mid) c.loop-inputs.invariant.file in
+    called_as now mid place c.args.called (heads_of old) _ c.args.file _ ts (c.in_ok-t-2.ensures.forms nodes middle.calls) c.loop-inputs.invariant.file c.replace-all.ensures.value in
     let r = arguments_end s nodes c.args.port c.args.called c.args.file mid (heads_of old) ts front so_far.there begun count now e in
     let whole = toward_then (port_forms s nodes c.args.port) was mid now so_far.toward r.0 in
     let goes = goes_on_then c.args.tags.now old new c.loop-inputs.invariant.goes_on c.in_ok-t-2.ensures.goes_on in (

@@ -1,7 +1,6 @@
 use Rattle.dx_demand.specs.Memo.{formed_of}
 use Rattle.dx_demand.proofs.Finding.{kept_itself, kept_same, all_found_grows, memo_found_grows}
 use Rattle.dx_demand.proofs.Terms.{arguments_on}
-use Rattle.std.proofs.Common.{◌≡◌}
 use Rattle.dx_graph.specs.GraphView.{graph_of}
 use Rattle.dx_demand.specs.Memo.{node_scans}
 use Rattle.dx_demand.proofs.Growing.{memo_fits_grows, memo_right_grows, begins_grows, on_ok_then}

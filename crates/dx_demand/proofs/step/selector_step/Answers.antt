@@ -1,12 +1,12 @@
 use Rattle.dx_tags.proofs.Growth.{goes_on_then}
 use Rattle.dx_demand.proofs.Finding.{memo_found_grows}
 use Rattle.dx_demand.specs.Terms.{IsValue}
-use Rattle.std.proofs.Common.{◌≡◌, ◌<◌, ◌∙◌, ℕ, length, Option, Some, None, option_map, refl, sym, ap, subst}
+use Rattle.std.proofs.Common.{◌≡◌, ◌<◌, ◌∙◌, length, Some, option_map, sym, ap, subst}
 use Rattle.dx_graph.specs.Graph.{node_at}
 use Rattle.dx_graph.specs.GraphView.{graph_of}
 use Rattle.dx_tags.specs.Closed.{heads_of, value_term}
 use Rattle.dx_demand.specs.Given.{value_behind}
-use Rattle.dx_meaning.specs.Scan.{Sight, Forms}
+use Rattle.dx_meaning.specs.Scan.{Forms}
 use Rattle.dx_demand.specs.Memo.{selector_of, selector_scan}
 use Rattle.dx_demand.specs.Steps.{SelectionFits, SelectionRight, StepRight}
 use Rattle.dx_demand.proofs.Growing.{links_fit_grows, memo_fits_grows, memo_right_grows, tells_before, on_ok_then, if_ok_by}

@@ -1,9 +1,9 @@
-use Rattle.std.proofs.Common.{◌≡◌, ◌∙◌, ◌<◌, ◌≤◌, ⊎_elim, inl, inr, ℕ, length, sym, ap, subst, arith}
+use Rattle.std.proofs.Common.{◌≡◌, ◌∙◌, ⊎_elim, inl, sym, ap, subst, arith}
 use Rattle.dx_ast.specs.Table.{row_of}
 use Rattle.dx_graph.specs.declared.node.Node.{Node}
 use Rattle.dx_graph.specs.GraphView.{graph_of}
 use Rattle.dx_demand.specs.Memo.{answers_of}
-use Rattle.dx_demand.specs.Searching.{Calls, calls_at, met_by, AllMet}
+use Rattle.dx_demand.specs.Searching.{calls_at, met_by, AllMet}
 use Rattle.dx_demand.specs.declared.settled.Port.{Port}
 use Rattle.dx_demand.proofs.PortSteps.{nodes_of}
 use Rattle.dx_demand.proofs.Searched.{before_stays, row_met, row_fresh, rows_met}

@@ -1,7 +1,7 @@
-use Rattle.std.proofs.Common.{◌≡◌, ◌∙◌, ◌<◌, ◌≤◌, ⊎_elim, inl, inr, ℕ, length, refl, sym, ap, subst, arith}
+use Rattle.std.proofs.Common.{◌≡◌, ◌∙◌, ℕ, length, sym, ap, subst, arith}
 use Rattle.dx_graph.specs.GraphView.{graph_of}
 use Rattle.dx_demand.specs.Memo.{answers_of}
-use Rattle.dx_demand.specs.Searching.{Calls, calls_at, under, met_by, place_of, AllMet, Ground}
+use Rattle.dx_demand.specs.Searching.{Calls, calls_at, under, place_of, AllMet, Ground}
 use Rattle.dx_graph.specs.Graph.{MayTake}
 use Rattle.dx_meaning.specs.Met.{first_place}
 use Rattle.dx_demand.specs.Calling.{IsValued, input_met}
