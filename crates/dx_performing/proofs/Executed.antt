@@ -80,18 +80,18 @@ held_alike n (l ∷ ls) = ap (λ xs. (l.0, l.1.object) ∷ xs) (held_alike (suc 
 
 -- ---- what an execution has from what is kept
 
-abbrev term_or_null : Option Link → ValueTerm
+abbrev pub term_or_null : Option Link → ValueTerm
 term_or_null None = null_term
 term_or_null (Some l) = l.term
 
-abbrev names_of : Kept → Names
+abbrev pub names_of : Kept → Names
 names_of k = record { term = λ key. term_or_null (link_in k.links key); held = value_at k.held }
 
 linked_by : (o : Option Link) (p : Option Object) → p ≡ option_map (λ (l : Link). l.object) o → option_map (λ (l : Link). l.term) o ≡ option_map (λ (x : Object). term_or_null o) p
 linked_by None p e = rw e refl
 linked_by (Some l) p e = rw e refl
 
-full : (x : Fixed) (k : Kept) → IsFull (world_of x k) (names_of k) (sight_of x k)
+pub full : (x : Fixed) (k : Kept) → IsFull (world_of x k) (names_of k) (sight_of x k)
 full x k = record {
   linked = λ key. linked_by (link_in k.links key) (link_at (objects_of k.links) key) (found (is_at (key_cmp key)) k.links);
   written = λ name. refl;
@@ -107,7 +107,7 @@ right_at : (a : Around) (test : Key → Bool) (ls : LinkTerms) → LinksRight a 
 right_at a test [] r o e = cc
 right_at a test (l ∷ ls) r o e = right_by a (test l.0) l.1 (lookup test ls) o r.0 (right_at a test ls r.1 o) e
 
-denote : (x : Fixed) (k : Kept) → LinksRight (around_of x k) k.links → LinksDenote (world_of x k) (names_of k)
+pub denote : (x : Fixed) (k : Kept) → LinksRight (around_of x k) k.links → LinksDenote (world_of x k) (names_of k)
 denote x k r key o e = right_at (around_of x k) (is_at (key_cmp key)) k.links r o (sym (found (is_at (key_cmp key)) k.links) ∙ e)
 
 -- ---- Sets of an execution

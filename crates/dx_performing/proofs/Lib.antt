@@ -2,6 +2,7 @@ pub mod Alike
 pub mod Computed
 pub mod EntriesSound
 pub mod Executed
+pub mod LinksSound
 pub mod Meant
 pub mod Ready
 pub mod Resumed

@@ -303,13 +303,13 @@ module _ (w : World) (n : Names) (s : Sight) (l : LinksDenote w n) (full : IsFul
   besides_agree (Val v) (ErrAt u c) x y p q = rw (p, q) refl
   besides_agree (Val v) (Val vs) x y p q = rw (p, q) refl
 
-  no_file_first : (t : ValueTerm) (ts : ValueTerms) → is_file_term t ≡ false → all_denote a (AndTerm t ts) ≡ denoted_beside (denotes a t) (all_denote a ts)
+  pub no_file_first : (t : ValueTerm) (ts : ValueTerms) → is_file_term t ≡ false → all_denote a (AndTerm t ts) ≡ denoted_beside (denotes a t) (all_denote a ts)
   no_file_first (ConstantTerm c) ts e = refl
   no_file_first (HeldTerm k) ts e = refl
   no_file_first (ResultTerm r c) ts e = refl
   no_file_first (FileTerm b) ts e = cc
 
-  all_agree : (ts : Trees) → Agrees (together (outcomes w ts)).decided (all_denote a (terms_of w n ts))
+  pub all_agree : (ts : Trees) → Agrees (together (outcomes w ts)).decided (all_denote a (terms_of w n ts))
   all_agree NoTree = refl
   all_agree (AndTree t ts) =
       subst (Agrees (decided_beside (outcome w t).decided (together (outcomes w ts)).decided)) (sym (no_file_first (term_of w n t) (terms_of w n ts) (tree_right w n l t).1))

@@ -8,3 +8,4 @@ pub mod Resuming
 pub mod Rows
 pub mod Selectors
 pub mod SoundEntries
+pub mod SoundLinks

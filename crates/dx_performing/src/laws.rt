@@ -4,6 +4,7 @@ ghost use Rattle.dx_performing.specs.Meant.{EffectsComeSo, LeavesWhatIsMeant, Sc
 ghost use Rattle.dx_performing.specs.Resuming.{AllSelectorsGoOn, LookingResumes, ReadyStays, SelectorsGoOn};
 ghost use Rattle.dx_performing.specs.Rows.{Examples};
 ghost use Rattle.dx_performing.specs.SoundEntries.{EntriesStaySound};
+ghost use Rattle.dx_performing.specs.SoundLinks.{LinksStayRight};
 
 /// What an effect prints, puts, sets or refuses; what is passed over; where an execution ends; and which runs, hits and stored
 /// results its course has: a few executions that the definitions compute.
@@ -51,4 +52,9 @@ pub fn formed_calls_stay()
 /// the budget.
 pub fn entries_stay_sound()
     ensures { EntriesStaySound }
+{}
+
+/// Behind an execution each link's object is what its term denotes.
+pub fn links_stay_right()
+    ensures { LinksStayRight }
 {}

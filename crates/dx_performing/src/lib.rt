@@ -6,5 +6,5 @@ mod laws;
 
 pub use laws::{
     entries_stay_sound, examples_compute, executions_leave_what_is_meant, formed_calls_stay,
-    looking_is_meant, looking_resumes, ready_stays, selectors_go_on,
+    links_stay_right, looking_is_meant, looking_resumes, ready_stays, selectors_go_on,
 };
