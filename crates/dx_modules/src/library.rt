@@ -4,6 +4,8 @@ ghost use Rattle.dx_modules.specs.Few.{few};
 
 use dx_base::{Bytes, Module};
 use dx_compute::run_compute;
+use dx_import::run_import;
+use dx_inquire::run_inquire;
 use dx_objects::{Code, Library, Outs, RunFail};
 use std::alloc::Global;
 
@@ -33,10 +35,12 @@ impl Library for Modules {
         alloc: Global,
         module: Module,
         inputs: &Outs,
-        _file: Option<&Bytes>,
+        file: Option<&Bytes>,
     ) -> Result<Outs, RunFail> {
         match module {
+            Module::Import => run_import(alloc, inputs, file),
             Module::Compute => run_compute(alloc, inputs),
+            Module::Inquire => run_inquire(alloc, inputs),
             _ => Err(RunFail::Code(Code::Unsupported)),
         }
     }
