@@ -1,8 +1,13 @@
 //! Import.
-ghost use Rattle.std.specs.Prelude.{◌≡◌, Some, None, MatchOption, IfOk, option_map};
+ghost use Rattle.std.specs.Prelude.{◌≡◌, Some, None, Result, MatchOption, IfOk, option_map};
 ghost use Rattle.std.specs.Option.{option_copied};
 ghost use Rattle.dx_import.specs.Import as spec;
 ghost use Rattle.dx_import.specs.Import.{import_answer};
+ghost use Rattle.dx_base.specs.Object.{Tree};
+ghost use Rattle.dx_native_fields.specs.Good.{good_fields};
+ghost use Rattle.dx_native_lex.specs.declared.fault.NativeError.{NativeError as Fault};
+ghost use Rattle.dx_native_read.specs.Answer.{Means};
+ghost use Rattle.dx_native_read.specs.Found.{checked_object};
 ghost use Rattle.dx_objects.specs.Runs.{Gives};
 ghost use Rattle.dx_objects.specs.Values.{value_at, value_of};
 
@@ -86,8 +91,27 @@ fn import(alloc: Global, variable: Option<&[u8]>, bytes: &[u8]) -> Result<Outs, 
     ensures { Gives (spec.imported (spec.meaning bytes.now (option_map (λ name. name.now) variable.entry))) result }
 {
     let which = name_of(alloc, variable)?;
-    match read_checked(alloc, bytes, which.as_ref()) {
-        Ok(checked) => answer(alloc, checked),
+    answer(alloc, read_named(alloc, bytes, &which))
+}
+
+// What a text means where this object of it is asked for, and whether the fields within have no faults.
+fn read_named(alloc: Global, bytes: &[u8], which: &Option<Bytes>) -> Result<Checked, NativeFail>
+    ensures means { Means (spec.meaning bytes.now which.now) (checked_object result) }
+    ensures good { IfOk result (λ checked. checked.good_fields ≡ good_fields checked.object) }
+{
+    match which {
+        None => read_checked(alloc, bytes, None),
+        Some(name) => read_checked(alloc, bytes, Some(name)),
+    }
+}
+
+// What Import answers, where this was read.
+fn answer(alloc: Global, read: Result<Checked, NativeFail>) -> Result<Outs, RunFail>
+    requires { IfOk read (λ checked. checked.good_fields ≡ good_fields checked.object) }
+    ensures { (meant : Result Tree Fault) → Means meant (checked_object read) → Gives (spec.imported meant) result }
+{
+    match read {
+        Ok(checked) => object_answer(alloc, checked),
         Err(NativeFail::Refused(fault)) => {
             Err(RunFail::Code(Code::BadFile(fault.kind, fault.at)))
         }
@@ -104,7 +128,7 @@ fn name_of(alloc: Global, text: Option<&[u8]>) -> Result<Option<Bytes>, AllocErr
     }
 }
 
-fn answer(alloc: Global, checked: Checked) -> Result<Outs, RunFail>
+fn object_answer(alloc: Global, checked: Checked) -> Result<Outs, RunFail>
     ensures { Gives (spec.by_fields checked.good_fields checked.object) result }
 {
     if !checked.good_fields {

@@ -6,7 +6,7 @@ use Rattle.dx_native_grammar.specs.declared.clause.Clause.{Clause}
 use Rattle.dx_native_grammar.specs.Meaning.{tree_at}
 use Rattle.dx_native_walk.specs.Answer.{IsKnown}
 use Rattle.dx_native_read.specs.declared.read.Found.{Found}
-use Rattle.dx_native_read.specs.declared.read.Read.{Read}
+use Rattle.dx_native_read.specs.declared.read.Contents.{Contents}
 use Rattle.dx_native_read.specs.declared.read.Checked.{Checked}
 
 -- it is what its clause means, and so is what was built for it
@@ -17,8 +17,8 @@ abbrev pub found_object : Result Found NativeFail → Result Tree NativeFail
 found_object (Ok found) = Ok found.object
 found_object (Err e) = Err e
 
-abbrev pub read_tree : Result Read NativeFail → Result Tree NativeFail
-read_tree (Ok read) = Ok read.found.object
+abbrev pub read_tree : Result Contents NativeFail → Result Tree NativeFail
+read_tree (Ok contents) = Ok contents.found.object
 read_tree (Err e) = Err e
 
 abbrev pub checked_object : Result Checked NativeFail → Result Tree NativeFail

@@ -20,7 +20,7 @@ use dx_native_lex::{NativeError, NativeFail};
 use dx_native_references::references_fault;
 use dx_native_walk::{BuildFail, Memo, clause_object, nothing_built};
 use dx_objects::Object;
-use std::alloc::Global;
+use std::alloc::{AllocError, Global};
 
 /// An object of a file, the place of its clause, and the objects that were built for it.
 #[derive(Drop)]
@@ -32,7 +32,7 @@ pub(crate) struct Found {
 
 /// An object of a file with the file's clauses.
 #[derive(Drop)]
-pub(crate) struct Read {
+pub(crate) struct Contents {
     clauses: ClauseTable,
     found: Found,
 }
@@ -184,7 +184,10 @@ pub fn read_object(alloc: Global, bytes: &[u8], which: Option<&Bytes>) -> Result
     // The origins and deltas of regular arrays and of grids' points are ints.
     ensures ints { IfOk result (λ t. steps_by_ints t ≡ true) }
 {
-    Ok(read(alloc, bytes, which)?.found.object)
+    match read(alloc, bytes, which) {
+        Err(fail) => Err(fail),
+        Ok(contents) => Ok(object_of(contents)),
+    }
 }
 
 /// What a file means, as `read_object` has it, and whether the fields within are good. Each clause is looked at once for
@@ -199,7 +202,25 @@ pub fn read_checked(
     ensures ints { IfOk result (λ checked. steps_by_ints checked.object ≡ true) }
     ensures good { IfOk result (λ checked. checked.good_fields ≡ good_fields checked.object) }
 {
-    let Read { clauses, found } = read(alloc, bytes, which)?;
+    match read(alloc, bytes, which) {
+        Err(fail) => Err(fail),
+        Ok(contents) => Ok(with_check(alloc, contents)?),
+    }
+}
+
+fn object_of(contents: Contents) -> Object
+    ensures { result ≡ contents.found.object }
+{
+    let Contents { clauses: _, found } = contents;
+    found.object
+}
+
+fn with_check(alloc: Global, contents: Contents) -> Result<Checked, AllocError>
+    requires { IsFound contents.clauses contents.found }
+    ensures object { IfOk result (λ checked. checked.object ≡ contents.found.object) }
+    ensures good { IfOk result (λ checked. checked.good_fields ≡ good_fields contents.found.object) }
+{
+    let Contents { clauses, found } = contents;
     let Found {
         object,
         place,
@@ -212,14 +233,24 @@ pub fn read_checked(
     })
 }
 
-fn read(alloc: Global, bytes: &[u8], which: Option<&Bytes>) -> Result<Read, NativeFail>
+/// The clauses of a file, and the object that is asked for.
+fn read(alloc: Global, bytes: &[u8], which: Option<&Bytes>) -> Result<Contents, NativeFail>
     ensures answers { Answers bytes.now (option_map (λ b. b.now) which.entry) (read_tree result) }
-    ensures ints { IfOk result (λ read. steps_by_ints read.found.object ≡ true) }
-    ensures found { IfOk result (λ read. IsFound read.clauses read.found) }
+    ensures only { (r : Result Tree Fault) → IsNative bytes.now (option_map (λ b. b.now) which.entry) r → Means r (read_tree result) }
+    ensures ints { IfOk result (λ contents. steps_by_ints contents.found.object ≡ true) }
+    ensures found { IfOk result (λ contents. IsFound contents.clauses contents.found) }
+{
+    contents_of(alloc, bytes, which)
+}
+
+fn contents_of(alloc: Global, bytes: &[u8], which: Option<&Bytes>) -> Result<Contents, NativeFail>
+    ensures answers { Answers bytes.now (option_map (λ b. b.now) which.entry) (read_tree result) }
+    ensures ints { IfOk result (λ contents. steps_by_ints contents.found.object ≡ true) }
+    ensures found { IfOk result (λ contents. IsFound contents.clauses contents.found) }
 {
     let file = read_clauses(alloc, bytes)?;
     let found = object_of_file(alloc, &file, which, bytes.len() as u64)?;
-    Ok(Read {
+    Ok(Contents {
         clauses: file.clauses,
         found,
     })
