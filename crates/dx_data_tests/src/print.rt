@@ -22,6 +22,8 @@ enum Sample<'a> {
     Field(&'a [&'a [u8]]),
     Group(&'a [&'a [u8]]),
     Series(&'a [&'a [u8]]),
+    /// A group of one member `a` with an attribute `b`.
+    Attributed,
 }
 
 fn of_array(alloc: Global, array: Array) -> Result<Object, Fail> {
@@ -71,6 +73,11 @@ fn series(alloc: Global, names: &[&[u8]]) -> Result<Object, Fail> {
     Ok(Object::series(parts, none)?)
 }
 
+fn attributed(alloc: Global) -> Result<Object, Fail> {
+    let (members, attributes) = (parts(alloc, &[b"a"])?, parts(alloc, &[b"b"])?);
+    Ok(Object::group(members, attributes)?)
+}
+
 // The points of a small grid.
 fn small_grid(alloc: Global) -> Result<Array, Fail> {
     points(alloc, &[2, 2], &[0, -1], &[10, 0, 0, 1])
@@ -83,6 +90,7 @@ fn object(alloc: Global, sample: Sample) -> Result<Option<Object>, Fail> {
         Sample::Field(names) => return Ok(Some(field(alloc, names)?)),
         Sample::Group(names) => return Ok(Some(group(alloc, names)?)),
         Sample::Series(names) => return Ok(Some(series(alloc, names)?)),
+        Sample::Attributed => return Ok(Some(attributed(alloc)?)),
         Sample::Numbers(elem, values) => plain(alloc, elem, &[], values)?,
         Sample::Shaped(extents, values) => plain(alloc, ElemType::Int, extents, values)?,
         Sample::Constant(items, item) => constant(alloc, &[2], items, item)?,
@@ -105,6 +113,7 @@ fn fail_name(fail: RunFail) -> &'static str {
         RunFail::Memory => "Memory",
         RunFail::Code(Code::BadArgument) => "BadArgument",
         RunFail::Code(Code::Unsupported) => "Unsupported",
+        RunFail::Code(Code::NoComponent) => "NoComponent",
         RunFail::Code(_) => "another code",
     }
 }
@@ -272,15 +281,82 @@ fn print_refuses_options_and_then_the_component(rt: HostRuntime) -> Result<(), F
             "BadArgument",
         ),
         ([NUMBER, Sample::Text(b"x"), Sample::Null], "Unsupported"),
-        ([NUMBER, Sample::Text(b""), Sample::Null], "Unsupported"),
-        ([NUMBER, Sample::Text(b"r"), Sample::Null], "Unsupported"),
-        ([NUMBER, Sample::Text(b"D"), Sample::Null], "Unsupported"),
-        ([NUMBER, Sample::Text(b"od"), Sample::Null], "Unsupported"),
-        ([NUMBER, Sample::Text(b"x"), text], "Unsupported"),
-        ([Sample::Field(&[b"data"]), D, text], "Unsupported"),
-        ([NUMBER, Sample::Null, NUMBER], "Unsupported"),
+        ([NUMBER, Sample::Text(b"od "), Sample::Null], "Unsupported"),
+        ([NUMBER, Sample::Text(b"x"), NUMBER], "Unsupported"),
+        ([NUMBER, Sample::Null, NUMBER], "BadArgument"),
+        ([Sample::Null, D, NUMBER], "BadArgument"),
+        ([NUMBER, Sample::Null, text], "NoComponent"),
+        ([Sample::Text(b"data"), D, text], "NoComponent"),
+        ([Sample::Series(&[b""]), D, text], "NoComponent"),
+        ([Sample::Field(&[b"positions"]), D, text], "NoComponent"),
+        ([Sample::Group(&[b"a", b""]), D, text], "NoComponent"),
     ] {
         assert!(rt; prints(rt.alloc(), inputs, code)?);
+    }
+    Ok(())
+}
+
+#[test]
+fn print_takes_letters_in_any_order_and_number(rt: HostRuntime) -> Result<(), Fail> {
+    let header = "array plain int rank 0 items 1\n";
+    let whole = "array plain int rank 0 items 1\n5\n";
+    let letters: [(&[u8], &str); 6] = [
+        (b"", header),
+        (b"oor", header),
+        (b"do", whole),
+        (b"D", whole),
+        (b"dDrd", whole),
+        (b"ro", header),
+    ];
+    for (options, text) in letters {
+        assert!(rt;
+            prints(
+                rt.alloc(),
+                [NUMBER, Sample::Text(options), Sample::Null],
+                text
+            )?
+        );
+    }
+    Ok(())
+}
+
+#[test]
+fn print_shows_parts_and_attributes_further_in(rt: HostRuntime) -> Result<(), Fail> {
+    let options = Sample::Text(b"rd");
+    for (object, text) in [
+        (
+            Sample::Group(&[b"a\"b", b""]),
+            "group 2 members\n  member \"a\\\"b\":\n    array gridconnections int rank 1 shape 2 items 2\n    0 1\n    1 2\n  member:\n    array gridconnections int rank 1 shape 2 items 2\n    0 1\n    1 2\n",
+        ),
+        (
+            Sample::Field(&[b"data"]),
+            "field 1 components\n  component \"data\":\n    array gridconnections int rank 1 shape 2 items 2\n    0 1\n    1 2\n",
+        ),
+        (
+            Sample::Series(&[b""]),
+            "series 1 members\n  member at 0:\n    array gridconnections int rank 1 shape 2 items 2\n    0 1\n    1 2\n",
+        ),
+        (
+            Sample::Attributed,
+            "group 1 members\n  member \"a\":\n    array gridconnections int rank 1 shape 2 items 2\n    0 1\n    1 2\n  attribute \"b\":\n    array gridconnections int rank 1 shape 2 items 2\n    0 1\n    1 2\n",
+        ),
+        (NUMBER, "array plain int rank 0 items 1\n5\n"),
+    ] {
+        assert!(rt; prints(rt.alloc(), [object, options, Sample::Null], text)?);
+    }
+    Ok(())
+}
+
+#[test]
+fn print_shows_a_component_or_a_member(rt: HostRuntime) -> Result<(), Fail> {
+    let cells = "array gridconnections int rank 1 shape 2 items 2\n0 1\n1 2\n";
+    let text = Sample::Text(b"data");
+    for (object, printed) in [
+        (Sample::Field(&[b"x", b"data"]), cells),
+        (Sample::Group(&[b"", b"data"]), cells),
+        (Sample::Null, "NULL\n"),
+    ] {
+        assert!(rt; prints(rt.alloc(), [object, D, text], printed)?);
     }
     Ok(())
 }

@@ -18,7 +18,7 @@ use Rattle.dx_demand.specs.declared.pick.Pick.{Pick}
 use Rattle.dx_demand.specs.declared.settled.Port.{Port}
 use Rattle.dx_meaning.proofs.Keeping.{same_terms}
 
-shelf_same : (links : LinkMap) (terms : List Term) (s : Sight) → Holds links terms s → terms_in s ≡ shelf_with (value_term (heads_of terms)) links
+pub shelf_same : (links : LinkMap) (terms : List Term) (s : Sight) → Holds links terms s → terms_in s ≡ shelf_with (value_term (heads_of terms)) links
 shelf_same links terms s h = λ i. record { null = null_term; text = text_term; held = λ k. h k i }
 
 pub code_pick : (nodes : List Node) (links : LinkMap) (terms : List Term) (s : Sight) → Holds links terms s → (p : Port) (v : Value) (c : Pick) →

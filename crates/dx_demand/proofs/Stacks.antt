@@ -18,7 +18,7 @@ use Rattle.dx_demand.specs.declared.seen.Frame.{Frame}
 
 -- ---- ports
 
-port_of : (p q : Port) → same_port p q ≡ true → p ≡ q
+pub port_of : (p q : Port) → same_port p q ≡ true → p ≡ q
 port_of p q h = λ i. record { node = (unsigned_Decides p.node q.node).0 (first_so (p.node == q.node) (p.result == q.result) h) i; result = (unsigned_Decides p.result q.result).0 (second_so (p.node == q.node) (p.result == q.result) h) i }
 
 both_true : (a b : Bool) → a ≡ true → b ≡ true → (a && b) ≡ true

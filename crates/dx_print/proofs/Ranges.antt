@@ -1,10 +1,10 @@
 -- The words of an item and the lines of items, from one on.
-use Rattle.std.proofs.Common.{◌≡◌, ◌<◌, ◌≤◌, ◌+◌, ◌-◌, ◌++◌, ◌∷◌, [], ℕ, suc, List, map, ◌∙◌, refl, sym, subst, append_assoc, append-nil, arith}
+use Rattle.std.proofs.Common.{◌≡◌, ◌<◌, ◌≤◌, ◌+◌, ◌-◌, ◌++◌, ◌∷◌, [], ℕ, zero, suc, List, map, replicate, ap, ◌∙◌, refl, sym, subst, append_assoc, append-nil, arith}
 use Rattle.std.specs.List.{range_with_len}
 use Rattle.std.specs.Fmt.{signed_decimal}
 use Rattle.dx_base.specs.Array.{ArrayData, width, value}
 use Rattle.dx_base.specs.Words.{behind}
-use Rattle.dx_print.specs.ItemLines.{item_text, lines_of}
+use Rattle.dx_print.specs.ItemLines.{item_text, item_line, lines_of}
 
 range_begin : (n : ℕ) → 0 < n → range_with_len 0 n ≡ 0 ∷ range_with_len 1 (n - 1)
 range_begin n h =
@@ -39,15 +39,32 @@ unfolding words_from
 words_end a i k out whole h e = sym (append-nil out) ∙ rw (range_past k (width a) h) at e
 
 -- the lines of the items from k on, without those from n on
-pub lines_next : (a : ArrayData) (k n : ℕ) (before out whole : List ℕ) → k < n → before ++ lines_of 0 a k (n - k) ≡ whole →
-    out ≡ (before ++ item_text a k) ++ 10 ∷ [] → out ++ lines_of 0 a (k + 1) (n - (k + 1)) ≡ whole
+pub lines_next : (indent : ℕ) (a : ArrayData) (k n : ℕ) (before out whole : List ℕ) → k < n → before ++ lines_of indent a k (n - k) ≡ whole →
+    out ≡ before ++ item_line indent a k → out ++ lines_of indent a (k + 1) (n - (k + 1)) ≡ whole
 unfolding lines_of
-lines_next a k n before out whole h e next =
+lines_next indent a k n before out whole h e next =
     let one : n - k ≡ suc (n - (k + 1)) = omega arith in
-    rw next (simp append_assoc (simp append_assoc at (rw one at e)))
+    rw next (append_assoc before (item_line indent a k) _ ∙ rw one at e)
 
-pub lines_end : (a : ArrayData) (k n : ℕ) (out whole : List ℕ) → n ≤ k → out ++ lines_of 0 a k (n - k) ≡ whole → out ≡ whole
+pub lines_end : (indent : ℕ) (a : ArrayData) (k n : ℕ) (out whole : List ℕ) → n ≤ k → out ++ lines_of indent a k (n - k) ≡ whole → out ≡ whole
 unfolding lines_of
-lines_end a k n out whole h e =
+lines_end indent a k n out whole h e =
     let none : n - k ≡ 0 = omega arith in
     sym (append-nil out) ∙ rw none at e
+
+-- ---- spaces
+
+abbrev spaces : ℕ → List ℕ
+spaces k = replicate k 32
+
+abbrev one_space : List ℕ
+one_space = 32 ∷ []
+
+spaces_more : (k : ℕ) → spaces k ++ one_space ≡ spaces (suc k)
+spaces_more zero = refl
+spaces_more (suc k) = ap (λ (xs : List ℕ). 32 ∷ xs) (spaces_more k)
+
+pub spaces_next : (old out new : List ℕ) (k : ℕ) → out ≡ old ++ replicate k 32 → new ≡ out ++ 32 ∷ [] → new ≡ old ++ replicate (k + 1) 32
+spaces_next old out new k e f =
+    let one : suc k ≡ k + 1 = omega arith in
+    f ∙ ap (λ (xs : List ℕ). xs ++ one_space) e ∙ append_assoc old (spaces k) one_space ∙ ap (λ (xs : List ℕ). old ++ xs) (spaces_more k ∙ ap spaces one)

@@ -1,5 +1,7 @@
 pub mod Header
 pub mod ItemLines
 pub mod Printed
+pub mod Nested
 pub mod Echoed
 pub mod Results
+pub mod Lines

@@ -5,9 +5,12 @@ mod detail;
 mod echo;
 mod header;
 mod item_lines;
+mod lines;
+mod parts;
 mod print;
 
 pub use dx_base::{Bytes, Code};
 pub use dx_objects::{Outs, RunFail};
 pub use echo::echo_text;
+pub use lines::{LinkName, Traced, push_link_line, push_links_line, push_trace_line};
 pub use print::print_text;

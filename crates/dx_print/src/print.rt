@@ -1,22 +1,26 @@
 // What Print prints.
 ghost use Rattle.std.specs.Prelude.{◌≡◌, ◌++◌, length, OnOk, MatchResult, Ok, Err};
 ghost use Rattle.dx_objects.specs.Values.{value_of};
-ghost use Rattle.dx_print.specs.Printed.{array_in, chosen as spec_chosen, items_shown, print_of, text_at};
-ghost use Rattle.dx_print.specs.Results.{Prints, LacksRoomForText};
+ghost use Rattle.dx_print.specs.Printed as spec;
+ghost use Rattle.dx_print.specs.Printed.{print_of};
+ghost use Rattle.dx_print.specs.Results.{Prints, LacksRoomForText, shown};
 
 use crate::detail::{Detail, detail_of};
-use crate::header::push_header;
-use crate::item_lines::push_few_items;
+use crate::item_lines::push_line;
+use crate::parts::push_object;
 use dx_base::{Bytes, Code};
-use dx_objects::{Outs, RunFail, Value};
+use dx_objects::{Object, Outs, RunFail, Value};
 use std::alloc::{AllocError, Global};
 
 /// What Print prints of its three inputs: object, options, component. The options are NULL, which is taken as `o`, or
-/// a text: with `o` the header of the object, with `d` also the items of an array, of more than 50 the first 25, a
-/// line `...` and the last 25. Each line ends with a newline.
+/// a text of letters in any order and number: the header of the object is printed, with `D` also the items of an array, with
+/// `d` of more than 50 the first 25, a line `...` and the last 25, and with `r` also its parts and attributes, to any
+/// depth. The component is NULL or a text; where the object isn't NULL, its component or member of this name is printed in its
+/// place. Each line ends with a newline.
 ///
-/// Options of another kind are BadArgument; then any other text of options, and then a component that isn't NULL, is
-/// Unsupported (User's Reference, Print). A code comes also where there is no memory.
+/// BadArgument where the options are of another kind; then Unsupported where they have another letter; then BadArgument
+/// where the component is of another kind; then NoComponent where an object has none of the name (User's Reference,
+/// Print). A code comes also where there is no memory.
 pub fn print_text(alloc: Global, inputs: &Outs) -> Result<Bytes, RunFail>
     requires { length inputs.now ≡ 3 }
     ensures prints { Prints (print_of inputs.now) result }
@@ -32,37 +36,58 @@ pub fn print_text(alloc: Global, inputs: &Outs) -> Result<Bytes, RunFail>
     Ok(Bytes::from_vec(text))
 }
 
-// The object that is printed: a component of it isn't looked for yet.
-fn chosen<'a>(object: &'a Value, component: &Value) -> Result<&'a Value, Code>
-    ensures { MatchResult result (λ v. spec_chosen (value_of object.now) (value_of component.now) ≡ Ok (value_of v.now)) (λ code. spec_chosen (value_of object.now) (value_of component.now) ≡ Err code) }
+// The object that is printed: the whole, or its component or member of the name that is asked for.
+fn chosen<'a>(object: &'a Value, component: &Value) -> Result<Option<&'a Object>, Code>
+    ensures { MatchResult result (λ v. spec.chosen (value_of object.now) (value_of component.now) ≡ Ok (shown v)) (λ code. spec.chosen (value_of object.now) (value_of component.now) ≡ Err code) }
 {
-    match component {
-        None => Ok(object),
-        Some(_) => Err(Code::Unsupported),
+    let Some(component) = component else {
+        return Ok(object_in(object));
+    };
+    match component.as_text() {
+        None => Err(Code::BadArgument),
+        Some(name) => part_in(name, object),
     }
 }
 
-// The header of the value on a line, and what is asked for below it.
-fn push_text(out: &mut Vec<u8>, value: &Value, detail: Detail) -> Result<(), AllocError>
-    ensures { OnOk result (out.new.items ≡ out.old.items ++ text_at 0 detail (value_of value.now)) }
+fn object_in(value: &Value) -> Option<&Object>
+    ensures { shown result ≡ value_of value.now }
 {
-    push_header(out, value)?;
-    out.push(b'\n')?;
-    match detail {
-        Detail::Header => Ok(()),
-        Detail::FewItems => push_items_of(out, value),
+    match value {
+        None => None,
+        Some(object) => Some(object),
     }
 }
 
-// The items of a value that is an array.
-fn push_items_of(out: &mut Vec<u8>, value: &Value) -> Result<(), AllocError>
-    ensures { OnOk result (out.new.items ≡ out.old.items ++ items_shown Detail.FewItems 0 (array_in (value_of value.now))) }
+// The component or the member of this name, and NULL of NULL.
+fn part_in<'a>(name: &[u8], value: &'a Value) -> Result<Option<&'a Object>, Code>
+    ensures { MatchResult result (λ v. spec.part_in name.now (value_of value.now) ≡ Ok (shown v)) (λ code. spec.part_in name.now (value_of value.now) ≡ Err code) }
 {
     let Some(object) = value else {
-        return Ok(());
+        return Ok(None);
     };
-    match object.as_array() {
-        None => Ok(()),
-        Some(array) => push_few_items(out, array),
+    if let Some(part) = object.component(name) {
+        return Ok(Some(part));
     }
+    match object.member(name) {
+        None => Err(Code::NoComponent),
+        Some(part) => Ok(Some(part)),
+    }
+}
+
+// The text of the object, or the line of NULL.
+fn push_text(out: &mut Vec<u8>, object: Option<&Object>, detail: Detail) -> Result<(), AllocError>
+    ensures { OnOk result (out.new.items ≡ out.old.items ++ spec.value_text detail (shown object.entry)) }
+{
+    match object {
+        None => push_line(out, 0, b"NULL"),
+        Some(object) => push_whole(out, object, detail),
+    }
+}
+
+fn push_whole(out: &mut Vec<u8>, object: &Object, detail: Detail) -> Result<(), AllocError>
+    ensures { OnOk result (out.new.items ≡ out.old.items ++ spec.text_at detail 0 object.now) }
+{
+    // Asked so that the proof knows that the indents stay small.
+    let _levels = object.levels();
+    push_object(out, object, detail, 0)
 }

@@ -4,8 +4,7 @@ use Rattle.dx_print.proofs.item_lines.push_lines.Goals as goal
 
 pub loop-item-preserved : goal.loop-item-preserved
 loop-item-preserved c =
-    lines_next c.args.array.now c.loop-item.item c.args.to _ _ _ (omega arith) c.loop-item.invariant
-    (rw c.in_ok-push_item.ensures at c.in_ok-push.ensures.items)
+    lines_next c.args.indent c.args.array.now c.loop-item.item c.args.to _ _ _ (omega arith) c.loop-item.invariant c.in_ok-push_item_line.ensures
 
 pub returns : goal.returns
-returns c = lines_end c.args.array.now c.loop-item.item c.args.to _ _ (omega arith) c.loop-item.invariant
+returns c = lines_end c.args.indent c.args.array.now c.loop-item.item c.args.to _ _ (omega arith) c.loop-item.invariant

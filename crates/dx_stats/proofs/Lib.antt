@@ -1,0 +1,5 @@
+pub mod Held
+pub mod Single
+pub mod Roots
+pub mod Narrowed
+pub mod Five
