@@ -65,6 +65,9 @@ pub(crate) fn answers(
     file: Option<&Bytes>,
     text: &str,
 ) -> Result<bool, Fail> {
+    if !module.takes(inputs.len()) {
+        return Ok(false);
+    }
     let mut library = Recorder::new(alloc, Modules::new());
     let answer = library.run(alloc, module, inputs, file);
     if library.runs().len() != 1 {
@@ -83,6 +86,9 @@ pub(crate) fn kind_of_answer(
     inputs: &Outs,
     file: &Bytes,
 ) -> Result<&'static str, Fail> {
+    if !Module::Import.takes(inputs.len()) {
+        return Ok("other inputs");
+    }
     match Modules::new().run(alloc, Module::Import, inputs, Some(file)) {
         Ok(_) => Ok("an object"),
         Err(RunFail::Code(code)) => Ok(code_name(code)),

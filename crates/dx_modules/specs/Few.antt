@@ -28,6 +28,9 @@ use Rattle.dx_inquire.specs.declared.question.Question.{Question}
 use Rattle.dx_inquire.specs.declared.question.Question.TheVariants.{IsNull, Is, Of, MemberCount, GridCounts, Other}
 use Rattle.dx_inquire.specs.declared.question.ArrayQuestion.{ArrayQuestion}
 use Rattle.dx_inquire.specs.declared.question.ArrayQuestion.TheVariants.{Items, Rank, Elem, Shape}
+use Rattle.dx_select.specs.Answered as parts
+use Rattle.dx_stats.specs.Numbers.{numbers_in}
+use Rattle.dx_stats.specs.Statistics.{answer_over}
 use Rattle.dx_modules.specs.Answer.{answer_of}
 
 -- ---- Compute
@@ -110,18 +113,30 @@ few_asked : (q : Option Question) (v unused : Option Tree) → HasFewResults (an
 few_asked None v unused = tt
 few_asked (Some q) v unused = few_unused unused (inquire.answer q v) (few_answers q v)
 
+-- ---- parts of objects
+
+few_one : (there : parts.Answered Tree) → HasFewResults (parts.one_result there)
+few_one (Ok t) = omega arith
+few_one (Err code) = tt
+
+-- ---- Statistics
+
+few_over : (a : Result ArrayData Code) → HasFewResults (answer_over a)
+few_over (Ok a) = omega arith
+few_over (Err code) = tt
+
 pub few : (m : Module) (inputs : Values) (file : Option (List ℕ)) → HasFewResults (answer_of m inputs file)
 few computing.Compute inputs file = one_of (expression_in (value_at inputs 0)) (λ e. answer_within max_levels e (occurring e 0 (drop 1 inputs)))
 few computing.Import inputs file = few_unless (refused_inputs inputs) (from_file (text_in (value_at inputs 1)) file) (few_from_file (text_in (value_at inputs 1)) file)
-few computing.Select inputs file = tt
-few computing.Extract inputs file = tt
-few computing.Replace inputs file = tt
-few computing.Mark inputs file = tt
-few computing.Unmark inputs file = tt
+few computing.Select inputs file = few_one _
+few computing.Extract inputs file = few_one _
+few computing.Replace inputs file = few_one _
+few computing.Mark inputs file = few_one _
+few computing.Unmark inputs file = few_one _
 few computing.Slab inputs file = tt
-few computing.Statistics inputs file = tt
+few computing.Statistics inputs file = few_over (numbers_in (value_at inputs 0))
 few computing.Histogram inputs file = tt
-few computing.Collect inputs file = tt
-few computing.CollectNamed inputs file = tt
-few computing.CollectSeries inputs file = tt
+few computing.Collect inputs file = few_one _
+few computing.CollectNamed inputs file = few_one _
+few computing.CollectSeries inputs file = few_one _
 few computing.Inquire inputs file = few_asked (asked (value_at inputs 1)) (value_at inputs 0) (value_at inputs 2)
