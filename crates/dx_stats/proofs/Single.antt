@@ -106,3 +106,10 @@ some_sums a s e some h =
     let count = count_values a 0 (items a) e in
     let is = h.count in
     omega (arith, count, is)
+
+pub plain_count : (a : ArrayData) (vs : List ℤ) → a.extents ≡ [] → plain_of a.class ≡ Some vs → items a ≡ length vs
+plain_count a vs e h = plain_count_by (width a) a.class vs (single_width a e) h
+
+-- all numbers, read behind none
+pub all_read : (a : ArrayData) (read : List ℤ) → read ≡ [] ++ values_from a 0 (items a - 0) → read ≡ numbers a
+all_read a read h = let whole : items a - 0 ≡ items a = omega arith in h ∙ ap (values_from a 0) whole
