@@ -45,7 +45,7 @@ mean_by n s = floor s n
 abbrev pub variance_by : ℕ → ℤ → ℤ → ℤ
 variance_by n s z = floor (pos n *ℤ z -ℤ s *ℤ s) (n * n)
 
--- the variance isn't negative, which is one of the laws
+-- the root of a variance, which no numbers make negative
 abbrev pub root_of : ℤ → ℤ
 root_of variance = pos (root (unsigned_abs variance))
 
