@@ -1,5 +1,5 @@
 -- The terms of a call's arguments, and of the file behind them.
-use Rattle.std.proofs.Common.{◌≡◌, ℕ, List, [], ◌∷◌, ◌++◌, Option, Some, None, refl, sym, ap, ap₂, ◌∙◌}
+use Rattle.std.proofs.Common.{◌≡◌, ℕ, List, [], ◌∷◌, ◌++◌, Some, None, refl, ap}
 use Rattle.dx_tags.specs.declared.term.ValueTag.{ValueTag}
 use Rattle.dx_tags.specs.Closed.{Head, FileTerm, ValueTerm, ValueTerms, NoTerm, AndTerm, value_term, value_terms}
 use Rattle.dx_meaning.specs.Scan.{with_file}

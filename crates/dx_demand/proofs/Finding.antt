@@ -1,21 +1,20 @@
 -- Values that can be got can be got as terms are added and calls formed.
-use Rattle.std.proofs.Common.{◌≡◌, ◌⊎◌, ⊎_elim, inl, inr, ℕ, zero, suc, ◌+◌, ◌<◌, ◌≤◌, List, [], ◌∷◌, ◌++◌, length, Option, Some, None, Bool, true, false, refl, sym, ap, ◌∙◌, subst, arith, length-append}
+use Rattle.std.proofs.Common.{◌≡◌, ⊎_elim, inl, inr, ℕ, zero, suc, ◌+◌, ◌<◌, ◌≤◌, List, [], ◌∷◌, ◌++◌, length, Option, Some, None, Bool, true, refl, sym, ap, ◌∙◌, subst, arith}
 use Rattle.std.specs.Prelude.{slice_get, ◌==◌}
-use Rattle.std.proofs.lemmas.Option.{slice_get_within}
 use Rattle.std.specs.Cmp.{unsigned_Decides}
 use Rattle.dx_graph.specs.Graph.{Node}
 use Rattle.dx_base.specs.declared.function.Module.{Module}
 use Rattle.dx_tags.specs.declared.term.Term.{Term}
 use Rattle.dx_tags.specs.declared.term.Term.TheVariants.{Call}
 use Rattle.dx_tags.specs.declared.term.ValueTag.{ValueTag}
-use Rattle.dx_tags.specs.Closed.{Head, ConstantHead, HeldHead, CallHead, FileHead, head_at, heads_of, AreEarlier, IsFormed, AreFormed, AllFormed, GoesOn, ConstantTerm, FileTerm, value_term, result_of_head, ValueTerm}
+use Rattle.dx_tags.specs.Closed.{Head, ConstantHead, HeldHead, CallHead, FileHead, heads_of, AreEarlier, IsFormed, AreFormed, AllFormed, GoesOn, ConstantTerm, FileTerm, result_of_head}
 use Rattle.dx_tags.proofs.Growth.{heads_grow}
 use Rattle.dx_ast.specs.declared.constants.Const.{Const}
 use Rattle.dx_links.specs.LinkMap.{LinkMap}
-use Rattle.dx_demand.specs.Memo.{FirstNodes, answers_of, selector_of, formed_of, with_formed, first_or, with_answer, SettledFits, MemoFits, EmptyMemo}
-use Rattle.dx_demand.specs.Stack.{fresh, Opens, FrameFits, StackFits}
-use Rattle.dx_demand.specs.Terms.{IsValue, AreArguments}
-use Rattle.dx_demand.specs.Found.{NeedsNoCall, IsLinked, IsFirst, Kept, IsFound, AllFound, ArgumentsFound, SettledFound, MemoFound, StackFound}
+use Rattle.dx_demand.specs.Memo.{FirstNodes, answers_of, formed_of, with_formed, first_or, with_answer, SettledFits, MemoFits, EmptyMemo}
+use Rattle.dx_demand.specs.Stack.{Opens, StackFits}
+use Rattle.dx_demand.specs.Terms.{IsValue}
+use Rattle.dx_demand.specs.Found.{NeedsNoCall, IsFirst, Kept, IsFound, AllFound, ArgumentsFound, SettledFound, MemoFound, StackFound}
 use Rattle.dx_demand.specs.declared.settled.Port.{Port}
 use Rattle.dx_demand.specs.declared.settled.Answer.{Answer}
 use Rattle.dx_demand.specs.declared.settled.Settled.{Settled}

@@ -1,25 +1,23 @@
 -- Terms that are added change nothing of what earlier tags name.
 use Rattle.dx_demand.specs.Terms.{AreArguments, IsValue}
 use Rattle.dx_demand.proofs.Terms.{arguments_on, value_grow}
-use Rattle.std.proofs.Common.{◌≡◌, ℕ, ◌<◌, ◌≤◌, List, [], ◌∷◌, ◌++◌, length, Option, Some, None, option_map, refl, sym, ap, ◌∙◌, subst, arith}
-use Rattle.dx_graph.specs.Graph.{Node, node_at}
+use Rattle.std.proofs.Common.{◌≡◌, List, [], ◌∷◌, length, Option, Some, None, option_map, refl, sym, ap, ◌∙◌, arith}
+use Rattle.dx_graph.specs.Graph.{Node}
 use Rattle.dx_tags.specs.declared.term.Term.{Term}
 use Rattle.dx_tags.specs.declared.term.ValueTag.{ValueTag}
 use Rattle.dx_tags.specs.Files.{FileMap}
 use Rattle.dx_tags.specs.Closed.{ValueTerm, heads_of, value_term, result_of_head, GoesOn, AreEarlier}
 use Rattle.dx_tags.proofs.Growth.{heads_grow, longer}
-use Rattle.dx_links.specs.declared.key.Key.{Key}
 use Rattle.dx_links.specs.Holding.{Holding}
 use Rattle.dx_links.specs.LinkMap.{LinkMap, held_at}
 use Rattle.dx_meaning.specs.Outcome.{Value}
-use Rattle.dx_meaning.specs.Scan.{Sight, Scanned, Forms, Ends}
-use Rattle.dx_demand.specs.Memo.{Answers, answers_of, selector_of, shown, SettledFits, port_scan, selector_scan, node_scans, MemoFits, MemoRight}
-use Rattle.dx_demand.specs.Stack.{AllBelow, FrameFits, StackFits, Begins, FrameRight, StackRight}
+use Rattle.dx_meaning.specs.Scan.{Sight, Scanned, Forms}
+use Rattle.dx_demand.specs.Memo.{Answers, shown, SettledFits, node_scans, MemoFits, MemoRight}
+use Rattle.dx_demand.specs.Stack.{FrameFits, StackFits, Begins, StackRight}
 use Rattle.dx_demand.specs.Picked.{LinksFit}
 use Rattle.dx_demand.specs.Steps.{Holds, Tells, Sees, LeftRight}
 use Rattle.std.specs.Prelude.{Result, Ok, Err, OnOk, IfOk}
 use Rattle.dx_demand.specs.declared.settled.Port.{Port}
-use Rattle.dx_demand.specs.declared.settled.Answer.{Answer}
 use Rattle.dx_demand.specs.declared.settled.Settled.{Settled}
 use Rattle.dx_demand.specs.declared.settled.Settled.TheVariants as settled
 use Rattle.dx_demand.specs.declared.seen.Memo.{Memo}

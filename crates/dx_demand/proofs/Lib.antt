@@ -9,3 +9,10 @@ pub mod Picks
 pub mod Arguments
 pub mod Terms
 pub mod Finding
+pub mod FormedTerms
+pub mod FormedPorts
+pub mod FormedSteps
+pub mod FormedLoop
+pub mod Calls
+pub mod Searched
+pub mod CallsStaying

@@ -1,17 +1,16 @@
 -- What is kept as more is settled.
 use Rattle.dx_demand.specs.Terms.{IsValue}
-use Rattle.std.proofs.Common.{◌≡◌, ◌⊎◌, ⊎_elim, inl, inr, ℕ, zero, suc, ◌<◌, ◌≤◌, List, [], ◌∷◌, ◌++◌, length, get_or, Option, Some, None, Bool, true, false, refl, sym, ap, ◌∙◌, subst, arith}
+use Rattle.std.proofs.Common.{◌≡◌, ◌⊎◌, ⊎_elim, inl, inr, ℕ, zero, suc, ◌<◌, List, [], ◌∷◌, ◌++◌, length, get_or, Option, Some, None, Bool, true, false, refl, sym, ap, ◌∙◌, subst}
 use Rattle.std.proofs.Common.{true≢false}
 use Rattle.std.specs.Prelude.{◌==◌, slice_set, slice_index_or, is_some, cond}
 use Rattle.std.specs.HashMap.{get_by}
 use Rattle.std.specs.Cmp.{unsigned_Decides}
 use Rattle.std.proofs.lemmas.List.{get_or-set_same, get_or-set_other}
-use Rattle.dx_graph.specs.Graph.{Node, node_at}
+use Rattle.dx_graph.specs.Graph.{Node}
 use Rattle.dx_tags.specs.declared.term.Term.{Term}
 use Rattle.dx_tags.specs.declared.term.ValueTag.{ValueTag}
 use Rattle.dx_tags.specs.Closed.{heads_of, value_term}
 use Rattle.dx_meaning.specs.Scan.{Sight, Forms}
-use Rattle.dx_meaning.specs.More.{More}
 use Rattle.dx_demand.specs.Memo.{Answers, answers_of, same_port, formed_of, with_formed, first_or, with_answer, EmptyMemo, selector_of, shown, SettledFits, port_scan, selector_scan, MemoFits, MemoRight}
 use Rattle.dx_demand.specs.Steps.{KeepsSelectors}
 use Rattle.dx_demand.specs.declared.settled.Port.{Port}

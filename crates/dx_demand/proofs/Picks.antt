@@ -1,10 +1,7 @@
 -- What the code picks is what is picked.
-use Rattle.std.proofs.Common.{◌≡◌, ℕ, List, Option, refl, sym, ap, ◌∙◌}
-use Rattle.dx_base.specs.declared.function.Function.{Function}
-use Rattle.dx_macros.specs.Tree.{Place}
+use Rattle.std.proofs.Common.{◌≡◌, List, sym, ap, ◌∙◌}
 use Rattle.dx_graph.specs.Graph.{Node, node_at}
 use Rattle.dx_tags.specs.declared.term.Term.{Term}
-use Rattle.dx_tags.specs.declared.term.ValueTag.{ValueTag}
 use Rattle.dx_tags.specs.Closed.{ValueTerm, heads_of, value_term}
 use Rattle.dx_meaning.specs.Outcome.{Value}
 use Rattle.dx_meaning.specs.Picking.{Shelf, pick}
@@ -18,7 +15,7 @@ use Rattle.dx_demand.specs.declared.pick.Pick.{Pick}
 use Rattle.dx_demand.specs.declared.settled.Port.{Port}
 use Rattle.dx_meaning.proofs.Keeping.{same_terms}
 
-shelf_same : (links : LinkMap) (terms : List Term) (s : Sight) → Holds links terms s → terms_in s ≡ shelf_with (value_term (heads_of terms)) links
+pub shelf_same : (links : LinkMap) (terms : List Term) (s : Sight) → Holds links terms s → terms_in s ≡ shelf_with (value_term (heads_of terms)) links
 shelf_same links terms s h = λ i. record { null = null_term; text = text_term; held = λ k. h k i }
 
 pub code_pick : (nodes : List Node) (links : LinkMap) (terms : List Term) (s : Sight) → Holds links terms s → (p : Port) (v : Value) (c : Pick) →

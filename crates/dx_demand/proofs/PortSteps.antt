@@ -1,7 +1,7 @@
 -- The steps of resolving a port.
 use Rattle.dx_demand.proofs.Terms.{no_arguments}
 use Rattle.dx_demand.specs.Terms.{AreArguments}
-use Rattle.std.proofs.Common.{◌≡◌, ℕ, suc, ◌+◌, ◌*◌, ◌<◌, ◌≤◌, List, [], ◌∷◌, ◌++◌, length, Option, Some, None, refl, sym, ap, ◌∙◌, subst, arith}
+use Rattle.std.proofs.Common.{◌≡◌, ℕ, suc, ◌+◌, ◌*◌, ◌<◌, ◌≤◌, List, [], ◌∷◌, ◌++◌, length, None, refl, sym, ap, ◌∙◌, subst, arith}
 use Rattle.std.proofs.Math.Logic.{∥∥₁_elim}
 use Rattle.std.proofs.Props.{props}
 use Rattle.std.proofs.Math.Nat.{suc-mul}
@@ -15,7 +15,7 @@ use Rattle.dx_base.specs.declared.function.Effect.TheVariants as effect
 use Rattle.dx_ast.specs.Table.{module_row, effect_row, row_of}
 use Rattle.dx_graph.specs.declared.node.Input.{Input}
 use Rattle.dx_graph.specs.declared.node.Input.TheVariants as input
-use Rattle.dx_graph.specs.Graph.{Node, Graph, node_at, AreNodes, IsGraph, IsNode, MayTake}
+use Rattle.dx_graph.specs.Graph.{Node, Graph, node_at, AreNodes, IsGraph, MayTake}
 use Rattle.dx_tags.specs.declared.term.Term.{Term}
 use Rattle.dx_tags.specs.declared.term.ValueTag.{ValueTag}
 use Rattle.dx_tags.specs.Closed.{heads_of, GoesOn}
@@ -27,7 +27,7 @@ use Rattle.dx_demand.specs.declared.settled.Port.{Port}
 use Rattle.dx_demand.specs.declared.settled.Answer.{Answer}
 use Rattle.dx_demand.specs.declared.seen.Frame.{Frame}
 use Rattle.dx_demand.proofs.Growing.{stack_fits_grows, stack_right_grows}
-use Rattle.dx_demand.proofs.Stacks.{AllAbove, above_less, above_push, Top, stack_split, stack_join, stack_settle, leads_then, right_split, right_join, bottom_push, open_ports, ports_fewer}
+use Rattle.dx_demand.proofs.Stacks.{above_less, above_push, Top, stack_split, stack_join, stack_settle, leads_then, right_split, right_join, bottom_push, open_ports, ports_fewer}
 
 module_few : (m : Module) → (module_row m).results ≤ 64
 module_few computing.Import = omega arith

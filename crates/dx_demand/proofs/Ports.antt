@@ -1,5 +1,5 @@
 -- What looking at a node's results finds, by its inputs.
-use Rattle.std.proofs.Common.{◌≡◌, ℕ, zero, suc, ◌<◌, ◌≤◌, List, [], ◌∷◌, ◌++◌, length, take, drop, get_or, Option, Some, None, refl, sym, ap, ap₂, ◌∙◌, subst, arith, All}
+use Rattle.std.proofs.Common.{◌≡◌, ℕ, zero, suc, ◌<◌, ◌≤◌, List, [], ◌∷◌, ◌++◌, length, take, drop, Option, Some, None, refl, sym, ap, ap₂, ◌∙◌, subst, arith, All}
 use Rattle.std.specs.Prelude.{slice_get, is_some, true, false}
 use Rattle.std.proofs.lemmas.List.{take-append-drop, length-take-le}
 use Rattle.dx_base.specs.declared.function.Function.{Function}
@@ -8,19 +8,18 @@ use Rattle.dx_base.specs.declared.function.Module.{Module}
 use Rattle.dx_base.specs.declared.function.Module.TheVariants as computing
 use Rattle.dx_base.specs.declared.function.Effect.{Effect}
 use Rattle.dx_base.specs.declared.function.Effect.TheVariants as effect
-use Rattle.dx_macros.specs.Tree.{Place, Tree, ResultTree, CallTree, TreeCall, Trees, NoTree, AndTree}
+use Rattle.dx_macros.specs.Tree.{Place, ResultTree, CallTree, TreeCall}
 use Rattle.dx_graph.specs.Graph.{Node, no_node, node_at, MayTake, AreNodes}
 use Rattle.dx_graph.specs.Unfolding.{no_call, call_at, tree_of, trees_of, call_of, calls_of, IsBelow}
 use Rattle.dx_graph.specs.declared.node.Input.{Input}
-use Rattle.dx_graph.specs.declared.node.Input.TheVariants as input
 use Rattle.dx_graph.proofs.Earlier.{at}
 use Rattle.dx_graph.proofs.Unfolding.{trees_stay, below}
 use Rattle.dx_tags.specs.declared.term.ValueTag.{ValueTag}
-use Rattle.dx_tags.specs.Closed.{ValueTerm, ResultTerm, CallOf, ValueTerms, NoTerm, AndTerm, Head, value_term, value_terms}
+use Rattle.dx_tags.specs.Closed.{ValueTerm, Head, value_term, value_terms}
 use Rattle.dx_meaning.specs.Outcome.{Value}
-use Rattle.dx_meaning.specs.Picking.{Pick, pick, or_first, selector_place, selector_at, module_selector, IsSelecting}
+use Rattle.dx_meaning.specs.Picking.{pick, or_first, selector_place, selector_at, module_selector, IsSelecting}
 use Rattle.dx_meaning.specs.Scan.{Sight, Stop, Needs, Scanned, Forms, Ends, scanned_beside, all_scanned, null_term, scanned_at, call_scanned, picked_scanned, written_for, terms_in, told_scanned, selected, valued, selector_scanned, effect_scanned, module_scanned, rule_scanned, scan, scan_each}
-use Rattle.dx_meaning.specs.More.{More, Keeps}
+use Rattle.dx_meaning.specs.More.{More}
 use Rattle.dx_demand.specs.Memo.{node_scans, input_scan, port_scan, selector_scan, site_of}
 use Rattle.dx_demand.specs.Stack.{Leads, Begins}
 use Rattle.dx_demand.specs.Memo.{input_at}

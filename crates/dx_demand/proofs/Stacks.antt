@@ -1,16 +1,14 @@
 -- Frames that are put on and taken off.
 use Rattle.dx_demand.proofs.Terms.{no_arguments}
-use Rattle.dx_demand.specs.Terms.{AreArguments}
-use Rattle.std.proofs.Common.{◌≡◌, ◌⊎◌, ⊎_elim, inl, inr, ℕ, zero, suc, ◌+◌, ◌*◌, ◌<◌, ◌≤◌, List, [], ◌∷◌, ◌++◌, length, Option, Some, None, Bool, true, false, refl, sym, ap, ◌∙◌, subst, arith}
-use Rattle.std.specs.Prelude.{if◌then◌else◌, ◌==◌, ◌&&◌, is_some}
+use Rattle.std.proofs.Common.{◌≡◌, ◌⊎◌, ⊎_elim, inl, inr, ℕ, zero, suc, ◌+◌, ◌<◌, ◌≤◌, List, [], ◌∷◌, ◌++◌, Option, Some, None, Bool, true, false, refl, sym, ap, ◌∙◌, subst, arith}
+use Rattle.std.specs.Prelude.{if◌then◌else◌, ◌==◌, ◌&&◌}
 use Rattle.std.specs.Cmp.{unsigned_Decides, first_so, second_so}
 use Rattle.std.proofs.Common.{true≢false}
-use Rattle.dx_graph.specs.Graph.{Node, node_at}
+use Rattle.dx_graph.specs.Graph.{Node}
 use Rattle.dx_tags.specs.declared.term.Term.{Term}
-use Rattle.dx_tags.specs.Closed.{heads_of}
 use Rattle.dx_meaning.specs.Scan.{Sight}
-use Rattle.dx_demand.specs.Memo.{Answers, same_port, with_answer, IsPort, node_scans}
-use Rattle.dx_demand.specs.Stack.{fresh, bottom, Opens, FrameFits, AllBelow, StackFits, Leads, Begins, FrameRight, StackRight}
+use Rattle.dx_demand.specs.Memo.{Answers, same_port, with_answer, IsPort}
+use Rattle.dx_demand.specs.Stack.{fresh, bottom, Opens, FrameFits, AllBelow, StackFits, Leads, FrameRight, StackRight}
 use Rattle.dx_demand.specs.Steps.{LeftRight}
 use Rattle.dx_demand.specs.declared.settled.Port.{Port}
 use Rattle.dx_demand.specs.declared.settled.Answer.{Answer}
@@ -18,7 +16,7 @@ use Rattle.dx_demand.specs.declared.seen.Frame.{Frame}
 
 -- ---- ports
 
-port_of : (p q : Port) → same_port p q ≡ true → p ≡ q
+pub port_of : (p q : Port) → same_port p q ≡ true → p ≡ q
 port_of p q h = λ i. record { node = (unsigned_Decides p.node q.node).0 (first_so (p.node == q.node) (p.result == q.result) h) i; result = (unsigned_Decides p.result q.result).0 (second_so (p.node == q.node) (p.result == q.result) h) i }
 
 both_true : (a b : Bool) → a ≡ true → b ≡ true → (a && b) ≡ true

@@ -1,14 +1,14 @@
 -- What is kept of a graph stays right as more is told.
-use Rattle.std.proofs.Common.{◌≡◌, ℕ, List, [], ◌∷◌, ◌++◌, Option, Some, None, refl, sym, ap, ◌∙◌, subst}
+use Rattle.std.proofs.Common.{◌≡◌, List, [], ◌∷◌, ◌∙◌, subst}
 use Rattle.dx_graph.specs.Graph.{Node, node_at}
 use Rattle.dx_graph.specs.Unfolding.{calls_of, trees_of, tree_of}
 use Rattle.dx_tags.specs.declared.term.Term.{Term}
 use Rattle.dx_tags.specs.Closed.{ValueTerm, heads_of, value_term}
 use Rattle.dx_meaning.specs.Picking.{selector_at}
-use Rattle.dx_meaning.specs.Scan.{Sight, Scanned, Forms, Ends}
+use Rattle.dx_meaning.specs.Scan.{Sight, Scanned}
 use Rattle.dx_meaning.specs.More.{More, Keeps}
 use Rattle.dx_demand.specs.Memo.{shown, port_scan, node_scans, selector_scan, input_at, MemoRight}
-use Rattle.dx_demand.specs.Stack.{Leads, Begins, FrameRight, StackRight}
+use Rattle.dx_demand.specs.Stack.{Leads, StackRight}
 use Rattle.dx_demand.specs.Steps.{LeftRight, SeenRight}
 use Rattle.dx_demand.specs.declared.settled.Port.{Port}
 use Rattle.dx_demand.specs.declared.settled.Settled.{Settled}

@@ -1,15 +1,15 @@
 -- Terms that are added, and what stays of the earlier ones.
-use Rattle.std.proofs.Common.{◌≡◌, ◌⊎◌, ⊎_elim, inl, inr, ℕ, suc, ◌+◌, ◌<◌, ◌≤◌, List, [], ◌∷◌, ◌++◌, length, Option, Some, None, Bool, true, false, refl, sym, ap, ap₂, ◌∙◌, subst, arith, length-append}
-use Rattle.std.specs.Prelude.{Result, Ok, Err, OnOk, OnErr, IfOk}
+use Rattle.std.proofs.Common.{◌≡◌, ◌⊎◌, ⊎_elim, inl, inr, ℕ, suc, ◌+◌, ◌<◌, List, [], ◌∷◌, ◌++◌, length, true, false, refl, sym, ap, ◌∙◌, subst, arith}
+use Rattle.std.specs.Prelude.{Result, Ok, Err, OnOk, OnErr}
 use Rattle.dx_base.specs.Modules.{Takes}
 use Rattle.dx_base.specs.declared.function.Module.{Module}
 use Rattle.dx_base.specs.declared.function.Module.TheVariants as computing
 use Rattle.dx_tags.specs.declared.term.Term.{Term}
 use Rattle.dx_tags.specs.declared.term.Term.TheVariants.{Constant, Held, Call, File}
 use Rattle.dx_tags.specs.declared.term.ValueTag.{ValueTag}
-use Rattle.dx_tags.specs.Closed.{Head, head_at, heads_of, head_of, Fits, AreEarlier, AllFormed, AreDistinct, IsFormed, AreFormed, GoesOn}
+use Rattle.dx_tags.specs.Closed.{Head, head_at, heads_of, AreEarlier, AllFormed, AreDistinct, IsFormed, AreFormed, GoesOn}
 use Rattle.dx_tags.specs.Whole.{is_file, HaveNoFile, HasInputs, ReadsFile, IsWhole, AreWhole, AllWhole}
-use Rattle.dx_tags.proofs.Growth.{heads_grow, fits_grow, earlier_on, earlier_push, kept_goes_on, interned_formed}
+use Rattle.dx_tags.proofs.Growth.{heads_grow, fits_grow, earlier_on, earlier_push, interned_formed}
 use Rattle.dx_demand.specs.Terms.{AreExact, IsValue, AreArguments}
 
 pub value_grow : (old new : List Term) → GoesOn old new → (t : ValueTag) → IsValue old t → IsValue new t

@@ -1,5 +1,5 @@
 -- Which values can be got: those that need no call, those of links, and those whose call was formed in this execution.
-use Rattle.std.specs.Prelude.{◌≡◌, ◌⊎◌, ℕ, List, [], ◌∷◌, Option, Some, slice_get}
+use Rattle.std.specs.Prelude.{◌≡◌, ◌⊎◌, ℕ, List, [], ◌∷◌, Some, slice_get}
 use Rattle.dx_base.specs.declared.function.Module.{Module}
 use Rattle.dx_tags.specs.declared.term.Term.{Term}
 use Rattle.dx_tags.specs.declared.term.Term.TheVariants.{Call}

@@ -5,3 +5,6 @@ pub mod Stack
 pub mod Steps
 pub mod Terms
 pub mod Found
+pub mod Forming
+pub mod Calling
+pub mod Searching

@@ -1,8 +1,7 @@
 -- What is settled of a graph's ports and selectors.
 use Rattle.dx_demand.specs.Terms.{IsValue}
-use Rattle.std.specs.Prelude.{◌≡◌, ℕ, ◌<◌, List, [], ◌∷◌, Option, Some, None, Bool, true, false, ◌==◌, ◌&&◌, length, slice_index_or, if◌then◌else◌}
+use Rattle.std.specs.Prelude.{◌≡◌, ℕ, ◌<◌, List, [], Option, Some, None, Bool, true, false, ◌==◌, ◌&&◌, length, slice_index_or, if◌then◌else◌}
 use Rattle.std.specs.HashMap.{get_by}
-use Rattle.dx_base.specs.declared.code.Code.{Code}
 use Rattle.dx_ast.specs.Table.{row_of}
 use Rattle.dx_macros.specs.Site.{Step as SiteStep}
 use Rattle.dx_graph.specs.Graph.{Node, node_at}
@@ -54,6 +53,7 @@ with_formed first t n = λ u. first_or (first u) n (t == u)
 -- nothing is settled of so many nodes
 pub record EmptyMemo (count : ℕ) (m : Memo) : Type 0 where
   pub formed : (t : ℕ) → formed_of m t ≡ None
+  pub none : m.formed.entries ≡ []
   pub answers : (p : Port) → answers_of m p ≡ None
   pub selectors : (n : ℕ) → selector_of m n ≡ None
   pub places : length m.selectors.items ≡ count

@@ -1,6 +1,6 @@
 -- What the code picks, and what is picked from.
 use Rattle.dx_demand.specs.Terms.{IsValue}
-use Rattle.std.specs.Prelude.{ℕ, List, Option, Some, option_map, Bool, true, false, ◌≡◌}
+use Rattle.std.specs.Prelude.{ℕ, List, Some, option_map, Bool, true, false, ◌≡◌}
 use Rattle.dx_ast.specs.declared.constants.Const.TheVariants as const
 use Rattle.dx_tags.specs.declared.term.ValueTag.{ValueTag}
 use Rattle.dx_tags.specs.declared.term.Term.{Term}

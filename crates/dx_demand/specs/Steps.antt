@@ -1,25 +1,22 @@
 -- What one step does for a port, and what resolving answers.
 use Rattle.dx_demand.specs.Terms.{IsValue}
 use Rattle.std.specs.Prelude.{◌≡◌, ℕ, ◌<◌, List, [], ◌∷◌, Option, Some, None, option_map, length}
-use Rattle.dx_base.specs.declared.code.Code.{Code}
 use Rattle.dx_base.specs.declared.function.Function.{Function}
 use Rattle.dx_base.specs.declared.function.Function.TheVariants as function
-use Rattle.dx_macros.specs.Site.{Step as SiteStep}
-use Rattle.dx_graph.specs.Graph.{Node, node_at}
+use Rattle.dx_graph.specs.Graph.{Node}
 use Rattle.dx_graph.specs.declared.node.Input.{Input}
 use Rattle.dx_tags.specs.declared.term.Term.{Term}
 use Rattle.dx_tags.specs.declared.term.ValueTag.{ValueTag}
 use Rattle.dx_tags.specs.Files.{FileMap, content_of}
-use Rattle.dx_tags.specs.Closed.{ValueTerm, heads_of, value_term, IsResultOf, head_at}
+use Rattle.dx_tags.specs.Closed.{ValueTerm, heads_of, value_term}
 use Rattle.dx_links.specs.declared.key.Key.{Key}
 use Rattle.dx_links.specs.Holding.{Holding}
 use Rattle.dx_links.specs.LinkMap.{LinkMap, held_at}
 use Rattle.dx_meaning.specs.Outcome.{Value}
-use Rattle.dx_meaning.specs.Scan.{Sight, Stop, IsOff, Stops, Needs, Scanned, Forms, Ends, scan, scan_each, scanned_at}
-use Rattle.dx_demand.specs.Memo.{Answers, answers_of, selector_of, site_of, shown, SettledFits, IsPort, input_at, input_scan, port_scan, selector_scan, node_scans, MemoFits, MemoRight}
-use Rattle.dx_demand.specs.Stack.{Leads, Begins, StackFits, StackRight, bottom}
+use Rattle.dx_meaning.specs.Scan.{Sight, IsOff, Stops, Needs, Scanned, Forms, Ends}
+use Rattle.dx_demand.specs.Memo.{Answers, answers_of, selector_of, site_of, shown, SettledFits, IsPort, input_at, input_scan, port_scan, selector_scan, MemoFits, MemoRight}
+use Rattle.dx_demand.specs.Stack.{Leads, StackFits, StackRight}
 use Rattle.dx_demand.specs.declared.settled.Port.{Port}
-use Rattle.dx_demand.specs.declared.settled.Answer.{Answer}
 use Rattle.dx_demand.specs.declared.settled.Resolved.{Resolved}
 use Rattle.dx_demand.specs.declared.settled.Resolved.TheVariants as resolved
 use Rattle.dx_demand.specs.declared.seen.Frame.{Frame}

@@ -11,6 +11,8 @@ ghost use Rattle.dx_demand.specs.Picked.{shelf_with, shown_pick, to_key, LinksFi
 ghost use Rattle.dx_links.specs.LinkMap.{LinkMap};
 ghost use Rattle.dx_demand.specs.Found.{PickFound};
 ghost use Rattle.dx_meaning.specs.Scan.{null_term};
+ghost use Rattle.dx_meaning.specs.Forming.{null_forms};
+ghost use Rattle.dx_demand.specs.Forming.{pick_forms, forms_with};
 
 use dx_base::{Bytes, Function};
 use dx_graph::Graph;
@@ -35,6 +37,7 @@ fn switch_pick(v: Option<&Object>) -> Pick
     ensures right { (term : ValueTag → ValueTerm) → shown_pick term result ≡ plain.switch_pick null_term (value_behind v.entry) }
     ensures fits { (terms : List Term) → PickFits terms result }
     ensures linked { (l : LinkMap) → PickFound l result }
+    ensures forms { pick_forms result ≡ plain.switch_pick null_forms (value_behind v.entry) }
 {
     match v {
         None => Pick::Null,
@@ -55,6 +58,7 @@ fn route_pick(result_number: u32, v: Option<&Object>) -> Pick
     ensures right { (term : ValueTag → ValueTerm) → shown_pick term result ≡ plain.route_pick result_number (value_behind v.entry) }
     ensures fits { (terms : List Term) → PickFits terms result }
     ensures linked { (l : LinkMap) → PickFound l result }
+    ensures forms { pick_forms result ≡ plain.route_pick result_number (value_behind v.entry) }
 {
     match v {
         None => Pick::Off,
@@ -101,6 +105,7 @@ fn held_or(links: &Links, k: &Key) -> Pick
     ensures right { (term : ValueTag → ValueTerm) → shown_pick term result ≡ plain.held_or ((shelf_with term links.now.links).held k.now) }
     ensures fits { (terms : List Term) → LinksFit terms links.now.links → PickFits terms result }
     ensures linked { PickFound links.now.links result }
+    ensures forms { pick_forms result ≡ plain.held_or ((forms_with links.now.links).held k.now) }
 {
     match links.get(k) {
         Some(held) => Pick::Held(held.tag()),
@@ -121,6 +126,7 @@ fn get_pick(
     ensures right { (term : ValueTag → ValueTerm) → IfOk result (λ p. shown_pick term p ≡ plain.get_pick (shelf_with term links.now.links) (to_key is_local (node_at (graph_of g.now).nodes n).place) result_number (plain.link_name (node_at (graph_of g.now).nodes n).place (value_behind v.entry))) }
     ensures fits { (terms : List Term) → LinksFit terms links.now.links → IfOk result (λ p. PickFits terms p) }
     ensures linked { IfOk result (λ p. PickFound links.now.links p) }
+    ensures forms { IfOk result (λ p. pick_forms p ≡ plain.get_pick (forms_with links.now.links) (to_key is_local (node_at (graph_of g.now).nodes n).place) result_number (plain.link_name (node_at (graph_of g.now).nodes n).place (value_behind v.entry))) }
 {
     match link_name(alloc, g, n, v)? {
         None => Ok(Pick::Fault),
@@ -149,6 +155,7 @@ pub(crate) fn pick_of(
     ensures right { (term : ValueTag → ValueTerm) → IfOk result (λ p. shown_pick term p ≡ plain.pick (shelf_with term links.now.links) (node_at (graph_of g.now).nodes n).what (node_at (graph_of g.now).nodes n).place result_number (value_behind v.entry)) }
     ensures fits { (terms : List Term) → LinksFit terms links.now.links → IfOk result (λ p. PickFits terms p) }
     ensures linked { IfOk result (λ p. PickFound links.now.links p) }
+    ensures forms { IfOk result (λ p. pick_forms p ≡ plain.pick (forms_with links.now.links) (node_at (graph_of g.now).nodes n).what (node_at (graph_of g.now).nodes n).place result_number (value_behind v.entry)) }
 {
     match g.node(n).what {
         Function::Switch => Ok(switch_pick(v)),

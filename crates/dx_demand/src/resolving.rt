@@ -6,8 +6,13 @@ ghost use Rattle.dx_graph.specs.GraphView.{graph_of};
 ghost use Rattle.dx_tags.specs.declared.term.Term.{Term};
 ghost use Rattle.dx_tags.specs.Closed.{GoesOn};
 ghost use Rattle.dx_meaning.specs.Scan.{Sight};
-ghost use Rattle.dx_demand.specs.Memo.{answers_of, formed_of, IsPort, input_scan, port_scan, shown, SettledFits, EmptyMemo};
+ghost use Rattle.dx_demand.specs.Memo.{Answers, answers_of, input_at, formed_of, IsPort, input_scan, port_scan, shown, SettledFits, EmptyMemo};
 ghost use Rattle.dx_demand.specs.Picked.{LinksFit};
+ghost use Rattle.dx_meaning.specs.Forming.{after};
+ghost use Rattle.dx_demand.specs.Calling.{SeenMet, KnownValued, ResolvedValued};
+ghost use Rattle.dx_demand.specs.declared.step.Known.TheVariants as known;
+ghost use Rattle.dx_graph.specs.declared.node.Input.{Input};
+ghost use Rattle.dx_demand.specs.Forming.{formings, input_forms, port_forms, SeenFormed};
 ghost use Rattle.dx_demand.specs.Found.{Kept, SettledFound, ResolvedFound, IsClosed};
 ghost use Rattle.dx_links.specs.LinkMap.{LinkMap};
 ghost use Rattle.dx_demand.specs.Steps.{Sees, SeenFits, SeenRight, KeepsSelectors, ResolvedFits, shown_resolved};
@@ -30,6 +35,9 @@ impl Seen {
         ensures fits { (terms : List Term) → IfOk result (λ seen. SeenFits (graph_of g.now).nodes terms seen) }
         ensures right { (s : Sight) (terms : List Term) → IfOk result (λ seen. SeenRight s (graph_of g.now).nodes terms seen) }
         ensures closed { (links : LinkMap) (terms : List Term) → IfOk result (λ seen. IsClosed links terms seen) }
+        ensures formed { (s : Sight) (terms : List Term) → IfOk result (λ seen. SeenFormed s (graph_of g.now).nodes terms seen) }
+        ensures met { (s : Sight) → IfOk result (λ seen. SeenMet s (graph_of g.now).nodes seen) }
+        ensures uncalled { IfOk result (λ seen. seen.memo.formed.entries ≡ []) }
         ensures none { IfOk result (λ seen. (t : ℕ) → formed_of seen.memo t ≡ None) }
     {
         let memo = empty_memo(alloc, g)?;
@@ -73,6 +81,7 @@ fn resolved(settled: Settled) -> Resolved
     ensures right { (nodes : _) (terms : _) → shown_resolved nodes terms result ≡ shown nodes terms settled }
     ensures fits { (nodes : _) (terms : _) (given : _) (m : _) → SettledFits nodes terms settled → ResolvedFits nodes terms given m result }
     ensures found { (l : _) (terms : _) (first : _) → SettledFound l terms first settled → ResolvedFound l terms first result }
+    ensures valued { (answers : Answers) (i : Input) → KnownValued answers i (known.Settled settled) → ResolvedValued answers i result }
 {
     match settled {
         Settled::Value(t) => Resolved::Value(t),
@@ -107,6 +116,10 @@ pub fn resolve<G: Given>(
     ensures closed { IsClosed links.now.links tags.old seen.old → OnOk result (IsClosed links.now.links tags.new seen.new) }
     ensures found { IsClosed links.now.links tags.old seen.old → IfOk result (λ r. ResolvedFound links.now.links tags.new (formed_of seen.new.memo) r) }
     ensures first { OnOk result (Kept (formed_of seen.old.memo) (formed_of seen.new.memo)) }
+    ensures seen_formed { (s : Sight) → Sees (G.told given.now) links.now.links written.now.files tags.new s → SeenRight s (graph_of g.now).nodes tags.old seen.old → SeenFormed s (graph_of g.now).nodes tags.old seen.old → OnOk result (SeenFormed s (graph_of g.now).nodes tags.new seen.new) }
+    ensures forms { (s : Sight) → Sees (G.told given.now) links.now.links written.now.files tags.new s → SeenRight s (graph_of g.now).nodes tags.old seen.old → SeenFormed s (graph_of g.now).nodes tags.old seen.old → OnOk result (formings (graph_of g.now).nodes tags.new seen.new.memo ≡ after (input_forms s (graph_of g.now).nodes i.now) (formings (graph_of g.now).nodes tags.old seen.old.memo)) }
+    ensures seen_met { (s : Sight) → Sees (G.told given.now) links.now.links written.now.files tags.new s → SeenRight s (graph_of g.now).nodes tags.old seen.old → SeenMet s (graph_of g.now).nodes seen.old → OnOk result (SeenMet s (graph_of g.now).nodes seen.new) }
+    ensures valued { IfOk result (λ r. ResolvedValued (answers_of seen.new.memo) i.now r) }
 {
     match i {
         Input::Constant(c) => {
@@ -147,6 +160,10 @@ fn resolve_port<G: Given>(
     ensures closed { IsClosed links.now.links tags.old seen.old → OnOk result (IsClosed links.now.links tags.new seen.new) }
     ensures found { IsClosed links.now.links tags.old seen.old → IfOk result (λ r. ResolvedFound links.now.links tags.new (formed_of seen.new.memo) r) }
     ensures first { OnOk result (Kept (formed_of seen.old.memo) (formed_of seen.new.memo)) }
+    ensures seen_formed { (s : Sight) → Sees (G.told given.now) links.now.links written.now.files tags.new s → SeenRight s (graph_of g.now).nodes tags.old seen.old → SeenFormed s (graph_of g.now).nodes tags.old seen.old → OnOk result (SeenFormed s (graph_of g.now).nodes tags.new seen.new) }
+    ensures forms { (s : Sight) → Sees (G.told given.now) links.now.links written.now.files tags.new s → SeenRight s (graph_of g.now).nodes tags.old seen.old → SeenFormed s (graph_of g.now).nodes tags.old seen.old → OnOk result (formings (graph_of g.now).nodes tags.new seen.new.memo ≡ after (port_forms s (graph_of g.now).nodes root) (formings (graph_of g.now).nodes tags.old seen.old.memo)) }
+    ensures seen_met { (s : Sight) → Sees (G.told given.now) links.now.links written.now.files tags.new s → SeenRight s (graph_of g.now).nodes tags.old seen.old → SeenMet s (graph_of g.now).nodes seen.old → OnOk result (SeenMet s (graph_of g.now).nodes seen.new) }
+    ensures valued { IfOk result (λ r. ResolvedValued (answers_of seen.new.memo) (input_at root) r) }
 {
     match seen.memo.answer(root) {
         Some(a) => Ok(resolved(a.settled)),
@@ -180,6 +197,10 @@ fn settle_port<G: Given>(
     ensures closed { IsClosed links.now.links tags.old seen.old → OnOk result (IsClosed links.now.links tags.new seen.new) }
     ensures found { IsClosed links.now.links tags.old seen.old → IfOk result (λ r. ResolvedFound links.now.links tags.new (formed_of seen.new.memo) r) }
     ensures first { OnOk result (Kept (formed_of seen.old.memo) (formed_of seen.new.memo)) }
+    ensures seen_formed { (s : Sight) → Sees (G.told given.now) links.now.links written.now.files tags.new s → SeenRight s (graph_of g.now).nodes tags.old seen.old → SeenFormed s (graph_of g.now).nodes tags.old seen.old → OnOk result (SeenFormed s (graph_of g.now).nodes tags.new seen.new) }
+    ensures forms { (s : Sight) → Sees (G.told given.now) links.now.links written.now.files tags.new s → SeenRight s (graph_of g.now).nodes tags.old seen.old → SeenFormed s (graph_of g.now).nodes tags.old seen.old → OnOk result (formings (graph_of g.now).nodes tags.new seen.new.memo ≡ after (port_forms s (graph_of g.now).nodes root) (formings (graph_of g.now).nodes tags.old seen.old.memo)) }
+    ensures seen_met { (s : Sight) → Sees (G.told given.now) links.now.links written.now.files tags.new s → SeenRight s (graph_of g.now).nodes tags.old seen.old → SeenMet s (graph_of g.now).nodes seen.old → OnOk result (SeenMet s (graph_of g.now).nodes seen.new) }
+    ensures valued { IfOk result (λ r. ResolvedValued (answers_of seen.new.memo) (input_at root) r) }
 {
     let mut top = top_of(alloc, &mut seen.stack, root);
     'steps: loop {

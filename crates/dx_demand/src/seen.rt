@@ -3,6 +3,7 @@ ghost use Rattle.std.specs.Prelude.{◌≡◌, ◌<◌, ◌⊎◌, ◌++◌, ◌
 ghost use Rattle.dx_graph.specs.GraphView.{graph_of};
 ghost use Rattle.dx_demand.specs.Memo.{answers_of, selector_of, formed_of, with_answer, with_formed, EmptyMemo};
 ghost use Rattle.dx_demand.specs.Stack.{fresh, Opens};
+ghost use Rattle.dx_demand.specs.Forming.{with_entry};
 
 use crate::settled::{Answer, Port};
 use dx_base::Items;
@@ -72,6 +73,7 @@ impl Memo {
     /// Node number n forms the call term of a tag, if it is the first.
     pub(crate) fn form(&mut self, t: Tag, n: u32) -> Result<(), AllocError>
         ensures ok { OnOk result (formed_of self.new ≡ with_formed (formed_of self.old) t n) }
+        ensures entries { OnOk result (self.new.formed.entries ≡ with_entry self.old.formed.entries t n) }
         ensures answers { self.new.answers ≡ self.old.answers }
         ensures selectors { self.new.selectors ≡ self.old.selectors }
     {

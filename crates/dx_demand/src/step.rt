@@ -1,14 +1,14 @@
 // One step for a port: it is settled, or waits for another, or for a value.
 ghost use Rattle.dx_demand.specs.Terms.{MayRead, AreArguments, AreExact, IsValue};
-ghost use Rattle.std.specs.Prelude.{◌≡◌, ◌<◌, ◌≤◌, Option, Some, is_some, true, ℕ, length, slice_get, IfOk, OnOk};
+ghost use Rattle.std.specs.Prelude.{◌≡◌, ◌<◌, ◌≤◌, List, [], ◌∷◌, ◌++◌, Option, Some, is_some, true, ℕ, length, slice_get, IfOk, OnOk};
 ghost use Rattle.dx_ast.specs.Lawful.{IsLawfulConst};
 ghost use Rattle.dx_base.specs.declared.function.Function.TheVariants as function;
-ghost use Rattle.dx_graph.specs.Graph.{node_at, MayTake};
+ghost use Rattle.dx_graph.specs.Graph.{Node, node_at, MayTake};
 ghost use Rattle.dx_graph.specs.GraphView.{graph_of};
 ghost use Rattle.dx_base.specs.Modules.{Takes};
 ghost use Rattle.dx_tags.specs.declared.term.Term.TheVariants as term;
 ghost use Rattle.dx_tags.specs.Whole.{is_file, IsWhole};
-ghost use Rattle.dx_tags.specs.Closed.{ConstantTerm, ResultTerm, FileTerm, CallOf, IsFormed, GoesOn, NamesHead, heads_of, head_of, value_term, value_terms, AreEarlier, Fits, head_at};
+ghost use Rattle.dx_tags.specs.Closed.{ConstantTerm, ResultTerm, FileTerm, CallOf, IsFormed, GoesOn, NamesHead, heads_of, head_of, result_of_head, value_term, value_terms, AreEarlier, Fits, head_at};
 ghost use Rattle.dx_tags.specs.declared.term.ValueTag.{ValueTag};
 ghost use Rattle.dx_ast.specs.declared.constants.Const.TheVariants as const;
 ghost use Rattle.dx_meaning.specs.Outcome.{Value};
@@ -20,6 +20,10 @@ ghost use Rattle.dx_meaning.specs.Scan.{Sight, scanned_at, all_scanned, call_sca
 ghost use Rattle.dx_meaning.specs.More.{More};
 ghost use Rattle.dx_demand.specs.Memo.{FirstNodes, answers_of, formed_of, with_formed, node_scans, port_scan, IsPort, MemoFits, MemoRight};
 ghost use Rattle.dx_demand.specs.Stack.{Begins};
+ghost use Rattle.dx_meaning.specs.Forming.{after, with_term, file_forms, call_formed, HasAll};
+ghost use Rattle.dx_meaning.specs.Met.{met_at, picked_met};
+ghost use Rattle.dx_demand.specs.Calling.{SelectorsValued, AreValued, KnownValued, StepMet, SelectionMet, IsNoModule, node_met, port_met};
+ghost use Rattle.dx_demand.specs.Forming.{named_terms, formings, with_own, IsCallTag, NameCalls, MemoFormed, KnownForms, input_forms, node_forms, first_forms, forms_with, HasFront, calls_forms, input_part, pick_part, FormsStep, FormsSelection};
 ghost use Rattle.dx_demand.specs.Picked.{LinksFit};
 ghost use Rattle.dx_demand.specs.Found.{NeedsNoCall, Kept, AllFound, ArgumentsFound, MemoFound, KnownFound, StepFound, SelectionFound};
 ghost use Rattle.dx_links.specs.LinkMap.{LinkMap};
@@ -62,6 +66,7 @@ fn name(tags: &mut Tags, t: Term) -> Result<Tag, AllocError>
     ensures goes_on { OnOk result (GoesOn tags.old tags.new) }
     ensures named { IfOk result (λ tag. NamesHead tags.new tag (head_of (heads_of tags.old) t)) }
     ensures slot { IfOk result (λ tag. slice_get tags.new tag ≡ Some t) }
+    ensures terms { OnOk result (named_terms tags.new ≡ with_term (result_of_head (head_of (heads_of tags.old) t) 0) (named_terms tags.old)) }
 {
     tags.intern(t)
 }
@@ -75,6 +80,7 @@ pub(crate) fn constant_tag(tags: &mut Tags, c: Const) -> Result<ValueTag, AllocE
     ensures fits { IfOk result (λ t. IsValue tags.new t) }
     ensures named { IfOk result (λ t. value_term (heads_of tags.new) t ≡ ConstantTerm c) }
     ensures ready { IfOk result (λ t. NeedsNoCall (head_at (heads_of tags.new) t.tag)) }
+    ensures terms { OnOk result (named_terms tags.new ≡ with_term (ConstantTerm c) (named_terms tags.old)) }
 {
     let tag = name(tags, Term::Constant(c))?;
     Ok(ValueTag { tag, result: 0 })
@@ -95,6 +101,7 @@ fn call_tag(
     ensures fits { IfOk result (λ t. IsValue tags.new t) }
     ensures named { IfOk result (λ t. value_term (heads_of tags.new) t ≡ ResultTerm result_number (CallOf called (value_terms (heads_of tags.old) arguments))) }
     ensures slot { IfOk result (λ t. slice_get tags.new t.tag ≡ Some (term.Call called arguments)) }
+    ensures terms { OnOk result (named_terms tags.new ≡ with_term (ResultTerm 0 (CallOf called (value_terms (heads_of tags.old) arguments))) (named_terms tags.old)) }
 {
     let tag = name(tags, Term::Call(called, arguments))?;
     Ok(ValueTag {
@@ -113,6 +120,8 @@ fn known_of(g: &Graph, i: &Input, tags: &mut Tags, memo: &Memo) -> Result<Known,
     ensures fits { IfOk result (λ k. KnownFits (graph_of g.now).nodes tags.new (answers_of memo.now) i.now k) }
     ensures right { (s : Sight) → MemoRight s (graph_of g.now).nodes tags.old memo.now → IfOk result (λ k. KnownRight s (graph_of g.now).nodes tags.new i.now k) }
     ensures found { (l : LinkMap) → MemoFound l tags.old memo.now → IfOk result (λ k. KnownFound l tags.new (formed_of memo.now) k) }
+    ensures forms { (s : Sight) → MemoFormed s (graph_of g.now).nodes tags.old memo.now → IfOk result (λ k. KnownForms (input_forms s (graph_of g.now).nodes i.now) (formings (graph_of g.now).nodes tags.old memo.now) (formings (graph_of g.now).nodes tags.new memo.now) k) }
+    ensures valued { IfOk result (λ k. KnownValued (answers_of memo.now) i.now k) }
 {
     match i {
         Input::Constant(c) => {
@@ -141,6 +150,7 @@ fn file_tag(tags: &mut Tags, content: Content) -> Result<ValueTag, AllocError>
     ensures file { IfOk result (λ t. is_file (head_at (heads_of tags.new) t.tag) ≡ true) }
     ensures named { IfOk result (λ t. value_term (heads_of tags.new) t ≡ FileTerm content) }
     ensures ready { IfOk result (λ t. NeedsNoCall (head_at (heads_of tags.new) t.tag)) }
+    ensures terms { OnOk result (named_terms tags.new ≡ with_term (FileTerm content) (named_terms tags.old)) }
 {
     let tag = name(tags, Term::File(content))?;
     Ok(ValueTag { tag, result: 0 })
@@ -163,6 +173,7 @@ fn arguments_with(
     ensures whole { IfOk result (λ all. IsWhole (heads_of tags.new) (term.Call called all)) }
     ensures named { IfOk result (λ all. value_terms (heads_of tags.new) all ≡ with_file (value_terms (heads_of tags.old) arguments) file) }
     ensures found { (l : LinkMap) (first : FirstNodes) → AllFound l tags.old first arguments → IfOk result (λ all. AllFound l tags.new first all) }
+    ensures terms { OnOk result (named_terms tags.new ≡ with_own file (named_terms tags.old)) }
 {
     match file {
         None => Ok(arguments),
@@ -195,6 +206,8 @@ fn call_of_all(
     ensures selectors { memo.new.selectors ≡ memo.old.selectors }
     ensures first { IfOk result (λ t. formed_of memo.new ≡ with_formed (formed_of memo.old) t.tag port.node) }
     ensures found { (l : LinkMap) → AllFound l tags.old (formed_of memo.old) arguments → IfOk result (λ t. ArgumentsFound l tags.new (formed_of memo.old) t.tag) }
+    ensures called { IfOk result (λ t. IsCallTag tags.new t.tag) }
+    ensures forms { (nodes : List Node) → NameCalls tags.old memo.old → OnOk result (formings nodes tags.new memo.new ≡ after (file_forms file ++ call_formed (node_at nodes port.node).place called file (value_terms (heads_of tags.old) arguments) ∷ []) (formings nodes tags.old memo.old)) }
 {
     let all = arguments_with(called, tags, arguments, file)?;
     let t = call_tag(tags, called, all, port.result)?;
@@ -239,6 +252,10 @@ fn module_step(
     ensures memo_found { (l : LinkMap) → MemoFound l tags.old memo.old → AllFound l tags.old (formed_of memo.old) arguments.old → OnOk result (MemoFound l tags.new memo.new) }
     ensures arguments_found { (l : LinkMap) → MemoFound l tags.old memo.old → AllFound l tags.old (formed_of memo.old) arguments.old → OnOk result (AllFound l tags.new (formed_of memo.new) arguments.new) }
     ensures found { (l : LinkMap) → MemoFound l tags.old memo.old → AllFound l tags.old (formed_of memo.old) arguments.old → IfOk result (λ x. StepFound l tags.new (formed_of memo.new) x) }
+    ensures forms { (s : Sight) → MemoRight s (graph_of g.now).nodes tags.old memo.old → Begins (heads_of tags.old) (node_scans s (graph_of g.now).nodes port.node) arguments.old → MemoFormed s (graph_of g.now).nodes tags.old memo.old → HasAll (formings (graph_of g.now).nodes tags.old memo.old) (first_forms (length arguments.old) (node_forms s (graph_of g.now).nodes port.node)) →
+        HasFront s (graph_of g.now).nodes (formings (graph_of g.now).nodes tags.old memo.old) port (calls_forms (graph_of g.now).nodes port called file) → IfOk result (λ x. FormsStep s (graph_of g.now).nodes tags.old memo.old tags.new memo.new port (length arguments.new) x) }
+    ensures valued { AreValued (answers_of memo.old) (node_at (graph_of g.now).nodes port.node).inputs (length arguments.old) → OnOk result (AreValued (answers_of memo.old) (node_at (graph_of g.now).nodes port.node).inputs (length arguments.new)) }
+    ensures met { (s : Sight) → AreValued (answers_of memo.old) (node_at (graph_of g.now).nodes port.node).inputs (length arguments.old) → IfOk result (λ x. StepMet s (graph_of g.now).nodes (answers_of memo.old) port x) }
 {
     let inputs = g.node(port.node).inputs.as_slice();
     while arguments.len() < inputs.len() {
@@ -275,6 +292,9 @@ fn chosen(g: &Graph, port: Port, k: usize, tags: &mut Tags, memo: &Memo) -> Resu
         ((s' : Sight) → More s s' → port_scan s' (graph_of g.now).nodes port ≡ scanned_at (node_scans s' (graph_of g.now).nodes port.node) k) →
         IfOk result (λ x. StepRight s (graph_of g.now).nodes tags.new port x) }
     ensures found { (l : LinkMap) → MemoFound l tags.old memo.now → IfOk result (λ x. StepFound l tags.new (formed_of memo.now) x) }
+    ensures forms { (s : Sight) → MemoFormed s (graph_of g.now).nodes tags.old memo.now → HasFront s (graph_of g.now).nodes (formings (graph_of g.now).nodes tags.old memo.now) port (input_part (graph_of g.now).nodes port k) →
+        IfOk result (λ x. FormsStep s (graph_of g.now).nodes tags.old memo.now tags.new memo.now port 0 x) }
+    ensures met { (s : Sight) → IsNoModule (node_at (graph_of g.now).nodes port.node).what → port_met s (graph_of g.now).nodes port ≡ met_at (node_met s (graph_of g.now).nodes port.node) k → IfOk result (λ x. StepMet s (graph_of g.now).nodes (answers_of memo.now) port x) }
 {
     let inputs = g.node(port.node).inputs.as_slice();
     if k < inputs.len() {
@@ -324,6 +344,10 @@ fn select_term(
     ensures same { memo.new.formed ≡ memo.old.formed }
     ensures memo_found { (l : LinkMap) → MemoFound l tags.old memo.old → OnOk result (MemoFound l tags.new memo.new) }
     ensures found { (l : LinkMap) → MemoFound l tags.old memo.old → IfOk result (λ x. SelectionFound l tags.new (formed_of memo.new) x) }
+    ensures forms { (s : Sight) → MemoRight s (graph_of g.now).nodes tags.old memo.old → MemoFormed s (graph_of g.now).nodes tags.old memo.old →
+        IfOk result (λ x. FormsSelection s (graph_of g.now).nodes tags.old memo.old tags.new memo.new port x) }
+    ensures met { (s : Sight) → IfOk result (λ x. SelectionMet s (graph_of g.now).nodes (answers_of memo.old) port x) }
+    ensures selected { SelectorsValued (graph_of g.now).nodes memo.old → OnOk result (SelectorsValued (graph_of g.now).nodes memo.new) }
 {
     match memo.selector(port.node) {
         Some(t) => Ok(Selection::Selects(t)),
@@ -379,6 +403,11 @@ fn picked(
         ((s' : Sight) → More s s' → port_scan s' (graph_of g.now).nodes port ≡ picked_scanned (node_at (graph_of g.now).nodes port.node).place (node_scans s' (graph_of g.now).nodes port.node) (plain.pick (terms_in s') (node_at (graph_of g.now).nodes port.node).what (node_at (graph_of g.now).nodes port.node).place port.result (value_behind v.entry))) →
         IfOk result (λ x. StepRight s (graph_of g.now).nodes tags.new port x) }
     ensures found { MemoFound links.now.links tags.old memo.now → IfOk result (λ x. StepFound links.now.links tags.new (formed_of memo.now) x) }
+    ensures forms { (s : Sight) → MemoFormed s (graph_of g.now).nodes tags.old memo.now →
+        HasFront s (graph_of g.now).nodes (formings (graph_of g.now).nodes tags.old memo.now) port (pick_part (graph_of g.now).nodes port (plain.pick (forms_with links.now.links) (node_at (graph_of g.now).nodes port.node).what (node_at (graph_of g.now).nodes port.node).place port.result (value_behind v.entry))) →
+        IfOk result (λ x. FormsStep s (graph_of g.now).nodes tags.old memo.now tags.new memo.now port 0 x) }
+    ensures met { (s : Sight) → Holds links.now.links tags.new s → IsNoModule (node_at (graph_of g.now).nodes port.node).what → port_met s (graph_of g.now).nodes port ≡ picked_met (node_met s (graph_of g.now).nodes port.node) (plain.pick (terms_in s) (node_at (graph_of g.now).nodes port.node).what (node_at (graph_of g.now).nodes port.node).place port.result (value_behind v.entry)) →
+        IfOk result (λ x. StepMet s (graph_of g.now).nodes (answers_of memo.now) port x) }
 {
     match pick_of(alloc, g, port.node, port.result, v, links)? {
         Pick::Null => {
@@ -440,6 +469,10 @@ fn selector_step<G: Given>(
     ensures same { memo.new.formed ≡ memo.old.formed }
     ensures memo_found { MemoFound links.now.links tags.old memo.old → OnOk result (MemoFound links.now.links tags.new memo.new) }
     ensures found { MemoFound links.now.links tags.old memo.old → IfOk result (λ x. StepFound links.now.links tags.new (formed_of memo.new) x) }
+    ensures forms { (s : Sight) → Tells (G.told given.now) tags.new s → Holds links.now.links tags.new s → MemoRight s (graph_of g.now).nodes tags.old memo.old → MemoFormed s (graph_of g.now).nodes tags.old memo.old →
+        IfOk result (λ x. FormsStep s (graph_of g.now).nodes tags.old memo.old tags.new memo.new port 0 x) }
+    ensures met { (s : Sight) → Tells (G.told given.now) tags.new s → Holds links.now.links tags.new s → MemoRight s (graph_of g.now).nodes tags.old memo.old → IfOk result (λ x. StepMet s (graph_of g.now).nodes (answers_of memo.old) port x) }
+    ensures selected { SelectorsValued (graph_of g.now).nodes memo.old → OnOk result (SelectorsValued (graph_of g.now).nodes memo.new) }
 {
     match select_term(g, port, place, tags, memo)? {
         Selection::Before(first) => Ok(first),
@@ -502,6 +535,11 @@ fn import_step<G: Given>(
     ensures memo_found { (l : LinkMap) → MemoFound l tags.old memo.old → AllFound l tags.old (formed_of memo.old) arguments.old → OnOk result (MemoFound l tags.new memo.new) }
     ensures arguments_found { (l : LinkMap) → MemoFound l tags.old memo.old → AllFound l tags.old (formed_of memo.old) arguments.old → OnOk result (AllFound l tags.new (formed_of memo.new) arguments.new) }
     ensures found { (l : LinkMap) → MemoFound l tags.old memo.old → AllFound l tags.old (formed_of memo.old) arguments.old → IfOk result (λ x. StepFound l tags.new (formed_of memo.new) x) }
+    ensures forms { (s : Sight) → Tells (G.told given.now) tags.new s → Wrote written.now.files s → MemoRight s (graph_of g.now).nodes tags.old memo.old → Begins (heads_of tags.old) (node_scans s (graph_of g.now).nodes port.node) arguments.old → MemoFormed s (graph_of g.now).nodes tags.old memo.old → HasAll (formings (graph_of g.now).nodes tags.old memo.old) (first_forms (length arguments.old) (node_forms s (graph_of g.now).nodes port.node)) →
+        IfOk result (λ x. FormsStep s (graph_of g.now).nodes tags.old memo.old tags.new memo.new port (length arguments.new) x) }
+    ensures valued { AreValued (answers_of memo.old) (node_at (graph_of g.now).nodes port.node).inputs (length arguments.old) → OnOk result (AreValued (answers_of memo.old) (node_at (graph_of g.now).nodes port.node).inputs (length arguments.new)) }
+    ensures met { (s : Sight) → AreValued (answers_of memo.old) (node_at (graph_of g.now).nodes port.node).inputs (length arguments.old) → IfOk result (λ x. StepMet s (graph_of g.now).nodes (answers_of memo.old) port x) }
+    ensures selected { SelectorsValued (graph_of g.now).nodes memo.old → OnOk result (SelectorsValued (graph_of g.now).nodes memo.new) }
 {
     match select_term(g, port, 0, tags, memo)? {
         Selection::Before(first) => Ok(first),
@@ -516,7 +554,7 @@ fn import_step<G: Given>(
 }
 
 /// Whether a module's first input is a selector.
-fn has_name(called: Module) -> bool
+pub(crate) fn has_name(called: Module) -> bool
     ensures { result ≡ is_some (module_selector called) }
 {
     match called {
@@ -560,6 +598,11 @@ fn called_step<G: Given>(
     ensures memo_found { (l : LinkMap) → MemoFound l tags.old memo.old → AllFound l tags.old (formed_of memo.old) arguments.old → OnOk result (MemoFound l tags.new memo.new) }
     ensures arguments_found { (l : LinkMap) → MemoFound l tags.old memo.old → AllFound l tags.old (formed_of memo.old) arguments.old → OnOk result (AllFound l tags.new (formed_of memo.new) arguments.new) }
     ensures found { (l : LinkMap) → MemoFound l tags.old memo.old → AllFound l tags.old (formed_of memo.old) arguments.old → IfOk result (λ x. StepFound l tags.new (formed_of memo.new) x) }
+    ensures forms { (s : Sight) → Tells (G.told given.now) tags.new s → Wrote written.now.files s → MemoRight s (graph_of g.now).nodes tags.old memo.old → Begins (heads_of tags.old) (node_scans s (graph_of g.now).nodes port.node) arguments.old → MemoFormed s (graph_of g.now).nodes tags.old memo.old → HasAll (formings (graph_of g.now).nodes tags.old memo.old) (first_forms (length arguments.old) (node_forms s (graph_of g.now).nodes port.node)) →
+        IfOk result (λ x. FormsStep s (graph_of g.now).nodes tags.old memo.old tags.new memo.new port (length arguments.new) x) }
+    ensures valued { AreValued (answers_of memo.old) (node_at (graph_of g.now).nodes port.node).inputs (length arguments.old) → OnOk result (AreValued (answers_of memo.old) (node_at (graph_of g.now).nodes port.node).inputs (length arguments.new)) }
+    ensures met { (s : Sight) → AreValued (answers_of memo.old) (node_at (graph_of g.now).nodes port.node).inputs (length arguments.old) → IfOk result (λ x. StepMet s (graph_of g.now).nodes (answers_of memo.old) port x) }
+    ensures selected { SelectorsValued (graph_of g.now).nodes memo.old → OnOk result (SelectorsValued (graph_of g.now).nodes memo.new) }
 {
     if has_name(called) {
         import_step(
@@ -587,6 +630,8 @@ fn effect_step(
     ensures fits { (given : ValueTag → Option Value) → IfOk result (λ x. StepFits (graph_of g.now).nodes tags.new given memo.now port x) }
     ensures right { (s : Sight) → MemoRight s (graph_of g.now).nodes tags.old memo.now → IfOk result (λ x. StepRight s (graph_of g.now).nodes tags.new port x) }
     ensures found { (l : LinkMap) → MemoFound l tags.old memo.now → IfOk result (λ x. StepFound l tags.new (formed_of memo.now) x) }
+    ensures forms { (s : Sight) → MemoFormed s (graph_of g.now).nodes tags.old memo.now → IfOk result (λ x. FormsStep s (graph_of g.now).nodes tags.old memo.now tags.new memo.now port 0 x) }
+    ensures met { (s : Sight) → IfOk result (λ x. StepMet s (graph_of g.now).nodes (answers_of memo.now) port x) }
 {
     match e {
         Effect::SetLocal => chosen(g, port, 1, tags, memo),
@@ -636,6 +681,11 @@ pub(crate) fn next_step<G: Given>(
     ensures memo_found { MemoFound links.now.links tags.old memo.old → AllFound links.now.links tags.old (formed_of memo.old) arguments.old → OnOk result (MemoFound links.now.links tags.new memo.new) }
     ensures arguments_found { MemoFound links.now.links tags.old memo.old → AllFound links.now.links tags.old (formed_of memo.old) arguments.old → OnOk result (AllFound links.now.links tags.new (formed_of memo.new) arguments.new) }
     ensures found { MemoFound links.now.links tags.old memo.old → AllFound links.now.links tags.old (formed_of memo.old) arguments.old → IfOk result (λ x. StepFound links.now.links tags.new (formed_of memo.new) x) }
+    ensures forms { (s : Sight) → Sees (G.told given.now) links.now.links written.now.files tags.new s → MemoRight s (graph_of g.now).nodes tags.old memo.old → Begins (heads_of tags.old) (node_scans s (graph_of g.now).nodes port.node) arguments.old → MemoFormed s (graph_of g.now).nodes tags.old memo.old → HasAll (formings (graph_of g.now).nodes tags.old memo.old) (first_forms (length arguments.old) (node_forms s (graph_of g.now).nodes port.node)) →
+        IfOk result (λ x. FormsStep s (graph_of g.now).nodes tags.old memo.old tags.new memo.new port (length arguments.new) x) }
+    ensures valued { AreValued (answers_of memo.old) (node_at (graph_of g.now).nodes port.node).inputs (length arguments.old) → OnOk result (AreValued (answers_of memo.old) (node_at (graph_of g.now).nodes port.node).inputs (length arguments.new)) }
+    ensures met { (s : Sight) → Sees (G.told given.now) links.now.links written.now.files tags.new s → MemoRight s (graph_of g.now).nodes tags.old memo.old → AreValued (answers_of memo.old) (node_at (graph_of g.now).nodes port.node).inputs (length arguments.old) → IfOk result (λ x. StepMet s (graph_of g.now).nodes (answers_of memo.old) port x) }
+    ensures selected { SelectorsValued (graph_of g.now).nodes memo.old → OnOk result (SelectorsValued (graph_of g.now).nodes memo.new) }
 {
     match g.node(port.node).what {
         Function::Module(called) => {

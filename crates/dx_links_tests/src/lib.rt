@@ -3,3 +3,7 @@
 
 #[cfg(test)]
 mod commits;
+#[cfg(test)]
+mod files;
+#[cfg(test)]
+mod terms;

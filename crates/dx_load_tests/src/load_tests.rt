@@ -136,17 +136,18 @@ const NAMES: &[u8; 18] = b"sbcdefghijklmnopqr";
 
 /// Files of so many levels; that of the last level has one statement.
 fn levels(alloc: Global, count: usize) -> Result<Pairs, AllocError> {
+    let names = NAMES.as_slice();
     let mut pairs = Vec::new(alloc);
     for i in 0..17 {
         let mut text = Vec::new(alloc);
         if i + 1 < count {
             put(&mut text, "include \"")?;
-            text.push(NAMES[i + 1])?;
+            text.push(names[i + 1])?;
             put(&mut text, "\"")?;
         } else {
             put(&mut text, "x = 1;")?;
         }
-        put_file(alloc, &mut pairs, &NAMES[i..i + 1], text)?;
+        put_file(alloc, &mut pairs, &names[i..i + 1], text)?;
     }
     Ok(pairs)
 }

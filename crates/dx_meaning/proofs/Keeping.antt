@@ -38,7 +38,7 @@ beside_keeps (Forms t) s' (Ends (Stops site code)) r' p q = rw (p, q) refl
 beside_keeps (Forms t) s' (Ends (Needs site u)) r' p q = tt
 beside_keeps (Forms t) s' (Forms ts) r' p q = rw (p, q) refl
 
-all_keeps : (ss ss' : List (Scanned ValueTerm)) → EachKeeps ss ss' → Keeps (all_scanned ss) (all_scanned ss')
+pub all_keeps : (ss ss' : List (Scanned ValueTerm)) → EachKeeps ss ss' → Keeps (all_scanned ss) (all_scanned ss')
 all_keeps [] [] h = refl
 all_keeps (s ∷ ss) (s' ∷ ss') h = beside_keeps s s' (all_scanned ss) (all_scanned ss') h.0 (all_keeps ss ss' h.1)
 all_keeps [] (s' ∷ ss') h = absurd h
@@ -122,7 +122,7 @@ module_keeps s s' m computing.CollectNamed p result ss ss' h = call_keeps comput
 module_keeps s s' m computing.CollectSeries p result ss ss' h = call_keeps computing.CollectSeries None result (all_scanned ss) (all_scanned ss') (all_keeps ss ss' h)
 module_keeps s s' m computing.Inquire p result ss ss' h = call_keeps computing.Inquire None result (all_scanned ss) (all_scanned ss') (all_keeps ss ss' h)
 
-rule_keeps : (s s' : Sight) → More s s' → (f : Function) (p : Place) (result : ℕ) (ss ss' : List (Scanned ValueTerm)) → EachKeeps ss ss' → Keeps (rule_scanned s f p result ss) (rule_scanned s' f p result ss')
+pub rule_keeps : (s s' : Sight) → More s s' → (f : Function) (p : Place) (result : ℕ) (ss ss' : List (Scanned ValueTerm)) → EachKeeps ss ss' → Keeps (rule_scanned s f p result ss) (rule_scanned s' f p result ss')
 rule_keeps s s' m (function.Module mo) p result ss ss' h = module_keeps s s' m mo p result ss ss' h
 rule_keeps s s' m (function.Effect e) p result ss ss' h = effect_keeps e ss ss' h
 rule_keeps s s' m function.Switch p result ss ss' h = selector_keeps s s' m function.Switch p result ss ss' h

@@ -1,5 +1,6 @@
 pub mod Meaning
 pub mod Met
+pub mod Forming
 pub mod More
 pub mod Outcome
 pub mod Picking

@@ -1,11 +1,23 @@
 // Laws of the meaning of calls.
 ghost use Rattle.dx_meaning.specs.More.{ScansStay};
+ghost use Rattle.dx_meaning.specs.Forming.{FormsStay, FormsOnce};
 ghost use Rattle.dx_meaning.specs.Rows.{Examples};
 ghost use Rattle.dx_meaning.specs.Term.{TermsAreRight};
 
 /// What a tree comes to without resting on a value that isn't told stays as more is told.
 pub fn scans_stay()
     ensures { ScansStay }
+{}
+
+/// What a tree forms without resting on a value that isn't told stays as more is told, and else it is a front of what the tree
+/// forms then.
+pub fn forms_stay()
+    ensures { FormsStay }
+{}
+
+/// Looking may start anew where a value was needed: to form again what was formed changes nothing.
+pub fn forms_once()
+    ensures { FormsOnce }
 {}
 
 /// Where each link's value is what its term denotes, a tree that is neither Off nor Halt is the value that its term denotes,

@@ -3,4 +3,4 @@
 
 mod laws;
 
-pub use laws::{examples_compute, scans_stay, terms_are_right};
+pub use laws::{examples_compute, forms_once, forms_stay, scans_stay, terms_are_right};

@@ -4,7 +4,14 @@ ghost use Rattle.dx_modules.specs.Few.{few};
 
 use dx_base::{Bytes, Module};
 use dx_compute::run_compute;
+use dx_import::run_import;
+use dx_inquire::run_inquire;
 use dx_objects::{Code, Library, Outs, RunFail};
+use dx_select::{
+    run_collect, run_collect_named, run_collect_series, run_extract, run_mark, run_replace,
+    run_select, run_unmark,
+};
+use dx_stats::run_statistics;
 use std::alloc::Global;
 
 /// The fourteen modules of Data Explorer's integer profile. It keeps no runs. A module that isn't built yet refuses its
@@ -33,11 +40,22 @@ impl Library for Modules {
         alloc: Global,
         module: Module,
         inputs: &Outs,
-        _file: Option<&Bytes>,
+        file: Option<&Bytes>,
     ) -> Result<Outs, RunFail> {
         match module {
+            Module::Import => run_import(alloc, inputs, file),
+            Module::Select => run_select(alloc, inputs),
+            Module::Extract => run_extract(alloc, inputs),
+            Module::Replace => run_replace(alloc, inputs),
+            Module::Mark => run_mark(alloc, inputs),
+            Module::Unmark => run_unmark(alloc, inputs),
             Module::Compute => run_compute(alloc, inputs),
-            _ => Err(RunFail::Code(Code::Unsupported)),
+            Module::Statistics => run_statistics(alloc, inputs),
+            Module::Collect => run_collect(alloc, inputs),
+            Module::CollectNamed => run_collect_named(alloc, inputs),
+            Module::CollectSeries => run_collect_series(alloc, inputs),
+            Module::Inquire => run_inquire(alloc, inputs),
+            Module::Slab | Module::Histogram => Err(RunFail::Code(Code::Unsupported)),
         }
     }
 }

@@ -6,4 +6,4 @@ mod read;
 pub use dx_base::{Bytes, NativeKind};
 pub use dx_native_lex::{NativeError, NativeFail, Token, TokenKind, tokens};
 pub use dx_objects::Object;
-pub use read::read_object;
+pub use read::{Checked, read_checked, read_object};

@@ -8,16 +8,41 @@ ghost use Rattle.dx_native_lex.specs.declared.fault.NativeError.{NativeError as 
 ghost use Rattle.dx_native_grammar.specs.Meaning as spec;
 ghost use Rattle.dx_native_grammar.specs.Native.{IsNative};
 ghost use Rattle.dx_native_sound.specs.Sound.{Every, IsSound};
+ghost use Rattle.dx_native_fields.specs.Good.{good_fields};
 ghost use Rattle.dx_native_read.specs.Answer.{Means, Answers, native_of};
+ghost use Rattle.dx_native_read.specs.Found.{IsFound, found_object, read_tree, checked_object};
 
 use dx_base::{Bytes, NativeKind};
 use dx_native_clauses::{ClauseTable, FileClauses, read_clauses};
+use dx_native_fields::has_good_fields;
 use dx_native_levels::object_levels;
 use dx_native_lex::{NativeError, NativeFail};
 use dx_native_references::references_fault;
-use dx_native_walk::{BuildFail, clause_object};
+use dx_native_walk::{BuildFail, Memo, clause_object, nothing_built};
 use dx_objects::Object;
-use std::alloc::Global;
+use std::alloc::{AllocError, Global};
+
+/// An object of a file, the place of its clause, and the objects that were built for it.
+#[derive(Drop)]
+pub(crate) struct Found {
+    object: Object,
+    place: usize,
+    memo: Memo,
+}
+
+/// An object of a file with the file's clauses.
+#[derive(Drop)]
+pub(crate) struct Contents {
+    clauses: ClauseTable,
+    found: Found,
+}
+
+/// An object of a file, and whether it is no field with a fault, nor any object that its parts reach, attributes aside.
+#[derive(Drop)]
+pub struct Checked {
+    pub object: Object,
+    pub good_fields: bool,
+}
 
 /// The clause that is asked for, else that of the last `default`, else the last one.
 fn wanted(file: &FileClauses, which: Option<&Bytes>) -> Option<usize>
@@ -58,11 +83,12 @@ fn within_limits(object: Object) -> Object
 }
 
 /// The object of clause number i, or why it is none. The offset is that of the clause's name.
-fn object_at(alloc: Global, clauses: &ClauseTable, i: usize, at: u64) -> Result<Object, NativeFail>
+fn object_at(alloc: Global, clauses: &ClauseTable, i: usize, at: u64) -> Result<Found, NativeFail>
     requires sound { Every IsSound clauses.now }
     requires references { spec.clauses_fault clauses.now clauses.now ≡ None }
-    ensures means { Means (spec.object_or (spec.tree_at clauses.now 64 i) at) result }
-    ensures ints { IfOk result (λ t. steps_by_ints t ≡ true) }
+    ensures means { Means (spec.object_or (spec.tree_at clauses.now 64 i) at) (found_object result) }
+    ensures ints { IfOk result (λ found. steps_by_ints found.object ≡ true) }
+    ensures found { IfOk result (λ found. IsFound clauses.now found) }
 {
     match object_levels(alloc, clauses, i)? {
         None => Err(refused(NativeKind::TooDeep, at)),
@@ -76,15 +102,21 @@ fn object_within(
     clauses: &ClauseTable,
     i: usize,
     at: u64,
-) -> Result<Object, NativeFail>
+) -> Result<Found, NativeFail>
     requires sound { Every IsSound clauses.now }
     requires references { spec.clauses_fault clauses.now clauses.now ≡ None }
     requires levels { spec.tree_at clauses.now 64 i ≡ None → ⊥ }
-    ensures means { Means (spec.object_or (spec.tree_at clauses.now 64 i) at) result }
-    ensures ints { IfOk result (λ t. steps_by_ints t ≡ true) }
+    ensures means { Means (spec.object_or (spec.tree_at clauses.now 64 i) at) (found_object result) }
+    ensures ints { IfOk result (λ found. steps_by_ints found.object ≡ true) }
+    ensures found { IfOk result (λ found. IsFound clauses.now found) }
 {
-    match clause_object(alloc, clauses, i) {
-        Ok(object) => Ok(within_limits(object)),
+    let mut memo = nothing_built(alloc, clauses)?;
+    match clause_object(alloc, clauses, &mut memo, i) {
+        Ok(object) => Ok(Found {
+            object: within_limits(object),
+            place: i,
+            memo,
+        }),
         Err(fail) => Err(native_fail(fail, at)),
     }
 }
@@ -107,10 +139,11 @@ fn object_of_file(
     file: &FileClauses,
     which: Option<&Bytes>,
     len: u64,
-) -> Result<Object, NativeFail>
+) -> Result<Found, NativeFail>
     requires sound { Every IsSound file.now.clauses }
-    ensures means { Means (spec.meant file.now (option_map (λ b. b.now) which.entry) len) result }
-    ensures ints { IfOk result (λ t. steps_by_ints t ≡ true) }
+    ensures means { Means (spec.meant file.now (option_map (λ b. b.now) which.entry) len) (found_object result) }
+    ensures ints { IfOk result (λ found. steps_by_ints found.object ≡ true) }
+    ensures found { IfOk result (λ found. IsFound file.now.clauses found) }
 {
     if let Some(fault) = references_fault(file) {
         return Err(NativeFail::Refused(fault));
@@ -151,13 +184,74 @@ pub fn read_object(alloc: Global, bytes: &[u8], which: Option<&Bytes>) -> Result
     // The origins and deltas of regular arrays and of grids' points are ints.
     ensures ints { IfOk result (λ t. steps_by_ints t ≡ true) }
 {
-    answer(alloc, bytes, which)
+    match read(alloc, bytes, which) {
+        Err(fail) => Err(fail),
+        Ok(contents) => Ok(object_of(contents)),
+    }
 }
 
-fn answer(alloc: Global, bytes: &[u8], which: Option<&Bytes>) -> Result<Object, NativeFail>
-    ensures answers { Answers bytes.now (option_map (λ b. b.now) which.entry) result }
-    ensures ints { IfOk result (λ t. steps_by_ints t ≡ true) }
+/// What a file means, as `read_object` has it, and whether the fields within are good. Each clause is looked at once for
+/// that, so a part that many refer to costs no more than one that stands alone.
+pub fn read_checked(
+    alloc: Global,
+    bytes: &[u8],
+    which: Option<&Bytes>,
+) -> Result<Checked, NativeFail>
+    ensures answers { Answers bytes.now (option_map (λ b. b.now) which.entry) (checked_object result) }
+    ensures only { (r : Result Tree Fault) → IsNative bytes.now (option_map (λ b. b.now) which.entry) r → Means r (checked_object result) }
+    ensures ints { IfOk result (λ checked. steps_by_ints checked.object ≡ true) }
+    ensures good { IfOk result (λ checked. checked.good_fields ≡ good_fields checked.object) }
+{
+    match read(alloc, bytes, which) {
+        Err(fail) => Err(fail),
+        Ok(contents) => Ok(with_check(alloc, contents)?),
+    }
+}
+
+fn object_of(contents: Contents) -> Object
+    ensures { result ≡ contents.found.object }
+{
+    let Contents { clauses: _, found } = contents;
+    found.object
+}
+
+fn with_check(alloc: Global, contents: Contents) -> Result<Checked, AllocError>
+    requires { IsFound contents.clauses contents.found }
+    ensures object { IfOk result (λ checked. checked.object ≡ contents.found.object) }
+    ensures good { IfOk result (λ checked. checked.good_fields ≡ good_fields contents.found.object) }
+{
+    let Contents { clauses, found } = contents;
+    let Found {
+        object,
+        place,
+        mut memo,
+    } = found;
+    let good_fields = has_good_fields(alloc, &clauses, &mut memo, place, &object)?;
+    Ok(Checked {
+        object,
+        good_fields,
+    })
+}
+
+/// The clauses of a file, and the object that is asked for.
+fn read(alloc: Global, bytes: &[u8], which: Option<&Bytes>) -> Result<Contents, NativeFail>
+    ensures answers { Answers bytes.now (option_map (λ b. b.now) which.entry) (read_tree result) }
+    ensures only { (r : Result Tree Fault) → IsNative bytes.now (option_map (λ b. b.now) which.entry) r → Means r (read_tree result) }
+    ensures ints { IfOk result (λ contents. steps_by_ints contents.found.object ≡ true) }
+    ensures found { IfOk result (λ contents. IsFound contents.clauses contents.found) }
+{
+    contents_of(alloc, bytes, which)
+}
+
+fn contents_of(alloc: Global, bytes: &[u8], which: Option<&Bytes>) -> Result<Contents, NativeFail>
+    ensures answers { Answers bytes.now (option_map (λ b. b.now) which.entry) (read_tree result) }
+    ensures ints { IfOk result (λ contents. steps_by_ints contents.found.object ≡ true) }
+    ensures found { IfOk result (λ contents. IsFound contents.clauses contents.found) }
 {
     let file = read_clauses(alloc, bytes)?;
-    object_of_file(alloc, &file, which, bytes.len() as u64)
+    let found = object_of_file(alloc, &file, which, bytes.len() as u64)?;
+    Ok(Contents {
+        clauses: file.clauses,
+        found,
+    })
 }

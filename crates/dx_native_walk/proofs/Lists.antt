@@ -51,7 +51,7 @@ failed_parts whole p r e y is same h q =
 
 -- ---- parts
 
-parts_opened : (f : List ℕ → Option Tree) (ls : List Part) (i : ℕ) (l : Part) → i < length ls → l ≡ get_or ls i l
+pub parts_opened : (f : List ℕ → Option Tree) (ls : List Part) (i : ℕ) (l : Part) → i < length ls → l ≡ get_or ls i l
     → parts_at f (drop i ls) ≡ with_part l.name l.position (f l.target.text) (parts_at f (drop (i + 1) ls))
 parts_opened f ls i l below e =
     ap (parts_at f) (drop-cons ls i l below) ∙ ap (λ (m : Part). with_part m.name m.position (f m.target.text) (parts_at f (drop (suc i) ls))) (sym e)

@@ -8,4 +8,5 @@ mod memo;
 mod walk;
 
 pub use fail::BuildFail;
-pub use walk::clause_object;
+pub use memo::Memo;
+pub use walk::{build, clause_object, nothing_built};

@@ -8,6 +8,7 @@ use std::alloc::{AllocError, Global};
 use std::marker::Model;
 use std::rc::Rc;
 
+/// Objects of clauses that are built already. Contracts see a list with an object, or none, for each clause.
 #[derive(Drop)]
 pub struct Memo {
     items: Vec<Option<Rc<Object>>>,
@@ -30,7 +31,7 @@ impl Model for Memo {
 
 impl Memo {
     /// Room for so many objects, none of which is built.
-    pub fn new(alloc: Global, n: usize) -> Result<Memo, AllocError>
+    pub(crate) fn new(alloc: Global, n: usize) -> Result<Memo, AllocError>
         ensures { IfOk result (λ m. m ≡ replicate n None) }
     {
         let mut items = Vec::new(alloc);
@@ -41,14 +42,14 @@ impl Memo {
     }
 
     /// The object of this place.
-    pub fn get(&self, i: usize) -> &Option<Rc<Object>>
+    pub(crate) fn get(&self, i: usize) -> &Option<Rc<Object>>
         requires { i < length self.now }
         ensures { slice_index_or self.now i None ≡ tree_in result.now }
     {
         &self.items[i]
     }
 
-    pub fn set(&mut self, i: usize, object: Rc<Object>)
+    pub(crate) fn set(&mut self, i: usize, object: Rc<Object>)
         requires { i < length self.old }
         ensures { self.new ≡ slice_set self.old i (Some object.value) }
     {

@@ -14,7 +14,7 @@ use dx_base::Bytes;
 use dx_native_clauses::{Attribute, Body, Clause, ClauseTable, Given, ListClass, Part as Line};
 use dx_native_lex::Named;
 use dx_objects::{Array, Object, ObjectError, Part, Parts};
-use std::alloc::Global;
+use std::alloc::{AllocError, Global};
 use std::rc::Rc;
 
 fn clause_of(clauses: &ClauseTable, i: usize) -> Option<&Clause>
@@ -206,9 +206,9 @@ fn object_of(
     body_object(alloc, clauses, memo, &clause.content.body, others, calls)
 }
 
-/// The object of clause number i, of at most so many levels.
+/// The object of clause number i, of at most so many levels: the one that is kept, else it is built and kept.
 #[cycle(build)]
-fn build(
+pub fn build(
     alloc: Global,
     clauses: &ClauseTable,
     memo: &mut Memo,
@@ -233,13 +233,26 @@ fn build(
     Ok(object)
 }
 
-/// The object of clause number i, of at most 64 levels.
-pub fn clause_object(alloc: Global, clauses: &ClauseTable, i: usize) -> Result<Object, BuildFail>
-    ensures { BuildsObject (tree_at clauses.now 64 i) result }
+/// Room for the objects of these clauses, none of which is built.
+pub fn nothing_built(alloc: Global, clauses: &ClauseTable) -> Result<Memo, AllocError>
+    ensures { IfOk result (λ memo. IsKnown clauses.now memo) }
 {
-    let Some(clause) = clause_of(clauses, i) else {
-        return Err(BuildFail::Deep);
-    };
-    let mut memo = Memo::new(alloc, clauses.as_slice().len())?;
-    object_of(alloc, clauses, &mut memo, clause, 63)
+    Memo::new(alloc, clauses.as_slice().len())
+}
+
+/// The object of clause number i, of at most 64 levels. All that its parts and attributes name is kept; it itself isn't.
+pub fn clause_object(
+    alloc: Global,
+    clauses: &ClauseTable,
+    memo: &mut Memo,
+    i: usize,
+) -> Result<Object, BuildFail>
+    requires { IsKnown clauses.now memo.old }
+    ensures built { BuildsObject (tree_at clauses.now 64 i) result }
+    ensures known { OnOk result (IsKnown clauses.now memo.new) }
+{
+    match clause_of(clauses, i) {
+        None => Err(BuildFail::Deep),
+        Some(clause) => object_of(alloc, clauses, memo, clause, 63),
+    }
 }

@@ -1,20 +1,30 @@
 use Rattle.dx_demand.specs.Memo.{FirstNodes, formed_of}
 use Rattle.dx_demand.specs.Found.{SettledFound, StepFound, StackFound}
 use Rattle.dx_demand.proofs.Finding.{kept_itself, kept_same, same_firsts, settle_found, stack_found_grows, stack_found_split, stack_found_join, opens_found}
-use Rattle.std.proofs.Common.{◌≡◌, ◌∙◌, ◌+◌, ◌*◌, ◌<◌, ◌++◌, ◌∷◌, [], ℕ, List, length, refl, sym, ap, ap₂, subst, arith}
+use Rattle.std.proofs.Common.{◌≡◌, ◌∙◌, ◌+◌, ◌*◌, ◌<◌, ◌++◌, ◌∷◌, [], List, length, sym, ap, ap₂, subst}
 use Rattle.dx_graph.specs.GraphView.{graph_of}
 use Rattle.dx_tags.specs.declared.term.ValueTag.{ValueTag}
 use Rattle.dx_tags.specs.Closed.{heads_of, value_term}
 use Rattle.dx_tags.proofs.Growth.{goes_on_same, goes_on_then}
-use Rattle.dx_meaning.specs.Scan.{Needs, Ends}
-use Rattle.dx_demand.specs.Memo.{Answers, answers_of, with_answer, site_of, shown, SettledFits, IsPort, port_scan}
+use Rattle.dx_meaning.specs.Scan.{Needs}
+use Rattle.dx_demand.specs.Memo.{Answers, answers_of, with_answer, site_of, shown, SettledFits, port_scan}
 use Rattle.dx_demand.specs.Stack.{fresh, bottom, Leads, StackFits, StackRight}
 use Rattle.dx_demand.specs.Steps.{StepFits, StepRight, LeftRight}
 use Rattle.dx_demand.specs.declared.seen.Frame.{Frame}
 use Rattle.dx_demand.proofs.Growing.{links_fit_grows, sees_before}
 use Rattle.dx_demand.proofs.Memos.{settle_fits, settle_right, settle_keeps}
-use Rattle.dx_demand.proofs.Stacks.{Top, stack_split, stack_join, right_join, left_right, bottom_push, opens_fits, opens_right, opens_bottom, open_ports}
+use Rattle.dx_demand.proofs.Stacks.{stack_split, stack_join, right_join, left_right, bottom_push, opens_fits, opens_right, opens_bottom, open_ports}
 use Rattle.dx_demand.proofs.PortSteps.{with_arguments, top_after, right_after, top_begins, awaits_fits, awaits_right, needs_right, below_fits, below_bottom, last_bottom, same_bottom, settled_less}
+use Rattle.dx_graph.specs.Graph.{node_at}
+use Rattle.dx_demand.specs.Memo.{input_at}
+use Rattle.dx_demand.specs.declared.settled.Port.{Port}
+use Rattle.dx_demand.specs.declared.step.Known.TheVariants as known
+use Rattle.dx_demand.specs.Calling.{KnownValued, StepMet, MemoMet, StackValued}
+use Rattle.dx_demand.proofs.Calls.{settle_met, stack_valued_put, selectors_put, put_valued, valued_split, valued_join, none_valued, opens_valued}
+use Rattle.dx_demand.specs.Forming.{formings, port_forms, StepForms, LeftFormed}
+use Rattle.dx_demand.proofs.FormedPorts.{toward_itself}
+use Rattle.dx_demand.proofs.FormedSteps.{formed_split, opens_formed, settle_formed}
+use Rattle.dx_demand.proofs.FormedLoop.{FormedAt, loop_step, loop_settles, loop_awaits, loop_ends, loop_needs, loop_left}
 use Rattle.dx_demand.proofs.resolving.settle_port.Goals as goal
 
 pub steps-init : goal.steps-init
@@ -34,6 +44,8 @@ steps-init g c =
       kept = λ n t e. e;
       first = kept_itself (formed_of c.args.seen.now.memo);
       found = λ cl. (cl.memo, opens_found c.args.links.now.links c.args.tags.now (formed_of c.args.seen.now.memo) root before after top cl.stack c.top_of-top.ensures);
+      met = λ s sees seen f. (f.memo, f.selectors, opens_valued nodes answers root before after top f.stack c.top_of-top.ensures);
+      forms = λ s sees seen f. record { toward = toward_itself (port_forms s nodes root) (formings nodes c.args.tags.now c.args.seen.now.memo); memo = f.memo; stack = opens_formed s nodes (formings nodes c.args.tags.now c.args.seen.now.memo) root before after top f.left c.top_of-top.ensures };
       right = λ s sees seen. (seen.memo, opens_right s nodes c.args.tags.now root before after top seen.left c.top_of-top.ensures);
     }
 
@@ -284,6 +296,33 @@ steps-preserved-in-Some g c =
           let answer_found : SettledFound links mid (formed_of memo2) a.settled = subst (StepFound links mid (formed_of memo2)) c.in-Settles.is stepped in
           let memo_found = settle_found links mid memo2 memo3 top.port a ok selectors first answer_found kept_memo in
           (memo_found, subst (StackFound links mid (formed_of memo3)) e (subst (λ (x : FirstNodes). StackFound links mid x fs) (sym (same_firsts memo2 memo3 first)) rest_found));
+      met = λ s sees seen f.
+          let links = links_fit_grows c.args.tags.now old inv.goes_on c.args.links.now.links c.requires.links in
+          let sees_old = sees_before told old mid goes c.args.links.now.links c.args.written.now.files links s sees in
+          let r = inv.right s sees_old seen in
+          let here = inv.met s sees_old seen f in
+          let parts = valued_split nodes (answers_of memo1) fs top here.2 in
+          let stepped = c.in_ok-a.ensures.met s sees r.0 parts.1 in
+          let taken = c.in_ok-a.ensures.valued parts.1 in
+          let chosen = c.in_ok-a.ensures.selected here.1 in
+          let own = subst (StepMet s nodes (answers_of memo1) top.port) c.in-Settles.is stepped in
+          let open_ = (stack_split nodes old (answers_of memo1) fs top inv.stack).open_ in
+          let both : answers_of memo3 ≡ with_answer (answers_of memo1) top.port a = ok ∙ ap (λ (x : Answers). with_answer x top.port a) same in
+          let memo_met = subst (MemoMet s nodes) (sym both) (settle_met s nodes (answers_of memo1) top.port a open_ own here.0) in
+          let selectors_met = selectors_put nodes memo2 memo3 top.port a (ap (λ (x : Answers). x top.port) same ∙ open_) ok selectors chosen in
+          (memo_met, selectors_met, subst (StackValued nodes (answers_of memo3)) e (subst (λ (x : Answers). StackValued nodes x fs) (sym both) (stack_valued_put nodes (answers_of memo1) top.port a open_ fs parts.0)));
+      forms = λ s sees seen f.
+          let links = links_fit_grows c.args.tags.now old inv.goes_on c.args.links.now.links c.requires.links in
+          let sees_old = sees_before told old mid goes c.args.links.now.links c.args.written.now.files links s sees in
+          let r = inv.right s sees_old seen in
+          let begins = top_begins s nodes old root fs top r.1 in
+          let was = formings nodes c.args.tags.now c.args.seen.now.memo in
+          let at = inv.forms s sees_old seen f in
+          let here = (formed_split s nodes (formings nodes old memo1) root fs top at.stack).1 in
+          let stepped = c.in_ok-a.ensures.forms s sees r.0 begins at.memo here.arguments in
+          let by = loop_step s nodes was old mid memo1 memo2 root fs top args at stepped.0 in
+          let there = subst (StepForms s nodes (formings nodes mid memo2) top.port) c.in-Settles.is stepped.1 in
+          loop_settles s nodes was mid memo2 memo3 root fs rest now below a by there ok selectors first e;
       right = λ s sees seen.
           let links = links_fit_grows c.args.tags.now old inv.goes_on c.args.links.now.links c.requires.links in
           let r = inv.right s (sees_before told old mid goes c.args.links.now.links c.args.written.now.files links s sees) seen in
@@ -368,6 +407,30 @@ steps-preserved g c =
           let stepped = c.in_ok-a.ensures.found pair.0 split.1 in
           let rest_found = stack_found_grows nodes old mid c.in_ok-a.ensures.goes_on links (formed_of memo1) (formed_of memo2) c.in_ok-a.ensures.first (answers_of memo1) fs (stack_split nodes old (answers_of memo1) fs top inv.stack).rest split.0 in
           (kept_memo, subst (StackFound links mid (formed_of memo2)) chain (stack_found_join links mid (formed_of memo2) (fs ++ now ∷ []) (fresh q) (stack_found_join links mid (formed_of memo2) fs now rest_found kept_args) tt));
+      met = λ s sees seen f.
+          let links = links_fit_grows c.args.tags.now old inv.goes_on c.args.links.now.links c.requires.links in
+          let sees_old = sees_before told old mid goes c.args.links.now.links c.args.written.now.files links s sees in
+          let r = inv.right s sees_old seen in
+          let here = inv.met s sees_old seen f in
+          let parts = valued_split nodes (answers_of memo1) fs top here.2 in
+          let stepped = c.in_ok-a.ensures.met s sees r.0 parts.1 in
+          let taken = c.in_ok-a.ensures.valued parts.1 in
+          let chosen = c.in_ok-a.ensures.selected here.1 in
+          let joined = valued_join nodes (answers_of memo1) (fs ++ now ∷ []) (fresh q) (valued_join nodes (answers_of memo1) fs now parts.0 taken) (none_valued (answers_of memo1) (node_at nodes q.node).inputs) in
+          (subst (MemoMet s nodes) (sym same) here.0, chosen, subst (StackValued nodes (answers_of memo2)) chain (subst (λ (x : Answers). StackValued nodes x ((fs ++ now ∷ []) ++ fresh q ∷ [])) (sym same) joined));
+      forms = λ s sees seen f.
+          let links = links_fit_grows c.args.tags.now old inv.goes_on c.args.links.now.links c.requires.links in
+          let sees_old = sees_before told old mid goes c.args.links.now.links c.args.written.now.files links s sees in
+          let r = inv.right s sees_old seen in
+          let begins = top_begins s nodes old root fs top r.1 in
+          let was = formings nodes c.args.tags.now c.args.seen.now.memo in
+          let at = inv.forms s sees_old seen f in
+          let here = (formed_split s nodes (formings nodes old memo1) root fs top at.stack).1 in
+          let stepped = c.in_ok-a.ensures.forms s sees r.0 begins at.memo here.arguments in
+          let by = loop_step s nodes was old mid memo1 memo2 root fs top args at stepped.0 in
+          let leads : Leads s nodes top.port q = subst (StepRight s nodes mid top.port) c.in-Awaits.is (c.in_ok-a.ensures.right s sees r.0 begins) in
+          let reaches = subst (StepForms s nodes (formings nodes mid memo2) top.port) c.in-Awaits.is stepped.1 in
+          subst (FormedAt s nodes was mid memo2 root) chain (loop_awaits s nodes was mid memo2 root fs now q by leads reaches);
       right = λ s sees seen.
           let links = links_fit_grows c.args.tags.now old inv.goes_on c.args.links.now.links c.requires.links in
           let r = inv.right s (sees_before told old mid goes c.args.links.now.links c.args.written.now.files links s sees) seen in
@@ -566,3 +629,238 @@ returns-in-Needs-clause-found g c = λ cl.
 
 pub returns-in-Needs-clause-first : goal.returns-in-Needs-clause-first
 returns-in-Needs-clause-first g c = λ t n at. c.in_ok-a.ensures.first t n (c.steps.invariant.first t n at)
+
+pub returns-in-None-clause-seen_formed : goal.returns-in-None-clause-seen_formed
+returns-in-None-clause-seen_formed g c =
+    let nodes = (graph_of c.args.g.now).nodes in
+    let told = g.G.Given.told c.args.given.now in
+    let root = c.args.root in
+    let old = c.steps.tags in
+    let fs = c.steps.seen.stack.items in
+    let top = c.steps.top in
+    let inv = c.steps.invariant in
+    let memo1 = c.steps.seen.memo in
+    let mid = c.next_step.new.tags in
+    let memo2 = c.next_step.new.memo in
+    let args = c.next_step.new.arguments in
+    let now = with_arguments top args in
+    let goes = c.in_ok-a.ensures.goes_on in
+    let same : answers_of memo2 ≡ answers_of memo1 = c.in_ok-a.ensures.answers in
+    let there = top_after nodes old mid goes (answers_of memo1) (answers_of memo2) same fs top args c.in_ok-a.ensures.few c.in_ok-a.ensures.earlier inv.stack in
+    let a = c.in-Settles.a in
+    let memo3 = c.settle.new.self in
+    let ok : answers_of memo3 ≡ with_answer (answers_of memo2) top.port a = c.in_ok-settle-in-Settles.ensures.ok in
+    let selectors : memo3.selectors ≡ memo2.selectors = c.in_ok-settle-in-Settles.ensures.selectors in
+    let first : memo3.formed ≡ memo2.formed = c.in_ok-settle-in-Settles.ensures.formed in
+    let fits : SettledFits nodes mid a.settled = subst (StepFits nodes mid told memo2 top.port) c.in-Settles.is c.in_ok-a.ensures.fits in
+    let memo_fits = settle_fits nodes mid memo2 memo3 top.port a ok selectors first fits c.in_ok-a.ensures.memo in
+    λ s sees seen f.
+    let links = links_fit_grows c.args.tags.now old inv.goes_on c.args.links.now.links c.requires.links in
+    let sees_old = sees_before told old mid goes c.args.links.now.links c.args.written.now.files links s sees in
+    let r = inv.right s sees_old seen in
+    let begins = top_begins s nodes old root fs top r.1 in
+    let was = formings nodes c.args.tags.now c.args.seen.now.memo in
+    let at = inv.forms s sees_old seen f in
+    let here = (formed_split s nodes (formings nodes old memo1) root fs top at.stack).1 in
+    let stepped = c.in_ok-a.ensures.forms s sees r.0 begins at.memo here.arguments in
+    let by = loop_step s nodes was old mid memo1 memo2 root fs top args at stepped.0 in
+    let there = subst (StepForms s nodes (formings nodes mid memo2) top.port) c.in-Settles.is stepped.1 in
+    record { memo = settle_formed s nodes mid memo2 memo3 top.port a ok selectors first there by.memo; left = subst (LeftFormed s nodes (formings nodes mid memo3)) (sym c.in-None.ensures.0) tt }
+
+pub returns-in-None-clause-forms : goal.returns-in-None-clause-forms
+returns-in-None-clause-forms g c =
+    let nodes = (graph_of c.args.g.now).nodes in
+    let told = g.G.Given.told c.args.given.now in
+    let root = c.args.root in
+    let old = c.steps.tags in
+    let fs = c.steps.seen.stack.items in
+    let top = c.steps.top in
+    let inv = c.steps.invariant in
+    let memo1 = c.steps.seen.memo in
+    let mid = c.next_step.new.tags in
+    let memo2 = c.next_step.new.memo in
+    let args = c.next_step.new.arguments in
+    let now = with_arguments top args in
+    let goes = c.in_ok-a.ensures.goes_on in
+    let same : answers_of memo2 ≡ answers_of memo1 = c.in_ok-a.ensures.answers in
+    let there = top_after nodes old mid goes (answers_of memo1) (answers_of memo2) same fs top args c.in_ok-a.ensures.few c.in_ok-a.ensures.earlier inv.stack in
+    let a = c.in-Settles.a in
+    let memo3 = c.settle.new.self in
+    let ok : answers_of memo3 ≡ with_answer (answers_of memo2) top.port a = c.in_ok-settle-in-Settles.ensures.ok in
+    let selectors : memo3.selectors ≡ memo2.selectors = c.in_ok-settle-in-Settles.ensures.selectors in
+    let first : memo3.formed ≡ memo2.formed = c.in_ok-settle-in-Settles.ensures.formed in
+    let fits : SettledFits nodes mid a.settled = subst (StepFits nodes mid told memo2 top.port) c.in-Settles.is c.in_ok-a.ensures.fits in
+    let memo_fits = settle_fits nodes mid memo2 memo3 top.port a ok selectors first fits c.in_ok-a.ensures.memo in
+    λ s sees seen f.
+    let links = links_fit_grows c.args.tags.now old inv.goes_on c.args.links.now.links c.requires.links in
+    let sees_old = sees_before told old mid goes c.args.links.now.links c.args.written.now.files links s sees in
+    let r = inv.right s sees_old seen in
+    let begins = top_begins s nodes old root fs top r.1 in
+    let was = formings nodes c.args.tags.now c.args.seen.now.memo in
+    let at = inv.forms s sees_old seen f in
+    let here = (formed_split s nodes (formings nodes old memo1) root fs top at.stack).1 in
+    let stepped = c.in_ok-a.ensures.forms s sees r.0 begins at.memo here.arguments in
+    let by = loop_step s nodes was old mid memo1 memo2 root fs top args at stepped.0 in
+    let there = subst (StepForms s nodes (formings nodes mid memo2) top.port) c.in-Settles.is stepped.1 in
+    loop_ends s nodes was mid memo2 memo3 root fs now by there first (last_bottom fs top root c.in-None.ensures.1 inv.bottom)
+
+pub returns-in-Needs-clause-seen_formed : goal.returns-in-Needs-clause-seen_formed
+returns-in-Needs-clause-seen_formed g c =
+    let nodes = (graph_of c.args.g.now).nodes in
+    let told = g.G.Given.told c.args.given.now in
+    let root = c.args.root in
+    let old = c.steps.tags in
+    let fs = c.steps.seen.stack.items in
+    let top = c.steps.top in
+    let inv = c.steps.invariant in
+    let memo1 = c.steps.seen.memo in
+    let mid = c.next_step.new.tags in
+    let memo2 = c.next_step.new.memo in
+    let args = c.next_step.new.arguments in
+    let now = with_arguments top args in
+    let goes = c.in_ok-a.ensures.goes_on in
+    let same : answers_of memo2 ≡ answers_of memo1 = c.in_ok-a.ensures.answers in
+    let there = top_after nodes old mid goes (answers_of memo1) (answers_of memo2) same fs top args c.in_ok-a.ensures.few c.in_ok-a.ensures.earlier inv.stack in
+    let pushed : c.push_frame-in-Needs.new.stack.items ≡ fs ++ now ∷ [] = c.in_ok-push_frame-in-Needs.ensures in
+    λ s sees seen f.
+    let links = links_fit_grows c.args.tags.now old inv.goes_on c.args.links.now.links c.requires.links in
+    let sees_old = sees_before told old mid goes c.args.links.now.links c.args.written.now.files links s sees in
+    let r = inv.right s sees_old seen in
+    let begins = top_begins s nodes old root fs top r.1 in
+    let was = formings nodes c.args.tags.now c.args.seen.now.memo in
+    let at = inv.forms s sees_old seen f in
+    let here = (formed_split s nodes (formings nodes old memo1) root fs top at.stack).1 in
+    let stepped = c.in_ok-a.ensures.forms s sees r.0 begins at.memo here.arguments in
+    let by = loop_step s nodes was old mid memo1 memo2 root fs top args at stepped.0 in
+    record { memo = by.memo; left = subst (LeftFormed s nodes (formings nodes mid memo2)) (sym pushed) (loop_left s nodes was mid memo2 root fs now by (same_bottom fs top args ∙ inv.bottom)) }
+
+pub returns-in-Needs-clause-forms : goal.returns-in-Needs-clause-forms
+returns-in-Needs-clause-forms g c =
+    let nodes = (graph_of c.args.g.now).nodes in
+    let told = g.G.Given.told c.args.given.now in
+    let root = c.args.root in
+    let old = c.steps.tags in
+    let fs = c.steps.seen.stack.items in
+    let top = c.steps.top in
+    let inv = c.steps.invariant in
+    let memo1 = c.steps.seen.memo in
+    let mid = c.next_step.new.tags in
+    let memo2 = c.next_step.new.memo in
+    let args = c.next_step.new.arguments in
+    let now = with_arguments top args in
+    let goes = c.in_ok-a.ensures.goes_on in
+    let same : answers_of memo2 ≡ answers_of memo1 = c.in_ok-a.ensures.answers in
+    let there = top_after nodes old mid goes (answers_of memo1) (answers_of memo2) same fs top args c.in_ok-a.ensures.few c.in_ok-a.ensures.earlier inv.stack in
+    λ s sees seen f.
+    let links = links_fit_grows c.args.tags.now old inv.goes_on c.args.links.now.links c.requires.links in
+    let sees_old = sees_before told old mid goes c.args.links.now.links c.args.written.now.files links s sees in
+    let r = inv.right s sees_old seen in
+    let begins = top_begins s nodes old root fs top r.1 in
+    let was = formings nodes c.args.tags.now c.args.seen.now.memo in
+    let at = inv.forms s sees_old seen f in
+    let here = (formed_split s nodes (formings nodes old memo1) root fs top at.stack).1 in
+    let stepped = c.in_ok-a.ensures.forms s sees r.0 begins at.memo here.arguments in
+    let by = loop_step s nodes was old mid memo1 memo2 root fs top args at stepped.0 in
+    let there = subst (StepForms s nodes (formings nodes mid memo2) top.port) c.in-Needs.is stepped.1 in
+    let needs = Needs (site_of nodes top.port.node) (value_term (heads_of mid) c.in-Needs.t) in
+    loop_needs s nodes was mid memo2 root fs now needs by there (subst (StepRight s nodes mid top.port) c.in-Needs.is (c.in_ok-a.ensures.right s sees r.0 begins))
+
+pub returns-in-None-clause-seen_met : goal.returns-in-None-clause-seen_met
+returns-in-None-clause-seen_met g c =
+    let nodes = (graph_of c.args.g.now).nodes in
+    let told = g.G.Given.told c.args.given.now in
+    let root = c.args.root in
+    let old = c.steps.tags in
+    let fs = c.steps.seen.stack.items in
+    let top = c.steps.top in
+    let inv = c.steps.invariant in
+    let memo1 = c.steps.seen.memo in
+    let mid = c.next_step.new.tags in
+    let memo2 = c.next_step.new.memo in
+    let args = c.next_step.new.arguments in
+    let now = with_arguments top args in
+    let goes = c.in_ok-a.ensures.goes_on in
+    let same : answers_of memo2 ≡ answers_of memo1 = c.in_ok-a.ensures.answers in
+    let there = top_after nodes old mid goes (answers_of memo1) (answers_of memo2) same fs top args c.in_ok-a.ensures.few c.in_ok-a.ensures.earlier inv.stack in
+    let a = c.in-Settles.a in
+    let memo3 = c.settle.new.self in
+    let ok : answers_of memo3 ≡ with_answer (answers_of memo2) top.port a = c.in_ok-settle-in-Settles.ensures.ok in
+    let selectors : memo3.selectors ≡ memo2.selectors = c.in_ok-settle-in-Settles.ensures.selectors in
+    let first : memo3.formed ≡ memo2.formed = c.in_ok-settle-in-Settles.ensures.formed in
+    let fits : SettledFits nodes mid a.settled = subst (StepFits nodes mid told memo2 top.port) c.in-Settles.is c.in_ok-a.ensures.fits in
+    let memo_fits = settle_fits nodes mid memo2 memo3 top.port a ok selectors first fits c.in_ok-a.ensures.memo in
+    λ s sees seen f.
+    let links = links_fit_grows c.args.tags.now old inv.goes_on c.args.links.now.links c.requires.links in
+    let sees_old = sees_before told old mid goes c.args.links.now.links c.args.written.now.files links s sees in
+    let r = inv.right s sees_old seen in
+    let here = inv.met s sees_old seen f in
+    let parts = valued_split nodes (answers_of memo1) fs top here.2 in
+    let stepped = c.in_ok-a.ensures.met s sees r.0 parts.1 in
+    let taken = c.in_ok-a.ensures.valued parts.1 in
+    let chosen = c.in_ok-a.ensures.selected here.1 in
+    let own = subst (StepMet s nodes (answers_of memo1) top.port) c.in-Settles.is stepped in
+    let open_ = (stack_split nodes old (answers_of memo1) fs top inv.stack).open_ in
+    let both : answers_of memo3 ≡ with_answer (answers_of memo1) top.port a = ok ∙ ap (λ (x : Answers). with_answer x top.port a) same in
+    let memo_met = subst (MemoMet s nodes) (sym both) (settle_met s nodes (answers_of memo1) top.port a open_ own here.0) in
+    let selectors_met = selectors_put nodes memo2 memo3 top.port a (ap (λ (x : Answers). x top.port) same ∙ open_) ok selectors chosen in
+    record { memo = memo_met; selectors = selectors_met; stack = subst (StackValued nodes (answers_of memo3)) (sym c.in-None.ensures.0) tt }
+
+pub returns-in-None-clause-valued : goal.returns-in-None-clause-valued
+returns-in-None-clause-valued g c =
+    let nodes = (graph_of c.args.g.now).nodes in
+    let told = g.G.Given.told c.args.given.now in
+    let root = c.args.root in
+    let old = c.steps.tags in
+    let fs = c.steps.seen.stack.items in
+    let top = c.steps.top in
+    let inv = c.steps.invariant in
+    let memo1 = c.steps.seen.memo in
+    let mid = c.next_step.new.tags in
+    let memo2 = c.next_step.new.memo in
+    let args = c.next_step.new.arguments in
+    let now = with_arguments top args in
+    let goes = c.in_ok-a.ensures.goes_on in
+    let same : answers_of memo2 ≡ answers_of memo1 = c.in_ok-a.ensures.answers in
+    let there = top_after nodes old mid goes (answers_of memo1) (answers_of memo2) same fs top args c.in_ok-a.ensures.few c.in_ok-a.ensures.earlier inv.stack in
+    let a = c.in-Settles.a in
+    let memo3 = c.settle.new.self in
+    let ok : answers_of memo3 ≡ with_answer (answers_of memo2) top.port a = c.in_ok-settle-in-Settles.ensures.ok in
+    let selectors : memo3.selectors ≡ memo2.selectors = c.in_ok-settle-in-Settles.ensures.selectors in
+    let first : memo3.formed ≡ memo2.formed = c.in_ok-settle-in-Settles.ensures.formed in
+    let fits : SettledFits nodes mid a.settled = subst (StepFits nodes mid told memo2 top.port) c.in-Settles.is c.in_ok-a.ensures.fits in
+    let memo_fits = settle_fits nodes mid memo2 memo3 top.port a ok selectors first fits c.in_ok-a.ensures.memo in
+    let at_top : KnownValued (answers_of memo3) (input_at top.port) (known.Settled a.settled) = subst (λ (x : Answers). KnownValued x (input_at top.port) (known.Settled a.settled)) (sym ok) (put_valued (answers_of memo2) top.port a) in
+    c.resolved.ensures.valued (answers_of memo3) (input_at root) (subst (λ (p : Port). KnownValued (answers_of memo3) (input_at p) (known.Settled a.settled)) (last_bottom fs top root c.in-None.ensures.1 inv.bottom) at_top)
+
+pub returns-in-Needs-clause-seen_met : goal.returns-in-Needs-clause-seen_met
+returns-in-Needs-clause-seen_met g c =
+    let nodes = (graph_of c.args.g.now).nodes in
+    let told = g.G.Given.told c.args.given.now in
+    let root = c.args.root in
+    let old = c.steps.tags in
+    let fs = c.steps.seen.stack.items in
+    let top = c.steps.top in
+    let inv = c.steps.invariant in
+    let memo1 = c.steps.seen.memo in
+    let mid = c.next_step.new.tags in
+    let memo2 = c.next_step.new.memo in
+    let args = c.next_step.new.arguments in
+    let now = with_arguments top args in
+    let goes = c.in_ok-a.ensures.goes_on in
+    let same : answers_of memo2 ≡ answers_of memo1 = c.in_ok-a.ensures.answers in
+    let there = top_after nodes old mid goes (answers_of memo1) (answers_of memo2) same fs top args c.in_ok-a.ensures.few c.in_ok-a.ensures.earlier inv.stack in
+    let pushed : c.push_frame-in-Needs.new.stack.items ≡ fs ++ now ∷ [] = c.in_ok-push_frame-in-Needs.ensures in
+    λ s sees seen f.
+    let links = links_fit_grows c.args.tags.now old inv.goes_on c.args.links.now.links c.requires.links in
+    let sees_old = sees_before told old mid goes c.args.links.now.links c.args.written.now.files links s sees in
+    let r = inv.right s sees_old seen in
+    let here = inv.met s sees_old seen f in
+    let parts = valued_split nodes (answers_of memo1) fs top here.2 in
+    let stepped = c.in_ok-a.ensures.met s sees r.0 parts.1 in
+    let taken = c.in_ok-a.ensures.valued parts.1 in
+    let chosen = c.in_ok-a.ensures.selected here.1 in
+    record {
+      memo = subst (MemoMet s nodes) (sym same) here.0;
+      selectors = chosen;
+      stack = subst (StackValued nodes (answers_of memo2)) (sym pushed) (subst (λ (x : Answers). StackValued nodes x (fs ++ now ∷ [])) (sym same) (valued_join nodes (answers_of memo1) fs now parts.0 taken));
+    }

@@ -7,6 +7,9 @@ use Rattle.dx_demand.specs.Found.{Kept, MemoFound, StackFound, IsClosed}
 use Rattle.dx_demand.specs.Memo.{formed_of, answers_of, MemoFits, MemoRight}
 use Rattle.dx_demand.specs.Stack.{bottom, StackFits, StackRight}
 use Rattle.dx_demand.specs.Steps.{Sees, SeenRight, KeepsSelectors}
+use Rattle.dx_demand.specs.Calling.{SeenMet, MemoMet, SelectorsValued, StackValued}
+use Rattle.dx_demand.specs.Forming.{formings, SeenFormed}
+use Rattle.dx_demand.proofs.FormedLoop.{FormedAt}
 use Rattle.dx_demand.proofs.Stacks.{open_ports}
 use Rattle.dx_demand.proofs.resolving.settle_port.Given as goal
 
@@ -24,6 +27,10 @@ invariant-steps g l = record {
   kept : KeepsSelectors l.fn.seen.memo l.seen.memo;
   first : Kept (formed_of l.fn.seen.memo) (formed_of l.seen.memo);
   found : IsClosed l.links.links l.fn.tags l.fn.seen → MemoFound l.links.links l.tags l.seen.memo × StackFound l.links.links l.tags (formed_of l.seen.memo) (l.seen.stack.items ++ l.top ∷ []);
+  met : (s : Sight) → Sees (g.G.Given.told l.given) l.links.links l.written.files l.tags s → SeenRight s (graph_of l.g).nodes l.fn.tags l.fn.seen → SeenMet s (graph_of l.g).nodes l.fn.seen →
+      MemoMet s (graph_of l.g).nodes (answers_of l.seen.memo) × SelectorsValued (graph_of l.g).nodes l.seen.memo × StackValued (graph_of l.g).nodes (answers_of l.seen.memo) (l.seen.stack.items ++ l.top ∷ []);
+  forms : (s : Sight) → Sees (g.G.Given.told l.given) l.links.links l.written.files l.tags s → SeenRight s (graph_of l.g).nodes l.fn.tags l.fn.seen → SeenFormed s (graph_of l.g).nodes l.fn.tags l.fn.seen →
+      FormedAt s (graph_of l.g).nodes (formings (graph_of l.g).nodes l.fn.tags l.fn.seen.memo) l.tags l.seen.memo l.fn.root (l.seen.stack.items ++ l.top ∷ []);
   right : (s : Sight) → Sees (g.G.Given.told l.given) l.links.links l.written.files l.tags s → SeenRight s (graph_of l.g).nodes l.fn.tags l.fn.seen →
       MemoRight s (graph_of l.g).nodes l.tags l.seen.memo × StackRight s (graph_of l.g).nodes l.tags l.fn.root (l.seen.stack.items ++ l.top ∷ []);
 }

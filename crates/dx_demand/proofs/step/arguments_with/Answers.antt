@@ -1,6 +1,6 @@
 use Rattle.dx_demand.specs.Found.{AllFound}
 use Rattle.dx_demand.proofs.Finding.{kept_itself, all_found_grows, all_found_push}
-use Rattle.std.proofs.Common.{◌≡◌, ◌⊎◌, ⊎_elim, inl, inr, ◌∙◌, ◌++◌, ◌∷◌, [], Some, None, List, length, sym, ap, subst}
+use Rattle.std.proofs.Common.{◌≡◌, ⊎_elim, inl, ◌∙◌, Some, None, List, length, sym, ap, subst}
 use Rattle.dx_tags.specs.declared.term.Term.TheVariants as term
 use Rattle.dx_tags.specs.declared.term.ValueTag.{ValueTag}
 use Rattle.dx_tags.specs.Closed.{heads_of, value_terms, AreEarlier}
@@ -9,6 +9,7 @@ use Rattle.dx_tags.proofs.Growth.{earlier_on, earlier_push, values_on}
 use Rattle.dx_meaning.specs.Scan.{with_file}
 use Rattle.dx_demand.proofs.Arguments.{with_none, file_pushed}
 use Rattle.dx_demand.proofs.Terms.{arguments_on, whole_call, whole_import}
+use Rattle.dx_demand.specs.Forming.{named_terms, with_own}
 use Rattle.dx_demand.proofs.step.arguments_with.Goals as goal
 
 pub returns-in-None-clause-earlier : goal.returns-in-None-clause-earlier
@@ -52,3 +53,9 @@ returns-in_ok-push-in-Some-clause-found c = λ l first f.
     subst (AllFound l new first) (sym c.in_ok-push-in-Some.ensures.ok) (all_found_push l new first c.args.arguments c.in_ok-t-in-Some.t
     (all_found_grows c.args.tags.now new c.in_ok-t-in-Some.ensures.goes_on l first first (kept_itself first) c.args.arguments c.requires.earlier.earlier f)
     (inl c.in_ok-t-in-Some.ensures.ready))
+
+pub returns-in-None-clause-terms : goal.returns-in-None-clause-terms
+returns-in-None-clause-terms c = sym (ap (λ f. with_own f (named_terms c.args.tags.now)) c.in-None.is)
+
+pub returns-in_ok-push-in-Some-clause-terms : goal.returns-in_ok-push-in-Some-clause-terms
+returns-in_ok-push-in-Some-clause-terms c = c.in_ok-t-in-Some.ensures.terms ∙ sym (ap (λ f. with_own f (named_terms c.args.tags.now)) c.in-Some.is)

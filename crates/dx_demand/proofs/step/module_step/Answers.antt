@@ -6,7 +6,7 @@ use Rattle.dx_base.specs.Modules.{Takes}
 use Rattle.dx_demand.proofs.Taken.{node_takes}
 use Rattle.dx_demand.specs.Terms.{MayRead, AreArguments, IsValue}
 use Rattle.dx_demand.proofs.Terms.{arguments_on, arguments_push}
-use Rattle.std.proofs.Common.{◌≡◌, ◌<◌, ◌≤◌, ◌∙◌, [], ◌∷◌, ◌++◌, ℕ, length, Some, sym, ap, subst, arith, length-append}
+use Rattle.std.proofs.Common.{◌≡◌, ◌<◌, ◌∙◌, [], ◌∷◌, ◌++◌, suc, length, Some, None, sym, ap, subst, arith, length-append}
 use Rattle.std.specs.Prelude.{slice_get}
 use Rattle.dx_graph.specs.declared.node.Node.{Node}
 use Rattle.dx_graph.specs.Graph.{node_at}
@@ -14,8 +14,8 @@ use Rattle.dx_graph.specs.GraphView.{graph_of}
 use Rattle.dx_graph.specs.Unfolding.{calls_of}
 use Rattle.dx_tags.specs.Closed.{ResultTerm, CallOf, heads_of, value_term, value_terms}
 use Rattle.dx_tags.proofs.Growth.{goes_on_then}
-use Rattle.dx_meaning.specs.Scan.{Sight, IsOff, Stops, Forms, Ends, all_scanned, call_scanned, with_file}
-use Rattle.dx_demand.specs.Memo.{answers_of, site_of, node_scans, input_scan, input_at}
+use Rattle.dx_meaning.specs.Scan.{IsOff, Stops, Forms, Ends, all_scanned, call_scanned, with_file}
+use Rattle.dx_demand.specs.Memo.{answers_of, site_of, node_scans, input_scan}
 use Rattle.dx_demand.specs.Stack.{Begins}
 use Rattle.dx_demand.specs.Steps.{KnownFits, KnownRight}
 use Rattle.dx_demand.specs.declared.step.Known.TheVariants as known
@@ -25,6 +25,13 @@ use Rattle.dx_demand.proofs.Ports.{each_at, each_length, begins_push, begins_all
 use Rattle.dx_demand.proofs.Memos.{form_fits, form_right}
 use Rattle.dx_demand.proofs.PortSteps.{nodes_of, more_itself}
 use Rattle.dx_demand.proofs.Taken.{slot, takes, takes_in, awaited}
+use Rattle.dx_meaning.specs.Forming.{after, file_forms, call_formed, HasAll}
+use Rattle.dx_meaning.proofs.Formed.{all_grow, after_has}
+use Rattle.dx_demand.specs.Forming.{KnownForms, formings, input_forms, port_forms, node_forms, first_forms, calls_forms}
+use Rattle.dx_demand.proofs.FormedPorts.{argument_next, argument_ends, argument_awaits, arguments_end, first_more, forms_slot, front_grows, toward_then, reaches_grow}
+use Rattle.dx_demand.proofs.FormedSteps.{formation_of, toward_same, memo_formed_grows, form_formed, called_as}
+use Rattle.dx_demand.specs.Calling.{AreValued, KnownValued}
+use Rattle.dx_demand.proofs.Calls.{one_valued, none_valued, module_met}
 use Rattle.dx_demand.proofs.step.module_step.Goals as goal
 
 pub known_of-requires-clause-input : goal.known_of-requires-clause-input
@@ -72,6 +79,29 @@ loop-inputs-preserved c =
           subst (AllFound l new first) (sym pushed) (all_found_push l new first ts c.in-Settled-Value.t
           (all_found_grows old new goes l first first (kept_itself first) ts c.loop-inputs.invariant.earlier.earlier (c.loop-inputs.invariant.found l m f))
           (subst (KnownFound l new first) is (c.in_ok-t.ensures.found l (memo_found_grows nodes c.args.tags.now old c.loop-inputs.invariant.goes_on c.requires.formed.formed l c.args.memo.now c.requires.memo m))));
+      valued = λ v.
+          let answers = answers_of c.args.memo.now in
+          let count : length c.push.new.self ≡ suc (length ts) = (let long = ap length pushed in let app = length-append ts (c.in-Settled-Value.t ∷ []) in omega (arith, long, app)) in
+          subst (AreValued answers inputs) (sym count) (one_valued answers inputs (length ts) x (c.loop-inputs.invariant.valued v) at (subst (KnownValued answers x) is c.in_ok-t.ensures.valued));
+      forms = λ s m b w a h.
+          let was = formings nodes c.args.tags.now c.args.memo.now in
+          let mid = formings nodes old c.args.memo.now in
+          let now = formings nodes new c.args.memo.now in
+          let each = node_forms s nodes c.args.port.node in
+          let so_far = c.loop-inputs.invariant.forms s m b w a h in
+          let middle = memo_formed_grows s nodes c.args.tags.now old c.loop-inputs.invariant.goes_on c.args.memo.now so_far.toward.grows w in
+          let begun = c.loop-inputs.invariant.begins s m b in
+          let front = front_grows s nodes was mid so_far.toward.grows c.args.port (calls_forms nodes c.args.port c.args.called c.args.file) h in
+          let scan : input_scan s nodes x ≡ Forms (value_term (heads_of new) c.in-Settled-Value.t) = subst (KnownRight s nodes new x) is (c.in_ok-t.ensures.right s (memo_right_grows s nodes c.args.tags.now old c.loop-inputs.invariant.goes_on c.args.memo.now c.requires.memo m)) in
+          let k = subst (KnownForms (input_forms s nodes x) mid now) is (c.in_ok-t.ensures.forms s middle) in
+          let t = argument_next s nodes c.args.port c.args.called c.args.file mid (heads_of old) ts x (value_term (heads_of new) c.in-Settled-Value.t) front so_far.there begun at scan now k in
+          let count : length c.push.new.self ≡ suc (length ts) = (let long = ap length pushed in let app = length-append ts (c.in-Settled-Value.t ∷ []) in omega (arith, long, app)) in
+          let kept = all_grow mid now t.grows (first_forms (length ts) each) so_far.there in
+          let own = subst (λ y. HasAll y (input_forms s nodes x)) (sym k) (after_has (input_forms s nodes x) mid) in
+          record {
+            toward = toward_then (port_forms s nodes c.args.port) was mid now so_far.toward t;
+            there = subst (λ n. HasAll now (first_forms n each)) (sym count) (first_more now (length ts) each (input_forms s nodes x) (forms_slot s (calls_of nodes) inputs (length ts) x at) kept own);
+          };
       begins = λ s m b.
           let found : input_scan s nodes x ≡ Forms (value_term (heads_of new) c.in-Settled-Value.t) = subst (KnownRight s nodes new x) is (c.in_ok-t.ensures.right s (memo_right_grows s nodes c.args.tags.now old c.loop-inputs.invariant.goes_on c.args.memo.now c.requires.memo m)) in
           let ss = node_scans s nodes c.args.port.node in
@@ -286,3 +316,142 @@ returns-clause-memo_found c = λ l m f.
 
 pub returns-clause-found : goal.returns-clause-found
 returns-clause-found c = λ l m f. inr (inr (formed_found (formed_of c.args.memo.now) (formed_of c.call_of_all.new.memo) c.in_ok-t-2.t.tag c.args.port.node c.in_ok-t-2.ensures.first))
+
+pub returns-in-Settled-Off-clause-forms : goal.returns-in-Settled-Off-clause-forms
+returns-in-Settled-Off-clause-forms c = λ s m b w a h.
+    let nodes = (graph_of c.args.g.now).nodes in
+    let lawful = nodes_of (graph_of c.args.g.now) c.args.g.now.lawful in
+    let lt : c.args.port.node < length nodes = c.requires.port.0 in
+    let inputs = (node_at nodes c.args.port.node).inputs in
+    let same : c.as_slice-inputs.result.now ≡ inputs = c.as_slice-inputs.ensures ∙ ap (λ (x : Node). x.inputs) c.node.ensures in
+    let x = c.index-inputs-len.result in
+    let here : c.len-in-loop-inputs.result < length c.as_slice-inputs.result.now = omega (arith, c.loop-inputs-test.true, c.len.ensures, c.len-in-loop-inputs.ensures) in
+    let at : slice_get inputs (length c.loop-inputs.arguments) ≡ Some x = slot c.as_slice-inputs.result.now inputs c.len-in-loop-inputs.result (length c.loop-inputs.arguments) x same c.len-in-loop-inputs.ensures here c.index-inputs-len.is in
+    let goes = c.in_ok-t.ensures.goes_on in
+    let old = c.loop-inputs.tags in
+    let new = c.known_of.new.tags in
+    let memo = c.args.memo.now in
+    let ts = c.loop-inputs.arguments in
+    let was = formings nodes c.args.tags.now memo in
+    let mid = formings nodes old memo in
+    let now = formings nodes new memo in
+    let so_far = c.loop-inputs.invariant.forms s m b w a h in
+    let middle = memo_formed_grows s nodes c.args.tags.now old c.loop-inputs.invariant.goes_on memo so_far.toward.grows w in
+    let begun = c.loop-inputs.invariant.begins s m b in
+    let front = front_grows s nodes was mid so_far.toward.grows c.args.port (calls_forms nodes c.args.port c.args.called c.args.file) h in
+    let is : c.in_ok-t.field-0 ≡ known.Settled settled.Off = c.in-Settled-Off.is ∙ ap known.Settled c.in-Settled-Off.field-0-is in
+    let scan : input_scan s nodes x ≡ Ends IsOff = subst (KnownRight s nodes new x) is (c.in_ok-t.ensures.right s (memo_right_grows s nodes c.args.tags.now old c.loop-inputs.invariant.goes_on memo c.requires.memo m)) in
+    let k = subst (KnownForms (input_forms s nodes x) mid now) is (c.in_ok-t.ensures.forms s middle) in
+    let r = argument_ends s nodes c.args.port c.args.called c.args.file mid (heads_of old) ts x IsOff front so_far.there begun at scan now k in
+    let whole = toward_then (port_forms s nodes c.args.port) was mid now so_far.toward r.0 in
+    (formation_of s nodes c.args.tags.now new (goes_on_then c.args.tags.now old new c.loop-inputs.invariant.goes_on goes) memo c.args.port (length ts) whole w (all_grow mid now r.0.grows (first_forms (length ts) (node_forms s nodes c.args.port.node)) so_far.there), r.1)
+
+pub returns-in-Settled-Halt-clause-forms : goal.returns-in-Settled-Halt-clause-forms
+returns-in-Settled-Halt-clause-forms c = λ s m b w a h.
+    let nodes = (graph_of c.args.g.now).nodes in
+    let lawful = nodes_of (graph_of c.args.g.now) c.args.g.now.lawful in
+    let lt : c.args.port.node < length nodes = c.requires.port.0 in
+    let inputs = (node_at nodes c.args.port.node).inputs in
+    let same : c.as_slice-inputs.result.now ≡ inputs = c.as_slice-inputs.ensures ∙ ap (λ (x : Node). x.inputs) c.node.ensures in
+    let x = c.index-inputs-len.result in
+    let here : c.len-in-loop-inputs.result < length c.as_slice-inputs.result.now = omega (arith, c.loop-inputs-test.true, c.len.ensures, c.len-in-loop-inputs.ensures) in
+    let at : slice_get inputs (length c.loop-inputs.arguments) ≡ Some x = slot c.as_slice-inputs.result.now inputs c.len-in-loop-inputs.result (length c.loop-inputs.arguments) x same c.len-in-loop-inputs.ensures here c.index-inputs-len.is in
+    let goes = c.in_ok-t.ensures.goes_on in
+    let old = c.loop-inputs.tags in
+    let new = c.known_of.new.tags in
+    let memo = c.args.memo.now in
+    let ts = c.loop-inputs.arguments in
+    let was = formings nodes c.args.tags.now memo in
+    let mid = formings nodes old memo in
+    let now = formings nodes new memo in
+    let so_far = c.loop-inputs.invariant.forms s m b w a h in
+    let middle = memo_formed_grows s nodes c.args.tags.now old c.loop-inputs.invariant.goes_on memo so_far.toward.grows w in
+    let begun = c.loop-inputs.invariant.begins s m b in
+    let front = front_grows s nodes was mid so_far.toward.grows c.args.port (calls_forms nodes c.args.port c.args.called c.args.file) h in
+    let is : c.in_ok-t.field-0 ≡ known.Settled (settled.Halt c.in-Settled-Halt.n c.in-Settled-Halt.code) = c.in-Settled-Halt.is ∙ ap known.Settled c.in-Settled-Halt.field-0-is in
+    let scan : input_scan s nodes x ≡ Ends (Stops (site_of nodes c.in-Settled-Halt.n) c.in-Settled-Halt.code) = subst (KnownRight s nodes new x) is (c.in_ok-t.ensures.right s (memo_right_grows s nodes c.args.tags.now old c.loop-inputs.invariant.goes_on memo c.requires.memo m)) in
+    let k = subst (KnownForms (input_forms s nodes x) mid now) is (c.in_ok-t.ensures.forms s middle) in
+    let r = argument_ends s nodes c.args.port c.args.called c.args.file mid (heads_of old) ts x (Stops (site_of nodes c.in-Settled-Halt.n) c.in-Settled-Halt.code) front so_far.there begun at scan now k in
+    let whole = toward_then (port_forms s nodes c.args.port) was mid now so_far.toward r.0 in
+    (formation_of s nodes c.args.tags.now new (goes_on_then c.args.tags.now old new c.loop-inputs.invariant.goes_on goes) memo c.args.port (length ts) whole w (all_grow mid now r.0.grows (first_forms (length ts) (node_forms s nodes c.args.port.node)) so_far.there), r.1)
+
+pub returns-in-Open-clause-forms : goal.returns-in-Open-clause-forms
+returns-in-Open-clause-forms c = λ s m b w a h.
+    let nodes = (graph_of c.args.g.now).nodes in
+    let lawful = nodes_of (graph_of c.args.g.now) c.args.g.now.lawful in
+    let lt : c.args.port.node < length nodes = c.requires.port.0 in
+    let inputs = (node_at nodes c.args.port.node).inputs in
+    let same : c.as_slice-inputs.result.now ≡ inputs = c.as_slice-inputs.ensures ∙ ap (λ (x : Node). x.inputs) c.node.ensures in
+    let x = c.index-inputs-len.result in
+    let here : c.len-in-loop-inputs.result < length c.as_slice-inputs.result.now = omega (arith, c.loop-inputs-test.true, c.len.ensures, c.len-in-loop-inputs.ensures) in
+    let at : slice_get inputs (length c.loop-inputs.arguments) ≡ Some x = slot c.as_slice-inputs.result.now inputs c.len-in-loop-inputs.result (length c.loop-inputs.arguments) x same c.len-in-loop-inputs.ensures here c.index-inputs-len.is in
+    let goes = c.in_ok-t.ensures.goes_on in
+    let old = c.loop-inputs.tags in
+    let new = c.known_of.new.tags in
+    let memo = c.args.memo.now in
+    let ts = c.loop-inputs.arguments in
+    let was = formings nodes c.args.tags.now memo in
+    let mid = formings nodes old memo in
+    let now = formings nodes new memo in
+    let so_far = c.loop-inputs.invariant.forms s m b w a h in
+    let middle = memo_formed_grows s nodes c.args.tags.now old c.loop-inputs.invariant.goes_on memo so_far.toward.grows w in
+    let begun = c.loop-inputs.invariant.begins s m b in
+    let front = front_grows s nodes was mid so_far.toward.grows c.args.port (calls_forms nodes c.args.port c.args.called c.args.file) h in
+    let open_ = subst (KnownFits nodes new (answers_of memo) x) c.in-Open.is c.in_ok-t.ensures.fits in
+    let k = subst (KnownForms (input_forms s nodes x) mid now) c.in-Open.is (c.in_ok-t.ensures.forms s middle) in
+    let t = toward_same (port_forms s nodes c.args.port) mid now k in
+    let whole = toward_then (port_forms s nodes c.args.port) was mid now so_far.toward t in (
+      formation_of s nodes c.args.tags.now new (goes_on_then c.args.tags.now old new c.loop-inputs.invariant.goes_on goes) memo c.args.port (length ts) whole w (all_grow mid now t.grows (first_forms (length ts) (node_forms s nodes c.args.port.node)) so_far.there),
+      reaches_grow s nodes mid now t.grows c.args.port c.in-Open.awaited (argument_awaits s nodes c.args.port c.args.called c.args.file mid (heads_of old) ts c.in-Open.awaited front so_far.there begun (at ∙ ap Some open_.0)),
+    )
+
+pub returns-clause-forms : goal.returns-clause-forms
+returns-clause-forms c = λ s m b w a h.
+    let nodes = (graph_of c.args.g.now).nodes in
+    let lawful = nodes_of (graph_of c.args.g.now) c.args.g.now.lawful in
+    let lt : c.args.port.node < length nodes = c.requires.port.0 in
+    let inputs = (node_at nodes c.args.port.node).inputs in
+    let same : c.as_slice-inputs.result.now ≡ inputs = c.as_slice-inputs.ensures ∙ ap (λ (x : Node). x.inputs) c.node.ensures in
+    let old = c.loop-inputs.tags in
+    let new = c.call_of_all.new.tags in
+    let memo = c.args.memo.now in
+    let memo' = c.call_of_all.new.memo in
+    let ts = c.loop-inputs.arguments in
+    let was = formings nodes c.args.tags.now memo in
+    let mid = formings nodes old memo in
+    let now = formings nodes new memo' in
+    let so_far = c.loop-inputs.invariant.forms s m b w a h in
+    let middle = memo_formed_grows s nodes c.args.tags.now old c.loop-inputs.invariant.goes_on memo so_far.toward.grows w in
+    let begun = c.loop-inputs.invariant.begins s m b in
+    let front = front_grows s nodes was mid so_far.toward.grows c.args.port (calls_forms nodes c.args.port c.args.called c.args.file) h in
+    let long = ap length same in
+    let count : length inputs ≡ length ts = omega (arith, long, c.loop-inputs-test.false, c.len.ensures, c.loop-inputs.invariant.few) in
+    let place = (node_at nodes c.args.port.node).place in
+    let e : now ≡ after (file_forms c.args.file ++ call_formed place c.args.called c.args.file (value_terms (heads_of old) ts) ∷ []) mid =
+    called_as now mid place c.args.called (heads_of old) _ c.args.file _ ts (c.in_ok-t-2.ensures.forms nodes middle.calls) c.loop-inputs.invariant.file c.replace-all.ensures.value in
+    let r = arguments_end s nodes c.args.port c.args.called c.args.file mid (heads_of old) ts front so_far.there begun count now e in
+    let whole = toward_then (port_forms s nodes c.args.port) was mid now so_far.toward r.0 in
+    let goes = goes_on_then c.args.tags.now old new c.loop-inputs.invariant.goes_on c.in_ok-t-2.ensures.goes_on in (
+      record {
+        toward = whole;
+        memo = form_formed s nodes old new c.in_ok-t-2.ensures.goes_on memo memo' c.in_ok-t-2.t.tag c.args.port.node (c.in_ok-t-2.ensures.first, c.in_ok-t-2.ensures.answers, c.in_ok-t-2.ensures.selectors) c.in_ok-t-2.ensures.called r.0.grows middle;
+        arguments = subst (λ n. HasAll now (first_forms n (node_forms s nodes c.args.port.node))) (sym (ap length (c.replace-all.ensures.after ∙ c.new.ensures))) tt;
+      },
+      r.1,
+    )
+
+pub returns-clause-valued : goal.returns-clause-valued
+returns-clause-valued c = λ v.
+    let answers = answers_of c.args.memo.now in
+    let inputs = (node_at (graph_of c.args.g.now).nodes c.args.port.node).inputs in
+    subst (AreValued answers inputs) (sym (ap length (c.replace-all.ensures.after ∙ c.new.ensures))) (none_valued answers inputs)
+
+pub returns-clause-met : goal.returns-clause-met
+returns-clause-met c = λ s v.
+    let nodes = (graph_of c.args.g.now).nodes in
+    let answers = answers_of c.args.memo.now in
+    let inputs = (node_at nodes c.args.port.node).inputs in
+    let same : c.as_slice-inputs.result.now ≡ inputs = c.as_slice-inputs.ensures ∙ ap (λ (x : Node). x.inputs) c.node.ensures in
+    let long = ap length same in
+    let count : length c.loop-inputs.arguments ≡ length inputs = omega (arith, long, c.loop-inputs-test.false, c.len.ensures, c.loop-inputs.invariant.few) in
+    module_met s nodes answers c.args.port c.args.called None c.in_ok-t-2.t c.requires.what (subst (AreValued answers inputs) count (c.loop-inputs.invariant.valued v))

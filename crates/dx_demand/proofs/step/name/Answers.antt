@@ -1,5 +1,6 @@
 use Rattle.dx_tags.proofs.Growth.{interned_goes_on, interned_named}
 use Rattle.dx_demand.proofs.Terms.{interned_exact}
+use Rattle.dx_demand.proofs.FormedTerms.{on_named}
 use Rattle.dx_demand.proofs.step.name.Goals as goal
 
 pub returns-clause-formed : goal.returns-clause-formed
@@ -10,3 +11,6 @@ returns-clause-goes_on c = interned_goes_on c.intern.result c.args.tags.now c.in
 
 pub returns-clause-named : goal.returns-clause-named
 returns-clause-named c = interned_named c.intern.result c.args.tags.now c.intern.new.self c.args.t c.requires.formed.formed c.requires.within c.intern.ensures.kept c.intern.ensures.named
+
+pub returns-clause-terms : goal.returns-clause-terms
+returns-clause-terms c = on_named c.intern.result c.args.tags.now c.intern.new.self c.args.t c.requires.formed.formed c.intern.ensures.formed c.requires.formed.distinct c.intern.ensures.distinct c.intern.ensures.kept c.intern.ensures.named

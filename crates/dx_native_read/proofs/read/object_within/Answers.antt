@@ -5,8 +5,8 @@ use Rattle.dx_native_read.proofs.Stepping.{step}
 use Rattle.dx_native_read.proofs.read.object_within.Goals as goal
 
 pub returns-in-Ok-clause-ints : goal.returns-in-Ok-clause-ints
-returns-in-Ok-clause-ints c = step c.args.clauses.now c.requires.sound 64 c.args.i c.within_limits.result (c.in-Ok.ensures ∙ ap (λ (t : Tree). Some t) (sym c.within_limits.ensures.same))
+returns-in-Ok-clause-ints c = step c.args.clauses.now c.requires.sound 64 c.args.i c.within_limits.result (c.in-Ok.ensures.built ∙ ap (λ (t : Tree). Some t) (sym c.within_limits.ensures.same))
 
 pub returns-in-Err-clause-means : goal.returns-in-Err-clause-means
 returns-in-Err-clause-means c =
-    fails_mean c.args.clauses.now c.requires.sound c.requires.references c.args.i c.args.at c.requires.levels c.in-Err.fail c.in-Err.ensures c.native_fail.result c.native_fail.ensures
+    fails_mean c.args.clauses.now c.requires.sound c.requires.references c.args.i c.args.at c.requires.levels c.in-Err.fail c.in-Err.ensures.built c.native_fail.result c.native_fail.ensures

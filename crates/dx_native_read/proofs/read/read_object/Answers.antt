@@ -1,5 +1,10 @@
-use Rattle.dx_native_read.proofs.Answered.{only}
+use Rattle.std.proofs.Common.{Result, Ok, sym, ap, ◌∙◌}
+use Rattle.dx_base.specs.Object.{Tree}
+use Rattle.dx_native_lex.specs.declared.fault.NativeError.{NativeError}
 use Rattle.dx_native_read.proofs.read.read_object.Goals as goal
 
-pub returns-clause-only : goal.returns-clause-only
-returns-clause-only c = only _ _ c.answer.result c.answer.ensures.answers
+abbrev answered : Tree → Result Tree NativeError
+answered t = Ok t
+
+pub returns-in-Ok-clause-only : goal.returns-in-Ok-clause-only
+returns-in-Ok-clause-only c = λ r h. c.in-Ok.ensures.only r h ∙ ap answered (sym c.object_of.ensures)

@@ -4,8 +4,8 @@ use Rattle.dx_native_meaning.proofs.OneLevel.{no_clause, one_level}
 use Rattle.dx_native_walk.specs.Answer.{BuildsObject}
 use Rattle.dx_native_walk.proofs.walk.clause_object.Goals as goal
 
-pub returns-in_default : goal.returns-in_default
-returns-in_default c = no_clause c.args.clauses.now c.args.i 64 c.in_default.ensures
+pub returns-in-None-clause-built : goal.returns-in-None-clause-built
+returns-in-None-clause-built c = no_clause c.args.clauses.now c.args.i 64 c.in-None.ensures
 
-pub returns : goal.returns
-returns c = subst (λ (m : Option Tree). BuildsObject m c.object_of.result) (sym (one_level c.args.clauses.now c.args.i 64 c.in-Some.clause.now (omega arith) c.in-Some.ensures)) c.object_of.ensures.built
+pub returns-in-Some-clause-built : goal.returns-in-Some-clause-built
+returns-in-Some-clause-built c = subst (λ (m : Option Tree). BuildsObject m c.object_of.result) (sym (one_level c.args.clauses.now c.args.i 64 c.in-Some.clause.now (omega arith) c.in-Some.ensures)) c.object_of.ensures.built

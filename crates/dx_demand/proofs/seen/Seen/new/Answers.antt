@@ -8,6 +8,10 @@ use Rattle.dx_demand.specs.Stack.{StackFits}
 use Rattle.dx_demand.specs.Steps.{LeftRight}
 use Rattle.dx_graph.specs.GraphView.{graph_of}
 use Rattle.dx_demand.proofs.Memos.{empty_fits, empty_right}
+use Rattle.dx_demand.specs.Forming.{formings, LeftFormed}
+use Rattle.dx_demand.proofs.FormedSteps.{empty_formed}
+use Rattle.dx_demand.specs.Calling.{StackValued}
+use Rattle.dx_demand.proofs.Calls.{empty_met, empty_selectors}
 use Rattle.dx_demand.proofs.seen.Seen.new.Goals as goal
 
 pub returns-clause-fits : goal.returns-clause-fits
@@ -21,3 +25,14 @@ returns-clause-closed c = λ links terms. record { memo = empty_found links term
 
 pub returns-clause-none : goal.returns-clause-none
 returns-clause-none c = c.in_ok-memo.ensures.formed
+
+pub returns-clause-formed : goal.returns-clause-formed
+returns-clause-formed c = λ s terms.
+    let nodes = (graph_of c.args.g.now).nodes in
+    record { memo = empty_formed s nodes terms (length nodes) c.in_ok-memo.memo c.in_ok-memo.ensures; left = subst (LeftFormed s nodes (formings nodes terms c.in_ok-memo.memo)) (sym c.no_frames.ensures) tt }
+
+pub returns-clause-met : goal.returns-clause-met
+returns-clause-met c = λ s.
+    let nodes = (graph_of c.args.g.now).nodes in
+    let memo = c.in_ok-memo.memo in
+    record { memo = empty_met s nodes (length nodes) memo c.in_ok-memo.ensures; selectors = empty_selectors nodes (length nodes) memo c.in_ok-memo.ensures; stack = subst (StackValued nodes (answers_of memo)) (sym c.no_frames.ensures) tt }

@@ -1,0 +1,9 @@
+pub mod Alike
+pub mod Computed
+pub mod EntriesSound
+pub mod Executed
+pub mod LinksSound
+pub mod Meant
+pub mod Ready
+pub mod Resumed
+pub mod SelectorsGoOn

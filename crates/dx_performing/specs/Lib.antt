@@ -1,0 +1,11 @@
+pub mod Acts
+pub mod Alike
+pub mod Course
+pub mod Execution
+pub mod Kept
+pub mod Meant
+pub mod Resuming
+pub mod Rows
+pub mod Selectors
+pub mod SoundEntries
+pub mod SoundLinks

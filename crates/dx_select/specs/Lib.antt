@@ -1,0 +1,10 @@
+pub mod Shown
+pub mod Components
+pub mod Answered
+pub mod Inputs
+pub mod Select
+pub mod Extract
+pub mod Replace
+pub mod Mark
+pub mod Collect
+pub mod Steps
