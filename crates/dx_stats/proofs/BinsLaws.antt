@@ -1,13 +1,13 @@
 -- How large distances and bins get, and lists of borders and counts.
-use Rattle.std.proofs.Common.{◌≡◌, ℕ, zero, suc, ◌+◌, ◌-◌, ◌*◌, ◌/◌, ◌%◌, ◌<◌, ◌≤◌, ℤ, pos, negsuc, ◌+ℤ◌, ◌-ℤ◌, ◌≤ℤ◌, List, [], ◌∷◌, ◌++◌, length, map, refl, sym, ap, ◌∙◌, arith, true, min, to_z, of_z, w64}
-use Rattle.std.specs.Prelude.{IsTrue, unsigned_abs, int_le}
+use Rattle.std.proofs.Common.{◌≡◌, ℕ, suc, ◌+◌, ◌*◌, ◌/◌, ◌<◌, ◌≤◌, ℤ, ◌+ℤ◌, ◌-ℤ◌, List, [], ◌∷◌, ◌++◌, map, sym, ap, ◌∙◌, arith, to_z, of_z, w64}
+use Rattle.std.specs.Prelude.{IsTrue, unsigned_abs}
 use Rattle.std.specs.List.{range_with_len}
 use Rattle.std.specs.Int.{div_ceil}
 use Rattle.std.proofs.lemmas.Int.{ints}
 use Rattle.std.proofs.lemmas.List.FromFn.{map-range_with_len_more}
-use Rattle.std.proofs.Math.Nat.{mul-le-mul_left, mul-le-mul_right, div-lt_iff_lt-mul, div-le_self}
+use Rattle.std.proofs.Math.Nat.{mul-le-mul_right, div-lt_iff_lt-mul, div-le_self}
 use Rattle.dx_stats.specs.declared.bins.Bins.{Bins}
-use Rattle.dx_stats.specs.Bins.{AreBins, span, is_counted, bin_of, border}
+use Rattle.dx_stats.specs.Bins.{AreBins, span, is_counted, border}
 
 pub product_few : (d n : ℕ) → d ≤ 8589934592 → n ≤ 65536 → d * n ≤ 562949953421312
 product_few d n h k =

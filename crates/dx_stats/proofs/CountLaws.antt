@@ -1,7 +1,7 @@
 -- The counts of the bins, number by number.
-use Rattle.std.proofs.Common.{◌≡◌, ℕ, ◌+◌, ◌<◌, ◌≤◌, ℤ, pos, ◌+ℤ◌, ◌-ℤ◌, ◌≤ℤ◌, rules, List, [], ◌∷◌, length, map, take, get_or, set, replicate, Bool, true, false, ◌&&◌, ◌==◌, refl, sym, ap, ◌∙◌, arith, ◌≢◌, FitsSigned, to_z, of_z, w64, get_or-set_same, get_or-set_other, inl, inr}
-use Rattle.std.specs.Prelude.{IsTrue, count_by, unsigned_abs}
-use Rattle.std.specs.List.{All, range_with_len}
+use Rattle.std.proofs.Common.{◌≡◌, ℕ, ◌+◌, ◌<◌, ◌≤◌, ℤ, pos, ◌+ℤ◌, ◌-ℤ◌, ◌≤ℤ◌, rules, List, [], ◌∷◌, length, take, get_or, set, replicate, Bool, true, false, ◌&&◌, ◌==◌, refl, sym, ap, ◌∙◌, arith, ◌≢◌, to_z, of_z, w64, get_or-set_same, get_or-set_other, inl, inr}
+use Rattle.std.specs.Prelude.{unsigned_abs}
+use Rattle.std.specs.List.{All}
 use Rattle.std.proofs.lemmas.Int.{ints}
 use Rattle.std.proofs.lemmas.Bool.{cases_lt}
 use Rattle.std.proofs.lemmas.Bool.Decides.{nat_tests}
@@ -68,17 +68,17 @@ module _ (b : Bins) (vs : List ℤ) (i : ℕ) (there : i < length vs) where
               let ne : k ≢ bin = omega arith in
               rw get_or-set_other (a.each k h) ∙ sym (ap pos (more_no k (fall_elsewhere k (other_gt (bin_of b v) k (omega (arith, e))))))
           | inr notless ↦ elim (cases_lt bin k) [
-              | inl less ↦
-                  let ne : k ≢ bin = omega arith in
-                  rw get_or-set_other (a.each k h) ∙ sym (ap pos (more_no k (fall_elsewhere k (other_lt (bin_of b v) k (omega (arith, e))))))
-              | inr notmore ↦
-                  let same : k ≡ bin = omega arith in
-                  let there_k : k < length counts = omega (arith, within) in
-                  let here = fall_here on k (sym e ∙ sym same) in
-                  rw (← same) (rw get_or-set_same (ap (λ z. z +ℤ pos 1) (a.each k h) ∙ sym (ap pos (more_yes k here))))
-            ]
+            | inl less ↦
+                let ne : k ≢ bin = omega arith in
+                rw get_or-set_other (a.each k h) ∙ sym (ap pos (more_no k (fall_elsewhere k (other_lt (bin_of b v) k (omega (arith, e))))))
+            | inr notmore ↦
+                let same : k ≡ bin = omega arith in
+                let there_k : k < length counts = omega (arith, within) in
+                let here = fall_here on k (sym e ∙ sym same) in
+                rw (← same) (rw get_or-set_same (ap (λ z. z +ℤ pos 1) (a.each k h) ∙ sym (ap pos (more_yes k here))))
+          ]
         ];
-    }
+      }
 
   tally_by : (t : Bool) (counts after : List ℤ) → AreBins b → is_counted b v ≡ t → after ≡ tallied_if t b v counts → AreCounts b (take i vs) counts → AreCounts b (take (i + 1) vs) after
   tally_by true counts after bins on e a =
@@ -108,16 +108,31 @@ counts_few b vs counts i a le few k d h =
     let same : get_or counts k d ≡ get_or counts k (pos 0) = get_or_default counts k d (pos 0) h in
     rw same (count_few b vs counts i k a low le few)
 
-pub no_counts : (b : Bins) (vs : List ℤ) → AreCounts b (take 0 vs) (replicate b.count (pos 0))
-no_counts b vs = record { len = length-replicate b.count (pos 0); each = λ k h. get_or-replicate b.count k (pos 0) (pos 0) h ∙ none_of b vs k }
+pub counts_some : (b : Bins) (vs counts : List ℤ) (i : ℕ) → AreCounts b (take i vs) counts → All (λ n. pos 0 ≤ℤ n) counts
+counts_some b vs counts i a k d h =
+    let low : k < b.count = omega (arith, a.len) in
+    let same : get_or counts k d ≡ get_or counts k (pos 0) = get_or_default counts k d (pos 0) h in
+    rw (same, a.each k low) (omega (arith, ints))
+
+no_counts_of : (b : Bins) (vs : List ℤ) → AreCounts b (take 0 vs) (replicate b.count (pos 0))
+no_counts_of b vs = record { len = length-replicate b.count (pos 0); each = λ k h. get_or-replicate b.count k (pos 0) (pos 0) h ∙ none_of b vs k }
+
+pub no_counts : (b : Bins) (vs counts : List ℤ) → counts ≡ replicate b.count (pos 0) → AreCounts b (take 0 vs) counts
+no_counts b vs counts e = rw e (no_counts_of b vs)
 
 -- of all numbers
 pub all_counts : (b : Bins) (vs : List ℤ) (i : ℕ) (counts : List ℤ) → length vs ≤ i → AreCounts b (take i vs) counts → counts ≡ bin_counts b vs
 all_counts b vs i counts h a = counts_are b vs counts (rw (take_all i vs h) at a)
 
+by_test : (t : Bool) (b : Bins) (v : ℤ) (counts : List ℤ) (bin : ℕ) → t ≡ true → bin ≡ bin_of b v → set counts bin (get_or counts bin (pos 0) +ℤ pos 1) ≡ tallied_if t b v counts
+by_test t b v counts bin on e = rw (on, e) refl
+
 -- a count that is one more in its place
-pub tallied_is : (b : Bins) (v : ℤ) (counts : List ℤ) (bin : ℕ) (x : ℤ) → is_counted b v ≡ true → bin ≡ bin_of b v → x ≡ get_or counts bin (pos 0) → x ≤ℤ pos 16777216 → FitsSigned w64 x →
+pub tallied_is : (b : Bins) (v : ℤ) (counts : List ℤ) (bin : ℕ) (x : ℤ) → is_counted b v ≡ true → bin ≡ bin_of b v → bin < length counts → All (λ n. pos 0 ≤ℤ n) counts → All (λ n. n ≤ℤ pos 16777216) counts → x ≡ get_or counts bin x →
     set counts bin (to_z w64 (of_z w64 (to_z w64 (of_z w64 x) +ℤ pos 1))) ≡ tallied b v counts
-tallied_is b v counts bin x on e at few fits =
+tallied_is b v counts bin x on e low some few item =
+    let at : x ≡ get_or counts bin (pos 0) = item ∙ get_or_default counts bin x (pos 0) low in
+    let least : pos 0 ≤ℤ x = rw at (some bin (pos 0) low) in
+    let most : x ≤ℤ pos 16777216 = rw at (few bin (pos 0) low) in
     let next : to_z w64 (of_z w64 (to_z w64 (of_z w64 x) +ℤ pos 1)) ≡ x +ℤ pos 1 = omega (arith, ints) in
-    rw (on, ← e, next, at) refl
+    ap (set counts bin) (next ∙ ap (λ z. z +ℤ pos 1) at) ∙ by_test (is_counted b v) b v counts bin on e

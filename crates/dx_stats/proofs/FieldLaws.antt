@@ -1,19 +1,19 @@
 -- Why arrays and fields of a histogram can't be made, if they can't.
-use Rattle.std.proofs.Common.{◌≡◌, ◌≤◌, ℕ, ℤ, List, length, Bool, true, false, ◌&&◌, refl, sym, ap, ◌∙◌, arith, rules}
-use Rattle.std.specs.Prelude.{IsTrue, nat_le, not, Option, Some, None, Result, Ok, Err, if◌then◌else◌}
+use Rattle.std.proofs.Common.{◌≡◌, ◌≤◌, ◌^◌, ℕ, ℤ, List, [], ◌∷◌, length, Bool, true, false, ◌&&◌, refl, sym, ap, arith, rules}
+use Rattle.std.specs.Prelude.{IsTrue, Option, Some, None, Result, Ok, Err, codes, if◌then◌else◌}
 use Rattle.std.proofs.lemmas.Bool.Decides.{nat_tests}
-use Rattle.dx_base.specs.declared.code.Code.{Code}
 use Rattle.dx_base.specs.declared.code.Code.TheVariants.{TooLarge}
 use Rattle.dx_base.specs.declared.elem.ElemType.TheVariants.{Int}
-use Rattle.dx_base.specs.Array.{ArrayData, plain}
-use Rattle.dx_base.specs.Object.{Tree, PartList, array, text, field, no_parts, part}
+use Rattle.dx_base.specs.Array.{ArrayData, plain, grid_connections}
+use Rattle.dx_base.specs.Object.{Tree, PartList, array, text, no_parts}
 use Rattle.dx_base.specs.ObjectLimits.{all_named, differ, fits, is_array}
 use Rattle.dx_arrays.specs.declared.array.ArrayError.{ArrayError}
 use Rattle.dx_arrays.specs.Makes.{refusal as array_refusal, Makes}
 use Rattle.dx_objects.specs.declared.makers.ObjectError.{ObjectError}
-use Rattle.dx_objects.specs.declared.makers.ObjectError.TheVariants.{TooLarge as TooLargeObject, BadNames, NotAnArray, MemberNotAField}
+use Rattle.dx_objects.specs.declared.makers.ObjectError.TheVariants.{TooLarge as TooLargeObject}
 use Rattle.dx_objects.specs.Makes.{refusal}
-use Rattle.dx_stats.specs.Histogram.{if_fits, if_made, made, field_of}
+use Rattle.dx_stats.specs.declared.bins.Bins.{Bins}
+use Rattle.dx_stats.specs.Histogram.{counts, if_fits, if_made, made, made_counts, field_of, text_part}
 
 if_fits_array : (a : ArrayData) (xs : PartList) (t : Tree) (b : Bool) → b ≡ fits (array a xs) → if_fits (array a xs) ≡ Ok t → is_array t ≡ true
 if_fits_array a xs t true e h = let same : array a xs ≡ t = cc (rw (← e) at h) in ap is_array (sym same)
@@ -26,6 +26,9 @@ made_array_by (Some e) a xs t h = absurd (cc h)
 -- what is made is an array
 pub made_array : (a : ArrayData) (xs : PartList) (t : Tree) → made a xs ≡ Ok t → is_array t ≡ true
 made_array a xs t h = made_array_by (array_refusal a) a xs t h
+
+pub counts_array : (b : Bins) (vs : List ℤ) (t : Tree) → made_counts b vs ≡ Ok t → is_array t ≡ true
+counts_array b vs t h = made_array (counts b vs) (text_part (codes "dep") (codes "connections") no_parts) t h
 
 pub short_text : (b : List ℕ) → length b ≤ 100 → refusal (text b no_parts) ≡ None
 short_text b h = grind (arith, nat_tests)
@@ -53,3 +56,6 @@ made_too_large a b xs e names same fine h = rw fine (too_large a xs e names (rw 
 -- an array that is made of equal lists
 pub makes_list : (es fs : List ℕ) (vs ws : List ℤ) (r : Result ArrayData ArrayError) → es ≡ fs → vs ≡ ws → Makes (record { elem = Int; extents = es; class = plain vs }) r → Makes (record { elem = Int; extents = fs; class = plain ws }) r
 makes_list es fs vs ws r e f m = rw (← e, ← f) m
+
+pub makes_connections : (cs ds : List ℕ) (r : Result ArrayData ArrayError) → cs ≡ ds → Makes (record { elem = Int; extents = 2 ^ length cs ∷ []; class = grid_connections cs }) r → Makes (record { elem = Int; extents = 2 ^ length ds ∷ []; class = grid_connections ds }) r
+makes_connections cs ds r e m = rw (← e) m

@@ -1,11 +1,10 @@
 -- The number that is found by halving has the rank, and no other has it.
-use Rattle.std.proofs.Common.{◌≡◌, ℕ, zero, suc, ◌+◌, ◌-◌, ◌*◌, ◌/◌, ◌<◌, ◌≤◌, ℤ, pos, negsuc, ◌+ℤ◌, ◌-ℤ◌, ◌≤ℤ◌, ◌<ℤ◌, List, [], ◌∷◌, length, cond, Bool, true, false, ◌&&◌, refl, sym, ap, ◌∙◌, arith}
-use Rattle.std.specs.Prelude.{int_lt, int_le, unsigned_abs, nat_le, nat_lt, Option, Some, None, find, filter, count_by}
+use Rattle.std.proofs.Common.{◌≡◌, ℕ, ◌+◌, ◌-◌, ◌/◌, ◌<◌, ◌≤◌, ℤ, pos, ◌+ℤ◌, ◌-ℤ◌, ◌≤ℤ◌, ◌<ℤ◌, List, [], ◌∷◌, length, cond, Bool, true, false, ◌&&◌, refl, sym, ap, ◌∙◌, arith}
+use Rattle.std.specs.Prelude.{int_lt, int_le, unsigned_abs, nat_le, nat_lt, Some, None, find, filter, count_by}
 use Rattle.std.proofs.lemmas.Int.{ints, by_lt_z}
 use Rattle.std.proofs.lemmas.Bool.{and_parts}
 use Rattle.std.proofs.lemmas.Bool.Decides.{nat_tests}
-use Rattle.std.proofs.lemmas.List.Sums.{length-filter, sum_by-cons, sum_by-le-sum_by, count_by-le-length}
-use Rattle.std.specs.Cmp.Derive.{both_true}
+use Rattle.std.proofs.lemmas.List.Sums.{length-filter, sum_by-cons, sum_by-le-sum_by}
 use Rattle.dx_stats.specs.declared.bins.Bins.{Bins}
 use Rattle.dx_stats.specs.Bins.{AreBins, span, is_between, is_counted, counted, has_rank, item_of_rank, middle_rank, median, up_to}
 
@@ -106,9 +105,9 @@ found p x (v ∷ vs) only at more =
     let low = count_cons (λ w. int_lt w x) v vs in
     let high = count_cons (λ w. int_le w x) v vs in
     let other : (p v ≡ false) → find p vs ≡ Some x = λ no.
-      let differ : v ≡ x → ⊥ = λ e. absurd (cc (ap p e)) in
-      let same = ap one_if (same_tests x v differ) in
-      found p x vs only at (omega (arith, low, high, same, more)) in
+    let differ : v ≡ x → ⊥ = λ e. absurd (cc (ap p e)) in
+    let same = ap one_if (same_tests x v differ) in
+    found p x vs only at (omega (arith, low, high, same, more)) in
     let here : (p v ≡ true) → v ≡ x = only v in
     elim (p v) as (λ b. ((b ≡ false) → find p vs ≡ Some x) → ((b ≡ true) → v ≡ x) → cond b (Some v) (find p vs) ≡ Some x) [
       | true ↦ λ f g. ap Some (g refl)

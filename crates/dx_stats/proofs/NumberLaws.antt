@@ -1,15 +1,15 @@
 -- A number that an object is lies where some type of values holds it.
-use Rattle.std.proofs.Common.{◌≡◌, ℕ, ◌<◌, ◌≤◌, ◌*◌, ◌/◌, ◌%◌, ℤ, List, [], ◌∷◌, length, true, false, Bool, ◌&&◌, ◌==◌, refl, sym, subst, arith}
-use Rattle.std.specs.Prelude.{Option, Some, None, if◌then◌else◌}
+use Rattle.std.proofs.Common.{◌≡◌, ℕ, ◌<◌, ◌≤◌, ◌/◌, ◌%◌, ℤ, length, true, false, Bool, ◌==◌, refl, subst, arith}
+use Rattle.std.specs.Prelude.{Some, None, if◌then◌else◌}
 use Rattle.std.proofs.lemmas.Bool.{and_parts}
 use Rattle.std.proofs.lemmas.Bool.Decides.{nat_tests}
 use Rattle.dx_base.specs.Array.{ArrayData, items, value, width}
 use Rattle.dx_base.specs.ArrayLimits.{IsLawfulArray}
 use Rattle.dx_base.specs.Object.{Tree, array, text, field, group, composite, series}
 use Rattle.dx_base.specs.ObjectLimits.{IsLawful}
-use Rattle.dx_base.specs.ObjectNumbers.{as_number, number_of, is_number}
+use Rattle.dx_base.specs.ObjectNumbers.{as_number, is_number}
 use Rattle.dx_arrays.specs.Block.{IsSmall}
-use Rattle.dx_arrays.proofs.Blocks.{wide, small_at, at_place}
+use Rattle.dx_arrays.proofs.Blocks.{wide, small_at}
 
 zero_in : (w : ℕ) → 0 < w → 0 / w ≡ 0
 zero_in w h = omega arith

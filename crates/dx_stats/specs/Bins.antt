@@ -1,5 +1,5 @@
 -- Bins of equal width over the whole numbers from one to another, and what falls into them.
-use Rattle.std.specs.Prelude.{◌≡◌, ℕ, ◌+◌, ◌-◌, ◌*◌, ◌/◌, ◌<◌, ◌≤◌, ℤ, pos, negsuc, ◌+ℤ◌, ◌-ℤ◌, ◌≤ℤ◌, int_le, int_lt, unsigned_abs, List, length, map, filter, find, count_by, Bool, ◌&&◌, ◌==◌, nat_le, nat_lt, Option}
+use Rattle.std.specs.Prelude.{ℕ, ◌+◌, ◌-◌, ◌*◌, ◌/◌, ◌<◌, ◌≤◌, ℤ, pos, negsuc, ◌+ℤ◌, ◌-ℤ◌, ◌≤ℤ◌, int_le, int_lt, unsigned_abs, List, length, map, filter, find, count_by, Bool, ◌&&◌, ◌==◌, nat_le, nat_lt, Option}
 use Rattle.std.specs.List.{range_with_len}
 use Rattle.std.specs.Int.{div_ceil}
 use Rattle.dx_stats.specs.declared.bins.Bins.{Bins}

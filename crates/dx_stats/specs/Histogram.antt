@@ -1,5 +1,5 @@
 -- What Histogram answers: a field with the counts of its bins, and the median.
-use Rattle.std.specs.Prelude.{ℕ, ◌+◌, ℤ, pos, unsigned_abs, int_le, List, [], ◌∷◌, Bool, ◌&&◌, Option, Some, None, Result, Ok, Err, if◌then◌else◌, codes}
+use Rattle.std.specs.Prelude.{ℕ, ◌+◌, ℤ, pos, unsigned_abs, int_le, List, [], ◌∷◌, ◌&&◌, Option, Some, None, Result, Ok, Err, if◌then◌else◌, codes}
 use Rattle.dx_base.specs.declared.code.Code.{Code}
 use Rattle.dx_base.specs.declared.code.Code.TheVariants.{BadArgument, Unsupported, Overflow, TooLarge}
 use Rattle.dx_base.specs.declared.elem.ElemType.TheVariants.{Int}

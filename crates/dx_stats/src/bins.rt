@@ -1,5 +1,5 @@
 // Bins of equal width over the whole numbers from one to another.
-ghost use Rattle.std.specs.Prelude.{◌≡◌, ◌+◌, ◌*◌, ◌<◌, ◌≤◌, ◌+ℤ◌, ◌≤ℤ◌, pos, length, All, vec_len, IsTrue, IfOk};
+ghost use Rattle.std.specs.Prelude.{◌≡◌, ◌+◌, ◌*◌, ◌<◌, ◌≤◌, ◌+ℤ◌, ◌≤ℤ◌, pos, length, replicate, All, vec_len, IsTrue, IfOk};
 ghost use Rattle.dx_stats.specs.Bins as spec;
 ghost use Rattle.dx_stats.specs.Bins.{AreBins};
 ghost use Rattle.dx_stats.specs.Tally.{tallied};
@@ -80,7 +80,7 @@ impl Bins {
         requires few { length values.now ≤ 16777216 }
         ensures { IfOk result (λ counts. counts.items ≡ spec.bin_counts self values.now) }
     {
-        let mut counts = vec![in alloc; 0i64; self.count as usize]?;
+        let mut counts = zeros(alloc, self.count)?;
         for value in values {
             self.tally(&mut counts, *value);
         }
@@ -92,6 +92,7 @@ impl Bins {
     fn tally(self, counts: &mut Vec<i64>, value: i64)
         requires bins { AreBins self }
         requires len { vec_len counts.old ≡ self.count }
+        requires some { All (λ n. pos 0 ≤ℤ n) counts.old.items }
         requires few { All (λ n. n ≤ℤ pos 16777216) counts.old.items }
         ensures { counts.new.items ≡ tallied self value counts.old.items }
     {
@@ -100,6 +101,18 @@ impl Bins {
             counts[bin] += 1;
         }
     }
+}
+
+// So many counts of none.
+fn zeros(alloc: Global, count: u64) -> Result<Vec<i64>, AllocError>
+    requires { count ≤ 65536 }
+    ensures { IfOk result (λ zeros. zeros.items ≡ replicate count (pos 0)) }
+{
+    let mut zeros = Vec::with_capacity(alloc, count as usize)?;
+    for _k in 0..count {
+        zeros.push(0)?;
+    }
+    Ok(zeros)
 }
 
 // The product of a distance and a number of bins.

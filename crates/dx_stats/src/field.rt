@@ -1,5 +1,5 @@
 // The field of a histogram: its borders as positions on a line, its bins as the cells between them, its counts as data.
-ghost use Rattle.std.specs.Prelude.{◌≡◌, ◌≤◌, ◌&&◌, pos, length, Some, OnOk, IfOk, IsTrue, true};
+ghost use Rattle.std.specs.Prelude.{◌≡◌, ◌≤◌, ◌&&◌, ◌+◌, ◌∷◌, [], pos, length, Some, OnOk, IfOk, IsTrue, true};
 ghost use Rattle.dx_base.specs.Answers.{Answers};
 ghost use Rattle.dx_base.specs.Array.{ArrayData};
 ghost use Rattle.dx_base.specs.Object.{append, no_parts, part};
@@ -45,8 +45,18 @@ fn connections_of(alloc: Global, bins: Bins) -> Result<Object, RunFail>
     let mut attributes = Parts::new(alloc);
     push_text(alloc, &mut attributes, b"element type", b"lines")?;
     push_text(alloc, &mut attributes, b"ref", b"positions")?;
-    let counts = Vec::from_slice(alloc, &[bins.count as u32 + 1])?;
-    made(Array::grid_connections(counts), attributes)
+    let points = points_of(alloc, bins)?;
+    made(Array::grid_connections(points), attributes)
+}
+
+// How many points there are along the one dimension of the grid.
+fn points_of(alloc: Global, bins: Bins) -> Result<Vec<u32>, AllocError>
+    requires { AreBins bins }
+    ensures { IfOk result (λ points. points.items ≡ (bins.count + 1) ∷ []) }
+{
+    let mut points = Vec::new(alloc);
+    points.push(bins.count as u32 + 1)?;
+    Ok(points)
 }
 
 fn counts_of(alloc: Global, values: &[i64], bins: Bins) -> Result<Object, RunFail>
@@ -126,12 +136,7 @@ fn push_part(
 
 // A short text under a name.
 #[tactic(auto, using(crate::proofs::FieldLaws::short_text))]
-fn push_text(
-    alloc: Global,
-    parts: &mut Parts,
-    name: &[u8],
-    words: &[u8],
-) -> Result<(), AllocError>
+fn push_text(alloc: Global, parts: &mut Parts, name: &[u8], words: &[u8]) -> Result<(), AllocError>
     requires { length words.now ≤ 100 }
     ensures { OnOk result (parts.new ≡ append parts.old (spec.text_part name.now words.now no_parts)) }
 {

@@ -53,8 +53,5 @@ fn has_more(values: &[i64], bins: Bins, distance: u64, rank: u64) -> bool
 fn count_between(values: &[i64], low: i64, high: i64) -> u64
     ensures { result ≡ count_by (is_between low high) values.now }
 {
-    values
-        .iter()
-        .filter(|v| low <= **v && **v <= high)
-        .count() as u64
+    values.iter().filter(|v| low <= **v && **v <= high).count() as u64
 }

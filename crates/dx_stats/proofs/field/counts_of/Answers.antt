@@ -1,4 +1,4 @@
-use Rattle.std.proofs.Common.{◌≡◌, []}
+use Rattle.std.proofs.Common.{[]}
 use Rattle.dx_stats.specs.Bins.{bin_counts}
 use Rattle.dx_stats.specs.Histogram.{counts}
 use Rattle.dx_stats.proofs.FieldLaws.{makes_list}

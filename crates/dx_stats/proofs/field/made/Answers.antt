@@ -1,7 +1,4 @@
-use Rattle.std.proofs.Common.{◌≡◌}
-use Rattle.dx_base.specs.Array.{ArrayData}
 use Rattle.dx_base.specs.ObjectLimits.{unplaced}
-use Rattle.dx_arrays.specs.Makes.{Makes}
 use Rattle.dx_stats.proofs.FieldLaws.{made_too_large}
 use Rattle.dx_stats.proofs.field.made.Goals as goal
 

@@ -1,9 +1,8 @@
-use Rattle.std.proofs.Common.{◌≡◌, ℤ, pos, get_or, fold, FitsSigned, w64, ap, sym, ◌∙◌, arith, rules}
+use Rattle.std.proofs.Common.{ℤ, pos, get_or, fold, FitsSigned, w64, ap, sym, ◌∙◌, arith, rules}
 use Rattle.std.specs.Int.{int_min}
 use Rattle.std.proofs.lemmas.Int.{to_z-of_z}
 use Rattle.std.proofs.lemmas.List.{take_all}
 use Rattle.std.proofs.lemmas.List.Sums.{fold_more}
-use Rattle.dx_stats.specs.Statistics.{least}
 use Rattle.dx_stats.proofs.Held.{least_is, least_small}
 use Rattle.dx_stats.proofs.histogram.least_of.Goals as goal
 

@@ -1,4 +1,4 @@
-use Rattle.std.proofs.Common.{◌≡◌, pos, ◌+ℤ◌, FitsSigned, w64, ap, ◌∙◌, rules}
+use Rattle.std.proofs.Common.{FitsSigned, w64, ap, ◌∙◌, rules}
 use Rattle.std.specs.Prelude.{nat_lt}
 use Rattle.std.proofs.lemmas.Int.{to_z-of_z}
 use Rattle.dx_stats.specs.Bins.{up_to}

@@ -1,4 +1,4 @@
-use Rattle.std.proofs.Common.{◌≡◌, ◌-◌, ◌/◌, FitsSigned, w64, sym, ap, ◌∙◌, rules}
+use Rattle.std.proofs.Common.{◌-◌, ◌/◌, FitsSigned, w64, sym, ap, ◌∙◌, rules}
 use Rattle.std.specs.Prelude.{Some}
 use Rattle.std.proofs.lemmas.Int.{to_z-of_z}
 use Rattle.dx_stats.proofs.MedianLaws.{no_median, median_is}

@@ -1,4 +1,4 @@
-use Rattle.std.proofs.Common.{◌≡◌, ◌-ℤ◌, ◌*◌, ◌/◌, ◌≤◌, FitsSigned, w64, refl, arith, rules}
+use Rattle.std.proofs.Common.{◌≡◌, ◌-ℤ◌, FitsSigned, w64, refl, arith, rules}
 use Rattle.std.specs.Prelude.{unsigned_abs}
 use Rattle.std.proofs.lemmas.Int.{to_z-of_z}
 use Rattle.dx_stats.specs.Bins.{span}

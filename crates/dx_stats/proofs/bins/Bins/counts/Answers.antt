@@ -1,13 +1,13 @@
-use Rattle.std.proofs.Common.{◌≡◌, ℤ, pos, get_or, FitsSigned, w64, arith, rules}
+use Rattle.std.proofs.Common.{ℤ, pos, get_or, FitsSigned, w64, arith, rules}
 use Rattle.std.proofs.lemmas.Int.{to_z-of_z}
-use Rattle.std.proofs.lemmas.List.{take_all}
-use Rattle.dx_stats.proofs.CountLaws.{no_counts, tally_step, counts_are, counts_few, all_counts}
+use Rattle.dx_stats.proofs.CountLaws.{no_counts, tally_step, counts_few, counts_some, all_counts}
 use Rattle.dx_stats.proofs.bins.Bins.counts.Goals as goal
 
 pub loop-value-init : goal.loop-value-init
-loop-value-init c =
-    let h = c.in_ok-counts.ensures in
-    ?
+loop-value-init c = no_counts c.args.self c.args.values.now _ c.in_ok-counts.ensures
+
+pub tally-requires-clause-some : goal.tally-requires-clause-some
+tally-requires-clause-some c = counts_some c.args.self c.args.values.now _ c.loop-value.value-index c.loop-value.invariant
 
 pub tally-requires-clause-few : goal.tally-requires-clause-few
 tally-requires-clause-few c = counts_few c.args.self c.args.values.now _ c.loop-value.value-index c.loop-value.invariant (omega arith) c.requires.few
