@@ -1,5 +1,5 @@
 -- How large the sums get, and how they are made number by number.
-use Rattle.std.proofs.Common.{◌≡◌, ℕ, suc, ◌+◌, ◌*◌, ◌<◌, ◌≤◌, ℤ, pos, negsuc, ◌+ℤ◌, ◌-ℤ◌, ◌*ℤ◌, ◌≤ℤ◌, List, [], ◌∷◌, ◌++◌, length, take, get_or, fold, refl, sym, ap, ◌∙◌, arith, length-append, true, false, to_z, of_z}
+use Rattle.std.proofs.Common.{◌≡◌, ℕ, suc, ◌+◌, ◌*◌, ◌<◌, ◌≤◌, ℤ, pos, negsuc, ◌+ℤ◌, ◌-ℤ◌, ◌*ℤ◌, ◌≤ℤ◌, List, [], ◌∷◌, ◌++◌, length, take, get_or, fold, refl, sym, ap, ◌∙◌, arith, length-append, cond, true, false, to_z, of_z}
 use mir.Syntax.{w128}
 use Rattle.std.specs.List.{All}
 use Rattle.std.specs.Prelude.{int_lt}
@@ -161,3 +161,26 @@ minus_is a b x y e f u v =
     let b_low = v.some in
     let b_high = v.few in
     rw (e, f) (omega (arith, ints))
+
+min_small : (a b : ℤ) → IsSmall a → IsSmall b → IsSmall (int_min a b)
+min_small a b p q = elim (int_lt b a) as (λ t. IsSmall (cond t b a)) [ true ↦ q | false ↦ p ]
+
+max_small : (a b : ℤ) → IsSmall a → IsSmall b → IsSmall (int_max a b)
+max_small a b p q = elim (int_lt b a) as (λ t. IsSmall (cond t a b)) [ true ↦ p | false ↦ q ]
+
+fold_min_small : (a : ℤ) (vs : List ℤ) → IsSmall a → All IsSmall vs → IsSmall (fold int_min a vs)
+fold_min_small a [] p small = p
+fold_min_small a (v ∷ vs) p small = fold_min_small (int_min a v) vs (min_small a v p (small 0 v (omega arith))) (λ k d h. small (suc k) d (omega arith))
+
+fold_max_small : (a : ℤ) (vs : List ℤ) → IsSmall a → All IsSmall vs → IsSmall (fold int_max a vs)
+fold_max_small a [] p small = p
+fold_max_small a (v ∷ vs) p small = fold_max_small (int_max a v) vs (max_small a v p (small 0 v (omega arith))) (λ k d h. small (suc k) d (omega arith))
+
+-- some type of values holds the least and the greatest too
+pub least_small : (vs : List ℤ) → 0 < length vs → All IsSmall vs → IsSmall (spec.least vs)
+least_small [] h small = absurd (omega arith)
+least_small (v ∷ vs) h small = fold_min_small v vs (small 0 v (omega arith)) (λ k d h. small (suc k) d (omega arith))
+
+pub greatest_small : (vs : List ℤ) → 0 < length vs → All IsSmall vs → IsSmall (spec.greatest vs)
+greatest_small [] h small = absurd (omega arith)
+greatest_small (v ∷ vs) h small = fold_max_small v vs (small 0 v (omega arith)) (λ k d h. small (suc k) d (omega arith))

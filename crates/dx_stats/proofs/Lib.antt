@@ -3,3 +3,8 @@ pub mod Single
 pub mod Roots
 pub mod Narrowed
 pub mod Five
+pub mod BinsLaws
+pub mod CountLaws
+pub mod MedianLaws
+pub mod NumberLaws
+pub mod FieldLaws

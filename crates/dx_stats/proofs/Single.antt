@@ -106,3 +106,27 @@ some_sums a s e some h =
     let count = count_values a 0 (items a) e in
     let is = h.count in
     omega (arith, count, is)
+
+pub plain_count : (a : ArrayData) (vs : List ℤ) → a.extents ≡ [] → plain_of a.class ≡ Some vs → items a ≡ length vs
+plain_count a vs e h = plain_count_by (width a) a.class vs (single_width a e) h
+
+-- all numbers, read behind none
+pub all_read : (a : ArrayData) (n : ℕ) (none out read : List ℤ) → n ≡ items a → none ≡ [] → out ≡ none ++ values_from a 0 (n - 0) → read ≡ out → read ≡ numbers a
+all_read a n none out read e z h k =
+    let whole : n - 0 ≡ items a = omega (arith, e) in
+    k ∙ h ∙ ap (λ (xs : List ℤ). xs ++ values_from a 0 (n - 0)) z ∙ ap (values_from a 0) whole
+
+count_read : (a : ArrayData) (read : List ℤ) → a.extents ≡ [] → read ≡ numbers a → length read ≡ items a
+count_read a read e h = ap length h ∙ count_values a 0 (items a) e
+
+pub some_read : (a : ArrayData) (read : List ℤ) → a.extents ≡ [] → 0 < items a → read ≡ numbers a → 0 < length read
+some_read a read e some h = let count = count_read a read e h in omega (arith, count)
+
+pub few_read : (a : ArrayData) (read : List ℤ) → IsLawfulArray a → a.extents ≡ [] → read ≡ numbers a → length read ≤ 16777216
+few_read a read l e h =
+    let count = count_read a read e h in
+    let few = few_numbers a l e in
+    omega (arith, count, few)
+
+pub small_read : (a : ArrayData) (read : List ℤ) → IsLawfulArray a → read ≡ numbers a → All IsSmall read
+small_read a read l h = subst (λ (xs : List ℤ). All IsSmall xs) (sym h) (small_values a 0 (items a) l (omega arith))

@@ -5,8 +5,9 @@ ghost use Rattle.dx_base.specs.declared.elem.ElemType.TheVariants.{Int};
 ghost use Rattle.dx_base.specs.ObjectNumbers.{number_value};
 ghost use Rattle.dx_objects.specs.Values.{value_of};
 
-use dx_objects::{ElemType, Outs, Value, number};
+use dx_objects::{ElemType, Object, Outs, Value, number};
 use std::alloc::{AllocError, Global};
+use std::rc::Rc;
 
 /// Puts a number behind the results, or NULL where it is no int.
 pub(crate) fn push_number(alloc: Global, results: &mut Outs, n: i128) -> Result<(), AllocError>
@@ -44,4 +45,11 @@ fn narrowed(n: i128) -> i64
     ensures { result ≡ n }
 {
     n as i64
+}
+
+/// The object, shared.
+pub(crate) fn shared(alloc: Global, object: Object) -> Result<Rc<Object>, AllocError>
+    ensures { IfOk result (λ shared. shared.value ≡ object) }
+{
+    Ok(Rc::new(alloc, object)?)
 }

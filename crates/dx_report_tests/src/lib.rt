@@ -1,0 +1,7 @@
+//! Tests of the modules that report on objects.
+#![tactic(auto)]
+
+#[cfg(test)]
+mod made;
+#[cfg(test)]
+mod statistics;
