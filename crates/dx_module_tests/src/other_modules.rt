@@ -62,21 +62,11 @@ fn each_module_answers_for_itself(rt: HostRuntime) -> Result<(), Fail> {
 #[test]
 fn what_is_not_built_is_refused_by_name(rt: HostRuntime) -> Result<(), Fail> {
     let alloc = rt.alloc();
-    let (four, five) = ([NULL; 4], [NULL; 5]);
     assert!(rt;
         answers(
             alloc,
             Module::Slab,
-            &inputs(alloc, &four)?,
-            None,
-            "Unsupported"
-        )?
-    );
-    assert!(rt;
-        answers(
-            alloc,
-            Module::Histogram,
-            &inputs(alloc, &five)?,
+            &inputs(alloc, &[NULL; 4])?,
             None,
             "Unsupported"
         )?

@@ -12,6 +12,7 @@ use Rattle.dx_select.specs.Extract.{extract_answer}
 use Rattle.dx_select.specs.Mark.{mark_answer, unmark_answer}
 use Rattle.dx_select.specs.Replace.{replace_answer}
 use Rattle.dx_select.specs.Select.{select_answer}
+use Rattle.dx_stats.specs.Histogram.{histogram_answer}
 use Rattle.dx_stats.specs.Statistics.{statistics_answer}
 
 abbrev pub answer_of : Module → Values → Option (List ℕ) → Answer
@@ -24,7 +25,7 @@ answer_of computing.Unmark inputs file = unmark_answer inputs
 answer_of computing.Slab inputs file = Err Unsupported
 answer_of computing.Compute inputs file = compute.answer inputs
 answer_of computing.Statistics inputs file = statistics_answer inputs
-answer_of computing.Histogram inputs file = Err Unsupported
+answer_of computing.Histogram inputs file = histogram_answer inputs
 answer_of computing.Collect inputs file = collect_answer inputs
 answer_of computing.CollectNamed inputs file = collect_named_answer inputs
 answer_of computing.CollectSeries inputs file = collect_series_answer inputs

@@ -4,7 +4,6 @@ use Rattle.std.proofs.Common.{arith}
 use Rattle.dx_base.specs.declared.code.Code.{Code}
 use Rattle.dx_base.specs.declared.function.Module.{Module}
 use Rattle.dx_base.specs.declared.function.Module.TheVariants as computing
-use Rattle.dx_base.specs.Array.{ArrayData}
 use Rattle.dx_base.specs.Object.{Tree}
 use Rattle.dx_base.specs.ObjectLimits.{max_levels}
 use Rattle.dx_objects.specs.Runs.{Values, Answer, HasFewResults}
@@ -19,8 +18,7 @@ use Rattle.dx_native_fields.specs.Good.{good_fields}
 use Rattle.dx_import.specs.Import.{text_in, meaning, by_fields, imported, from_file, unless_refused, refusal as refused_inputs}
 use Rattle.dx_inquire.proofs.Few.{few_inquired}
 use Rattle.dx_select.specs.Answered as parts
-use Rattle.dx_stats.specs.Numbers.{numbers_in}
-use Rattle.dx_stats.specs.Statistics.{answer_over}
+use Rattle.dx_stats.proofs.Few.{few_histogram, few_statistics}
 use Rattle.dx_modules.specs.Answer.{answer_of}
 
 -- ---- Compute
@@ -57,12 +55,6 @@ few_one : (there : parts.Answered Tree) → HasFewResults (parts.one_result ther
 few_one (Ok t) = omega arith
 few_one (Err code) = tt
 
--- ---- Statistics
-
-few_over : (a : Result ArrayData Code) → HasFewResults (answer_over a)
-few_over (Ok a) = omega arith
-few_over (Err code) = tt
-
 pub few : (m : Module) (inputs : Values) (file : Option (List ℕ)) → HasFewResults (answer_of m inputs file)
 few computing.Compute inputs file = one_of (expression_in (value_at inputs 0)) (λ e. answer_within max_levels e (occurring e 0 (drop 1 inputs)))
 few computing.Import inputs file = few_unless (refused_inputs inputs) (from_file (text_in (value_at inputs 1)) file) (few_from_file (text_in (value_at inputs 1)) file)
@@ -72,8 +64,8 @@ few computing.Replace inputs file = few_one _
 few computing.Mark inputs file = few_one _
 few computing.Unmark inputs file = few_one _
 few computing.Slab inputs file = tt
-few computing.Statistics inputs file = few_over (numbers_in (value_at inputs 0))
-few computing.Histogram inputs file = tt
+few computing.Statistics inputs file = few_statistics inputs
+few computing.Histogram inputs file = few_histogram inputs
 few computing.Collect inputs file = few_one _
 few computing.CollectNamed inputs file = few_one _
 few computing.CollectSeries inputs file = few_one _

@@ -11,7 +11,7 @@ use dx_select::{
     run_collect, run_collect_named, run_collect_series, run_extract, run_mark, run_replace,
     run_select, run_unmark,
 };
-use dx_stats::run_statistics;
+use dx_stats::{run_histogram, run_statistics};
 use std::alloc::Global;
 
 /// The fourteen modules of Data Explorer's integer profile. It keeps no runs. A module that isn't built yet refuses its
@@ -51,11 +51,12 @@ impl Library for Modules {
             Module::Unmark => run_unmark(alloc, inputs),
             Module::Compute => run_compute(alloc, inputs),
             Module::Statistics => run_statistics(alloc, inputs),
+            Module::Histogram => run_histogram(alloc, inputs),
             Module::Collect => run_collect(alloc, inputs),
             Module::CollectNamed => run_collect_named(alloc, inputs),
             Module::CollectSeries => run_collect_series(alloc, inputs),
             Module::Inquire => run_inquire(alloc, inputs),
-            Module::Slab | Module::Histogram => Err(RunFail::Code(Code::Unsupported)),
+            Module::Slab => Err(RunFail::Code(Code::Unsupported)),
         }
     }
 }

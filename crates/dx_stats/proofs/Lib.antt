@@ -8,3 +8,4 @@ pub mod CountLaws
 pub mod MedianLaws
 pub mod NumberLaws
 pub mod FieldLaws
+pub mod Few
