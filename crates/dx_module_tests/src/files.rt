@@ -105,9 +105,9 @@ fn import_refuses_a_field_with_a_fault_wherever_parts_reach_it(
     let given = inputs(alloc, &[NAME, null, null, null, null, null])?;
     for (text, groups, answer) in [
         (FAULTY, 0, "BadField"),
-        (FAULTY, 18, "BadField"),
-        (FINE, 18, "an object"),
-        (FAULTY_ATTRIBUTE, 18, "an object"),
+        (FAULTY, 17, "BadField"),
+        (FINE, 17, "an object"),
+        (FAULTY_ATTRIBUTE, 17, "an object"),
         ("", 0, "BadFile"),
     ] {
         let file = in_groups(alloc, text, groups)?;
