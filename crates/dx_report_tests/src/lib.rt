@@ -2,6 +2,8 @@
 #![tactic(auto)]
 
 #[cfg(test)]
+mod histogram;
+#[cfg(test)]
 mod made;
 #[cfg(test)]
 mod statistics;
