@@ -1,0 +1,3 @@
+pub mod Halted
+pub mod LinkTerms
+pub mod Stayed

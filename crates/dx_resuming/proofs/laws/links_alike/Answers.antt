@@ -1,0 +1,11 @@
+use Rattle.dx_resuming.proofs.LinkTerms as link
+use Rattle.dx_resuming.proofs.laws.links_alike.Goals as goal
+
+pub returns-clause-one : goal.returns-clause-one
+returns-clause-one c = link.gets_alike
+
+pub returns-clause-all : goal.returns-clause-all
+returns-clause-all c = link.get_all_alike
+
+pub returns-clause-ready : goal.returns-clause-ready
+returns-clause-ready c = link.ready_alike

@@ -1,0 +1,3 @@
+pub mod Halting
+pub mod Links
+pub mod Staying

@@ -1,0 +1,22 @@
+// What is true of looking, breaking off and getting.
+ghost use Rattle.dx_resuming.specs.Halting.{AllHaltsAlike, HaltsAlike};
+ghost use Rattle.dx_resuming.specs.Links.{AllLinksAlike, LinksAlike, ReadyAlike};
+ghost use Rattle.dx_resuming.specs.Staying.{FormedStays};
+
+/// A call that formed its term first keeps its site and its attribute, whatever is formed behind it.
+pub fn first_calls_stay()
+    ensures { FormedStays }
+{}
+
+/// A getting asks links alone whether they have a term: with links of the same terms it is the same, and the same is ready.
+pub fn links_alike()
+    ensures one { LinksAlike }
+    ensures all { AllLinksAlike }
+    ensures ready { ReadyAlike }
+{}
+
+/// Looking that ends at a selector ends there by more too, and forms the same, where more doesn't tell it either.
+pub fn halts_alike()
+    ensures one { HaltsAlike }
+    ensures all { AllHaltsAlike }
+{}
