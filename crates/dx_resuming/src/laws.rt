@@ -1,7 +1,14 @@
 // What is true of looking, breaking off and getting.
+ghost use Rattle.dx_resuming.specs.Covering.{AllClosedCover, ClosedCovers};
+ghost use Rattle.dx_resuming.specs.Formed.{FormedSame};
 ghost use Rattle.dx_resuming.specs.Halting.{AllHaltsAlike, HaltsAlike};
 ghost use Rattle.dx_resuming.specs.Links.{AllLinksAlike, LinksAlike, ReadyAlike};
 ghost use Rattle.dx_resuming.specs.Staying.{FormedStays};
+
+/// The calls that looking formed first are those of an execution's course, with their sites and attributes.
+pub fn formed_same()
+    ensures { FormedSame }
+{}
 
 /// A call that formed its term first keeps its site and its attribute, whatever is formed behind it.
 pub fn first_calls_stay()
@@ -19,4 +26,10 @@ pub fn links_alike()
 pub fn halts_alike()
     ensures one { HaltsAlike }
     ensures all { AllHaltsAlike }
+{}
+
+/// Each call that getting a found value can reach, whatever is cached, was formed or is a link's.
+pub fn closed_covers()
+    ensures one { ClosedCovers }
+    ensures all { AllClosedCover }
 {}

@@ -4,4 +4,4 @@
 
 mod laws;
 
-pub use laws::{first_calls_stay, halts_alike, links_alike};
+pub use laws::{closed_covers, first_calls_stay, formed_same, halts_alike, links_alike};
