@@ -1,14 +1,15 @@
 -- A getting asks links alone whether they have a term.
-use Rattle.std.proofs.Common.{◌≡◌, List, Bool, true, false, refl, ap, ◌∙◌}
+use Rattle.std.proofs.Common.{◌≡◌, List, Bool, true, false, refl, sym, ap, ◌∙◌}
 use Rattle.std.specs.Prelude.{Ok, Err, ◌||◌}
 use Rattle.dx_base.specs.declared.function.Module.{Module}
 use Rattle.dx_objects.specs.Runs.{Answer}
 use Rattle.dx_tags.specs.Closed.{ValueTerm, ConstantTerm, HeldTerm, ResultTerm, FileTerm, CallTerm, CallOf, ValueTerms, NoTerm, AndTerm}
 use Rattle.dx_links.specs.Denotes.{own_file, file_of, all_denote}
 use Rattle.dx_links.specs.Getting.{has_value, has_call}
-use Rattle.dx_machine.specs.Machine.{Frame, State, Got, RanAt, and_then, with_event, task_of, site_of, after_run, run_call, has_entry, obtain, unless_link, get, get_call, get_all}
+use Rattle.dx_machine.specs.Machine.{FormedCall, Frame, State, Got, RanAt, and_then, with_event, task_of, site_of, after_run, run_call, has_entry, obtain, unless_link, get, get_call, get_all}
+use Rattle.dx_machine.specs.Covered.{IsCovered, IsCoveredCall, AreCovered}
 use Rattle.dx_performing.specs.Resuming.{is_ready}
-use Rattle.dx_resuming.specs.Links.{SameLinks, LinksAlike, AllLinksAlike, ReadyAlike}
+use Rattle.dx_resuming.specs.Links.{SameLinks, LinksAlike, AllLinksAlike, ReadyAlike, CoveredAlike, AllCoveredAlike}
 
 abbrev with_links : Frame → List ValueTerm → Frame
 with_links k ls = record { around = k.around; links = ls; formed = k.formed; budget = k.budget }
@@ -64,3 +65,26 @@ get_all_alike k k' h ts s = ap (λ x. get_all x ts s) (by_links k k' h) ∙ valu
 
 pub ready_alike : ReadyAlike
 ready_alike k k' h t s = ap (λ x. is_ready x s t) (by_links k k' h) ∙ ready_same k k'.links h.links t s
+
+-- ---- what getting can reach
+
+module _ (fs : List FormedCall) (ls ls' : List ValueTerm) (h : (t : ValueTerm) → has_value ls' t ≡ has_value ls t) where
+  mutual
+    value_covered : (t : ValueTerm) → IsCovered fs ls t → IsCovered fs ls' t
+    value_covered (ConstantTerm c) v = tt
+    value_covered (HeldTerm n) v = tt
+    value_covered (FileTerm b) v = tt
+    value_covered (ResultTerm result c) v = λ e. call_covered c (v (sym (h (ResultTerm result c)) ∙ e))
+
+    call_covered : (c : CallTerm) → IsCoveredCall fs ls c → IsCoveredCall fs ls' c
+    call_covered (CallOf m ts) v = (v.0, values_covered ts v.1)
+
+    values_covered : (ts : ValueTerms) → AreCovered fs ls ts → AreCovered fs ls' ts
+    values_covered NoTerm v = tt
+    values_covered (AndTerm t ts) v = (value_covered t v.0, values_covered ts v.1)
+
+pub covered_alike : CoveredAlike
+covered_alike fs ls ls' h t v = value_covered fs ls ls' h t v
+
+pub all_covered_alike : AllCoveredAlike
+all_covered_alike fs ls ls' h ts v = values_covered fs ls ls' h ts v

@@ -1,8 +1,9 @@
 -- A getting asks links alone whether they have a term.
-use Rattle.std.specs.Prelude.{◌≡◌}
+use Rattle.std.specs.Prelude.{◌≡◌, List}
 use Rattle.dx_tags.specs.Closed.{ValueTerm, ValueTerms}
 use Rattle.dx_links.specs.Getting.{has_value}
-use Rattle.dx_machine.specs.Machine.{Frame, State, get, get_all}
+use Rattle.dx_machine.specs.Machine.{FormedCall, Frame, State, get, get_all}
+use Rattle.dx_machine.specs.Covered.{IsCovered, AreCovered}
 use Rattle.dx_performing.specs.Resuming.{is_ready}
 
 -- two frames whose links have the same terms, in whatever order and however often
@@ -20,3 +21,10 @@ AllLinksAlike = (k k' : Frame) → SameLinks k k' → (ts : ValueTerms) (s : Sta
 
 abbrev pub ReadyAlike : Type 0
 ReadyAlike = (k k' : Frame) → SameLinks k k' → (t : ValueTerm) (s : State) → is_ready k' s t ≡ is_ready k s t
+
+-- what getting can reach was formed, by whichever of two lists of links with the same terms
+abbrev pub CoveredAlike : Type 0
+CoveredAlike = (formed : List FormedCall) (links links' : List ValueTerm) → ((t : ValueTerm) → has_value links' t ≡ has_value links t) → (t : ValueTerm) → IsCovered formed links t → IsCovered formed links' t
+
+abbrev pub AllCoveredAlike : Type 0
+AllCoveredAlike = (formed : List FormedCall) (links links' : List ValueTerm) → ((t : ValueTerm) → has_value links' t ≡ has_value links t) → (ts : ValueTerms) → AreCovered formed links ts → AreCovered formed links' ts

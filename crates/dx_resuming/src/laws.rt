@@ -2,7 +2,7 @@
 ghost use Rattle.dx_resuming.specs.Covering.{AllClosedCover, ClosedCovers};
 ghost use Rattle.dx_resuming.specs.Formed.{FormedSame};
 ghost use Rattle.dx_resuming.specs.Halting.{AllHaltsAlike, HaltsAlike};
-ghost use Rattle.dx_resuming.specs.Links.{AllLinksAlike, LinksAlike, ReadyAlike};
+ghost use Rattle.dx_resuming.specs.Links.{AllCoveredAlike, AllLinksAlike, CoveredAlike, LinksAlike, ReadyAlike};
 ghost use Rattle.dx_resuming.specs.Staying.{FormedStays};
 
 /// The calls that looking formed first are those of an execution's course, with their sites and attributes.
@@ -15,11 +15,14 @@ pub fn first_calls_stay()
     ensures { FormedStays }
 {}
 
-/// A getting asks links alone whether they have a term: with links of the same terms it is the same, and the same is ready.
+/// A getting asks links alone whether they have a term: with links of the same terms it is the same, the same is ready, and what it
+/// can reach was formed.
 pub fn links_alike()
     ensures one { LinksAlike }
     ensures all { AllLinksAlike }
     ensures ready { ReadyAlike }
+    ensures covered { CoveredAlike }
+    ensures all_covered { AllCoveredAlike }
 {}
 
 /// Looking that ends at a selector ends there by more too, and forms the same, where more doesn't tell it either.

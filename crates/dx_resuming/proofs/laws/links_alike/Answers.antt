@@ -9,3 +9,9 @@ returns-clause-all c = link.get_all_alike
 
 pub returns-clause-ready : goal.returns-clause-ready
 returns-clause-ready c = link.ready_alike
+
+pub returns-clause-covered : goal.returns-clause-covered
+returns-clause-covered c = link.covered_alike
+
+pub returns-clause-all_covered : goal.returns-clause-all_covered
+returns-clause-all_covered c = link.all_covered_alike
