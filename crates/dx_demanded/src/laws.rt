@@ -1,0 +1,12 @@
+// What is true of errors and runs.
+ghost use Rattle.dx_demanded.specs.Found.{ErrorsAreFound, FirstIsOfAll, GettingsFind};
+
+/// Where a tree or the arguments of an effect come to an error, getting their terms where nothing is kept refuses a call with the
+/// error's code, and the first call with its term that the data meets stands at the error's site; where they have values, it runs
+/// to its end, and each call met has results. In any sound state getting the arguments is stopped at the same call. It is found
+/// in the first argument that meets it.
+pub fn errors_are_found()
+    ensures trees { ErrorsAreFound }
+    ensures getting { GettingsFind }
+    ensures arguments { FirstIsOfAll }
+{}

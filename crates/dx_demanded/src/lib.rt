@@ -1,0 +1,6 @@
+//! What is run, and the call that an error names: laws of executions, their courses and their meaning.
+#![tactic(auto)]
+
+mod laws;
+
+pub use laws::errors_are_found;
