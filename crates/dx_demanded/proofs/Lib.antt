@@ -2,7 +2,11 @@ pub mod Ends
 pub mod Found
 pub mod Got
 pub mod Kept
+pub mod Looked
+pub mod Performed
 pub mod Picks
 pub mod Places
+pub mod Sound
 pub mod Trees
+pub mod Used
 pub mod Uses

@@ -1,5 +1,13 @@
 // What is true of errors and runs.
 ghost use Rattle.dx_demanded.specs.Found.{ErrorsAreFound, FirstIsOfAll, GettingsFind};
+ghost use Rattle.dx_demanded.specs.Used.{RunsAreDemanded, TermsUseDemand};
+
+/// Each module that an execution runs is one that its meaning demands, on the same inputs; and so is each that the term of a
+/// tree's value or error needs where nothing is kept.
+pub fn runs_are_demanded()
+    ensures executions { RunsAreDemanded }
+    ensures trees { TermsUseDemand }
+{}
 
 /// Where a tree or the arguments of an effect come to an error, getting their terms where nothing is kept refuses a call with the
 /// error's code, and the first call with its term that the data meets stands at the error's site; where they have values, it runs

@@ -3,4 +3,4 @@
 
 mod laws;
 
-pub use laws::errors_are_found;
+pub use laws::{errors_are_found, runs_are_demanded};
