@@ -1,6 +1,7 @@
 pub mod Ends
 pub mod Found
 pub mod Got
+pub mod Halted
 pub mod Kept
 pub mod Looked
 pub mod Performed

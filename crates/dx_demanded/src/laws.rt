@@ -1,5 +1,6 @@
 // What is true of errors and runs.
 ghost use Rattle.dx_demanded.specs.Found.{ErrorsAreFound, FirstIsOfAll, GettingsFind};
+ghost use Rattle.dx_demanded.specs.Halted.{HaltedGettingsFind, HaltsAreFound};
 ghost use Rattle.dx_demanded.specs.Used.{RunsAreDemanded, TermsUseDemand};
 
 /// Each module that an execution runs is one that its meaning demands, on the same inputs; and so is each that the term of a
@@ -17,4 +18,12 @@ pub fn errors_are_found()
     ensures trees { ErrorsAreFound }
     ensures getting { GettingsFind }
     ensures arguments { FirstIsOfAll }
+{}
+
+/// Where an execution ends as a selector is refused, getting the selector's term where nothing is kept refuses a call with the
+/// error's code, and the first call with its term that the selector's data meets stands at the error's site. In any sound state
+/// getting a selector of an effect that isn't told is stopped at the same call.
+pub fn halts_are_found()
+    ensures trees { HaltsAreFound }
+    ensures getting { HaltedGettingsFind }
 {}
