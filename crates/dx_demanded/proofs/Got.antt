@@ -12,6 +12,8 @@ use Rattle.dx_machine.proofs.Keeping.{getting_keeps}
 use Rattle.dx_meaning.specs.Outcome.{Decided, Val, ErrAt, Off, HaltAt}
 use Rattle.dx_meaning.specs.Meaning.{outcomes, together}
 use Rattle.dx_meaning.specs.Met.{Called, each_met, all_met}
+use Rattle.dx_meaning.specs.More.{Keeps}
+use Rattle.dx_meaning.proofs.Keeping.{all_keeps, each_keeps, forms_kept}
 use Rattle.dx_meaning.specs.Scan.{Scanned, Forms, scan_each, all_scanned}
 use Rattle.dx_meaning.specs.Term.{terms_of}
 use Rattle.dx_performing.specs.Course.{around_of, world_of, sight_of, frame_with}
@@ -19,6 +21,7 @@ use Rattle.dx_performing.specs.Meant.{Means}
 use Rattle.dx_performing.proofs.Executed.{names_of, full}
 use Rattle.dx_performing.proofs.Meant.{all_means}
 use Rattle.dx_demanded.specs.Found.{StandsAt, Finds, GotFinds, GettingsFind}
+use Rattle.dx_demanded.proofs.HaltsStay.{met_same}
 use Rattle.dx_demanded.proofs.Kept.{terms_in, are_links}
 use Rattle.dx_demanded.proofs.Trees.{all_need}
 
@@ -65,11 +68,15 @@ by_means a (Val vs) calls us ts x go m e h = let same : us ≡ ts = cc in subst 
 by_means a (ErrAt site code) calls us ts x go m e h = let same : us ≡ ts = cc in subst (λ r. GotFinds (ErrAt site code) calls (go r)) same h
 
 pub gettings_find : GettingsFind
-gettings_find x k formed args ts s r f h e =
+gettings_find x k told formed args ts s r more f h e =
     let w = world_of x k in
     let n = names_of k in
+    let sight = sight_of x k in
     let l = are_links x k r in
     let d = (together (outcomes w args)).decided in
-    let calls = all_met (each_met (sight_of x k) args) in
-    by_means (around_of x k) d calls (terms_of w n args) ts (all_scanned (scan_each (sight_of x k) args)) (λ us. get_all (frame_with x k formed) us s) (all_means w n (sight_of x k) l.denote (full x k) args) e
-    (got_finds (around_of x k) s d calls (all_demanded (around_of x k) (terms_in k.links) (terms_of w n args)) (get_all (frame_with x k formed) (terms_of w n args) s) (all_need w n (sight_of x k) (terms_in k.links) l (full x k) args).found (getting_all_agrees (frame_with x k formed) (terms_of w n args) s f h))
+    let calls = all_met (each_met sight args) in
+    let keeps : Keeps (all_scanned (scan_each told args)) (all_scanned (scan_each sight args)) = all_keeps (scan_each told args) (scan_each sight args) (each_keeps told sight more args) in
+    subst (λ cs. GotFinds d (all_met cs) (get_all (frame_with x k formed) ts s)) (met_same told sight more args ts e)
+    (by_means (around_of x k) d calls (terms_of w n args) ts (all_scanned (scan_each sight args)) (λ us. get_all (frame_with x k formed) us s) (all_means w n sight l.denote (full x k) args)
+    (forms_kept (all_scanned (scan_each told args)) (all_scanned (scan_each sight args)) ts keeps e)
+    (got_finds (around_of x k) s d calls (all_demanded (around_of x k) (terms_in k.links) (terms_of w n args)) (get_all (frame_with x k formed) (terms_of w n args) s) (all_need w n sight (terms_in k.links) l (full x k) args).found (getting_all_agrees (frame_with x k formed) (terms_of w n args) s f h)))

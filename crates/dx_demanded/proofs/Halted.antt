@@ -15,9 +15,7 @@ use Rattle.dx_objects.specs.Runs.{Values, Answer}
 use Rattle.dx_links.specs.declared.key.Key.TheVariants as key
 use Rattle.dx_links.specs.Denotes.{Around, denotes}
 use Rattle.dx_tags.specs.Closed.{ValueTerm, ConstantTerm, ValueTerms}
-use Rattle.dx_machine.specs.Machine.{State, Got, Went, Stopped, get}
-use Rattle.dx_machine.specs.Agree.{Demanded, Runs, Refuses, demanded, Agrees as GotAgrees}
-use Rattle.dx_machine.proofs.Agreeing.{getting_agrees}
+use Rattle.dx_machine.specs.Agree.{demanded}
 use Rattle.dx_meaning.specs.Outcome.{Value, Use, Decided, Val, ErrAt, Off, HaltAt, Outcome}
 use Rattle.dx_meaning.specs.Picking.{Pick, PickThis, PickInput, PickOff, PickFault, Shelf, link_name, key_in, pick, selector_at}
 use Rattle.dx_meaning.specs.Meaning.{World, outcome, outcomes, outcome_at, together, decided_beside, selected_with, with_name, answered, module_rule, module_outcome, after_selector, picked, values_in, selector_rule, effect_rule, by_rule, file_for}
@@ -25,13 +23,12 @@ use Rattle.dx_meaning.specs.Scan.{Sight, IsOff, Stops, Needs, Scanned, Forms, En
 use Rattle.dx_meaning.specs.Met.{Called, met_at, picked_met, effect_met, met, each_met}
 use Rattle.dx_meaning.specs.Term.{Names, around, term_at, terms_with, term_of, terms_of, Agrees}
 use Rattle.dx_meaning.proofs.Terms.{tree_right}
-use Rattle.dx_performing.specs.Course.{value_or_none, around_of, world_of, sight_of, frame_with}
+use Rattle.dx_performing.specs.Course.{value_or_none}
 use Rattle.dx_performing.specs.Meant.{IsFull, IsHalted, Means}
-use Rattle.dx_performing.proofs.Executed.{names_of, full}
-use Rattle.dx_performing.proofs.Meant.{tree_means, all_means}
-use Rattle.dx_demanded.specs.Found.{AreLinks, StandsAt, RefusesAt, Finds, StoppedAt}
-use Rattle.dx_demanded.specs.Halted.{halted_beside, all_halted, selected_halted, picking_halted, module_halted, rule_halted, halted_met, each_halted, halted_all, SelectorRefuses, HaltFinds, HaltsAreFound, HaltedGot, HaltedGettingsFind}
-use Rattle.dx_demanded.proofs.Kept.{terms_in as kept_terms, are_links}
+use Rattle.dx_performing.proofs.Executed.{full}
+use Rattle.dx_performing.proofs.Meant.{tree_means}
+use Rattle.dx_demanded.specs.Found.{AreLinks, RefusesAt, Finds}
+use Rattle.dx_demanded.specs.Halted.{halted_beside, all_halted, selected_halted, picking_halted, module_halted, rule_halted, halted_met, each_halted, halted_all, SelectorRefuses, HaltFinds, HaltsAreFound}
 use Rattle.dx_demanded.proofs.Picks.{PickNeeds, switch_needs, route_needs, get_needs}
 use Rattle.dx_demanded.proofs.Trees.{tree_needs}
 
@@ -224,24 +221,3 @@ module _ (w : World) (n : Names) (s : Sight) (links : List ValueTerm) (l : AreLi
 
 pub halts_found : HaltsAreFound
 halts_found w n s links l full = (tree_halts w n s links l full, all_halts w n s links l full)
-
--- ---- getting the selector
-
-got_halts : (a : Around) (s : State) (calls : List Called) (site : List Step) (code : Code) (needed : Demanded) (g : Got) → RefusesAt a calls site code needed → GotAgrees s needed g → StoppedAt calls site code g
-got_halts a s calls site code (Runs ts) g f h = absurd f
-got_halts a s calls site code (Refuses ts c code') (Went s1) f h = h
-got_halts a s calls site code (Refuses ts c code') (Stopped d code'' s1) f h = (h.1 ∙ f.0, subst (λ e. StandsAt calls e site) (sym h.0) f.2)
-
-by_halts : (a : Around) (links : List ValueTerm) (d : Decided Values) (ts : ValueTerms) (x : Scanned ValueTerms) (calls : List Called) (place : List Step) (u : ValueTerm) (s : State) (g : Got) → Means a d ts x → HaltFinds a links d calls x → x ≡ Ends (Needs place u) → GotAgrees s (demanded a links u) g → HaltedGot d calls g
-by_halts a links Off ts x calls place u s g m h e k = cc
-by_halts a links (Val vs) ts x calls place u s g m h e k = cc
-by_halts a links (ErrAt site code) ts x calls place u s g m h e k = cc
-by_halts a links (HaltAt site code) ts x calls place u s g m h e k = got_halts a s calls site code (demanded a links u) g (subst (SelectorRefuses a links calls site code) e h) k
-
-pub halted_gettings_find : HaltedGettingsFind
-halted_gettings_find x k formed args place u s r f h e =
-    let w = world_of x k in
-    let n = names_of k in
-    let l = are_links x k r in
-    by_halts (around_of x k) (kept_terms k.links) (together (outcomes w args)).decided (terms_of w n args) (all_scanned (scan_each (sight_of x k) args)) (halted_all (sight_of x k) args) place u s (get (frame_with x k formed) u s)
-    (all_means w n (sight_of x k) l.denote (full x k) args) (all_halts w n (sight_of x k) (kept_terms k.links) l (full x k) args) e (getting_agrees (frame_with x k formed) u s f h)

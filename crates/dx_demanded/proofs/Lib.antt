@@ -2,6 +2,8 @@ pub mod Ends
 pub mod Found
 pub mod Got
 pub mod Halted
+pub mod HaltsGot
+pub mod HaltsStay
 pub mod Kept
 pub mod Looked
 pub mod Performed

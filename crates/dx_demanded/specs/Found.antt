@@ -15,6 +15,7 @@ use Rattle.dx_machine.specs.Agree.{Demanded, Runs, Refuses, demanded, all_demand
 use Rattle.dx_meaning.specs.Outcome.{Value, Decided, Val, ErrAt, Off, HaltAt}
 use Rattle.dx_meaning.specs.Meaning.{World, outcome, outcomes, together}
 use Rattle.dx_meaning.specs.Met.{Called, met, each_met, all_met, first_place}
+use Rattle.dx_meaning.specs.More.{More}
 use Rattle.dx_meaning.specs.Scan.{Forms, scan_each, all_scanned}
 use Rattle.dx_meaning.specs.Term.{Names, around, term_of, terms_of, LinksDenote}
 use Rattle.dx_meaning.specs.Scan.{Sight}
@@ -81,10 +82,10 @@ GotFinds (ErrAt site code) calls g = StoppedAt calls site code g
 GotFinds Off calls g = Unit {0}
 GotFinds (HaltAt site code) calls g = Unit {0}
 
--- the arguments of an effect, got in any sound state
+-- the arguments of an effect, once their terms are formed by what is told, got in any sound state
 abbrev pub GettingsFind : Type 0
-GettingsFind = (x : Fixed) (k : Kept) (formed : List FormedCall) (args : Trees) (ts : ValueTerms) (s : State) → LinksRight (around_of x k) k.links → HaveAttributes formed → IsSound (around_of x k) x.budget s → all_scanned (scan_each (sight_of x k) args) ≡ Forms ts →
-    GotFinds (together (outcomes (world_of x k) args)).decided (all_met (each_met (sight_of x k) args)) (get_all (frame_with x k formed) ts s)
+GettingsFind = (x : Fixed) (k : Kept) (told : Sight) (formed : List FormedCall) (args : Trees) (ts : ValueTerms) (s : State) → LinksRight (around_of x k) k.links → More told (sight_of x k) → HaveAttributes formed → IsSound (around_of x k) x.budget s → all_scanned (scan_each told args) ≡ Forms ts →
+    GotFinds (together (outcomes (world_of x k) args)).decided (all_met (each_met told args)) (get_all (frame_with x k formed) ts s)
 
 -- ---- in which argument
 

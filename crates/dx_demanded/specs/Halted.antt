@@ -8,21 +8,22 @@ use Rattle.dx_base.specs.declared.function.Module.TheVariants as computing
 use Rattle.dx_macros.specs.Site.{Step}
 use Rattle.dx_macros.specs.Tree.{Place, Tree, ConstantTree, ResultTree, TreeCall, Trees, NoTree, AndTree}
 use Rattle.dx_objects.specs.Runs.{Values}
-use Rattle.dx_tags.specs.Closed.{ValueTerm}
+use Rattle.dx_tags.specs.Closed.{ValueTerm, CallTerm}
 use Rattle.dx_links.specs.Denotes.{Around}
-use Rattle.dx_machine.specs.Machine.{FormedCall, State, Got, get}
+use Rattle.dx_machine.specs.Machine.{FormedCall, State, Got, Went, Stopped, get}
 use Rattle.dx_machine.specs.Sound.{HaveAttributes, IsSound}
 use Rattle.dx_machine.specs.Agree.{demanded}
 use Rattle.dx_meaning.specs.Outcome.{Value, Decided, Val, ErrAt, Off, HaltAt}
 use Rattle.dx_meaning.specs.Picking.{pick, selector_at}
 use Rattle.dx_meaning.specs.Meaning.{World, outcome, outcomes, together}
+use Rattle.dx_meaning.specs.More.{More}
 use Rattle.dx_meaning.specs.Scan.{Sight, IsOff, Stops, Needs, Scanned, Forms, Ends, scanned_at, terms_in, scan, scan_each, all_scanned}
 use Rattle.dx_meaning.specs.Met.{Called, met_at, picked_met, effect_met, each_met}
 use Rattle.dx_meaning.specs.Term.{Names, around}
 use Rattle.dx_performing.specs.Kept.{Kept}
 use Rattle.dx_performing.specs.Course.{Fixed, around_of, world_of, sight_of, frame_with}
 use Rattle.dx_performing.specs.Meant.{IsFull, LinksRight}
-use Rattle.dx_demanded.specs.Found.{AreLinks, RefusesAt, StoppedAt}
+use Rattle.dx_demanded.specs.Found.{AreLinks, StandsAt, RefusesAt}
 
 -- ---- the calls that the data of a selector meets, where looking at a tree ends as its value isn't told
 
@@ -100,14 +101,21 @@ ArgumentsHalt w n s links args = HaltFinds (around w n) links (together (outcome
 abbrev pub HaltsAreFound : Type 0
 HaltsAreFound = (w : World) (n : Names) (s : Sight) (links : List ValueTerm) → AreLinks w n links → IsFull w n s → ((t : Tree) → TreeHalts w n s links t) × ((args : Trees) → ArgumentsHalt w n s links args)
 
--- the effect's execution ends with the error, at which getting the selector is stopped
-abbrev pub HaltedGot : Decided Values → List Called → Got → Type 0
-HaltedGot (HaltAt site code) calls g = StoppedAt calls site code g
-HaltedGot (Val vs) calls g = ⊥
-HaltedGot (ErrAt site code) calls g = ⊥
-HaltedGot Off calls g = ⊥
+-- ---- getting with what is kept
 
--- a selector of an effect that isn't told, got in any sound state
+-- the outcome ends with the code, at the site of the first call with the term
+abbrev pub EndsAt : {A : Type 0} → List Called → CallTerm → Code → Decided A → Type 0
+EndsAt calls c code (HaltAt site code') = (code' ≡ code) × StandsAt calls c site
+EndsAt calls c code (Val v) = ⊥
+EndsAt calls c code (ErrAt site code') = ⊥
+EndsAt calls c code Off = ⊥
+
+-- where it is stopped
+abbrev pub HaltedGot : Decided Values → List Called → Got → Type 0
+HaltedGot d calls (Went s) = Unit {0}
+HaltedGot d calls (Stopped c code s) = EndsAt calls c code d
+
+-- a selector of an effect that isn't told yet, got in any sound state
 abbrev pub HaltedGettingsFind : Type 0
-HaltedGettingsFind = (x : Fixed) (k : Kept) (formed : List FormedCall) (args : Trees) (place : List Step) (u : ValueTerm) (s : State) → LinksRight (around_of x k) k.links → HaveAttributes formed → IsSound (around_of x k) x.budget s → all_scanned (scan_each (sight_of x k) args) ≡ Ends (Needs place u) →
-    HaltedGot (together (outcomes (world_of x k) args)).decided (halted_all (sight_of x k) args) (get (frame_with x k formed) u s)
+HaltedGettingsFind = (x : Fixed) (k : Kept) (told : Sight) (formed : List FormedCall) (args : Trees) (place : List Step) (u : ValueTerm) (s : State) → LinksRight (around_of x k) k.links → More told (sight_of x k) → HaveAttributes formed → IsSound (around_of x k) x.budget s → all_scanned (scan_each told args) ≡ Ends (Needs place u) →
+    HaltedGot (together (outcomes (world_of x k) args)).decided (halted_all told args) (get (frame_with x k formed) u s)

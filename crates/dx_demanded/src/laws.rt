@@ -22,7 +22,7 @@ pub fn errors_are_found()
 
 /// Where an execution ends as a selector is refused, getting the selector's term where nothing is kept refuses a call with the
 /// error's code, and the first call with its term that the selector's data meets stands at the error's site. In any sound state
-/// getting a selector of an effect that isn't told is stopped at the same call.
+/// getting a selector of an effect that isn't told yet is stopped at the same call.
 pub fn halts_are_found()
     ensures trees { HaltsAreFound }
     ensures getting { HaltedGettingsFind }

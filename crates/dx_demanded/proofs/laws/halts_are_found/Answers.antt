@@ -1,4 +1,5 @@
-use Rattle.dx_demanded.proofs.Halted.{halts_found, halted_gettings_find}
+use Rattle.dx_demanded.proofs.Halted.{halts_found}
+use Rattle.dx_demanded.proofs.HaltsGot.{halted_gettings_find}
 use Rattle.dx_demanded.proofs.laws.halts_are_found.Goals as goal
 
 pub returns-clause-trees : goal.returns-clause-trees
