@@ -3,7 +3,7 @@ use Rattle.std.proofs.Common.{◌≡◌, List, [], ◌++◌, refl, sym, ap, ◌�
 use Rattle.dx_objects.specs.Runs.{Values}
 use Rattle.dx_tags.specs.Closed.{ValueTerms, NoTerm, AndTerm}
 use Rattle.dx_links.specs.Denotes.{Around}
-use Rattle.dx_cache.specs.Cached.{IsPartOf, part_none, part_keep, part_skip}
+use Rattle.dx_cache.specs.Cached.{IsPartOf, part_none}
 use Rattle.dx_machine.specs.Machine.{Task, Frame, State, Got, Went, Stopped, and_then, state_at, tasks_of, get, get_all}
 use Rattle.dx_machine.specs.Sound.{HaveAttributes, IsSound}
 use Rattle.dx_machine.specs.Agree.{Demanded, Runs, Refuses, more_of, then_of, demanded, all_demanded, Agrees}
@@ -22,13 +22,9 @@ use Rattle.dx_performing.proofs.Executed.{names_of, full}
 use Rattle.dx_performing.proofs.Meant.{all_means}
 use Rattle.dx_demanded.specs.Found.{StandsAt, Finds, GotFinds, GettingsFind}
 use Rattle.dx_demanded.proofs.HaltsStay.{met_same}
+use Rattle.dx_demanded.proofs.Parts.{part_append}
 use Rattle.dx_demanded.proofs.Kept.{terms_in, are_links}
 use Rattle.dx_demanded.proofs.Trees.{all_need}
-
-part_append : {A : Type 0} {xs ys : List A} (zs ws : List A) → IsPartOf xs ys → IsPartOf zs ws → IsPartOf (xs ++ zs) (ys ++ ws)
-part_append zs ws part_none q = q
-part_append zs ws (part_keep {x = x} {xs = xs} {ys = ys} p) q = part_keep (part_append zs ws p q)
-part_append zs ws (part_skip {y = y} {xs = xs} {ys = ys} p) q = part_skip (part_append zs ws p q)
 
 agrees_more : (s s1 : State) (ts more : List Task) → tasks_of s1.events ≡ tasks_of s.events ++ more → IsPartOf more ts → (d : Demanded) (g : Got) → Agrees s1 d g → Agrees s (more_of ts d) g
 agrees_more s s1 ts more e p (Runs us) (Went s2) h = (more ++ h.0, h.1 ∙ ap (λ xs. xs ++ h.0) e ∙ append_assoc (tasks_of s.events) more h.0, part_append h.0 us p h.2)

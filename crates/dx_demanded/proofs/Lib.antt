@@ -1,3 +1,6 @@
+pub mod Control
+pub mod ControlOrder
+pub mod DataOrder
 pub mod Ends
 pub mod Found
 pub mod Got
@@ -5,10 +8,11 @@ pub mod Halted
 pub mod HaltsGot
 pub mod HaltsStay
 pub mod Kept
-pub mod Looked
+pub mod Parts
 pub mod Performed
 pub mod Picks
 pub mod Places
+pub mod Ready
 pub mod Sound
 pub mod Trees
 pub mod Used

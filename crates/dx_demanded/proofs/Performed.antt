@@ -1,87 +1,82 @@
--- Each run of an execution is one of the uses that it demands.
-use Rattle.std.proofs.Common.{◌≡◌, List, [], ◌∷◌, ◌++◌, Bool, true, false, refl, sym, ap, ◌∙◌, subst, append-nil}
+-- The runs of an execution are some of the uses that it demands, in their order.
+use Rattle.std.proofs.Common.{◌≡◌, ◌⊎◌, inl, inr, List, [], ◌∷◌, ◌++◌, Bool, true, false, refl, sym, ap, ◌∙◌, subst, append-nil}
 use Rattle.std.specs.Prelude.{if◌then◌else◌}
 use Rattle.dx_base.specs.declared.code.Code.{Code}
 use Rattle.dx_base.specs.declared.function.Effect.{Effect}
 use Rattle.dx_base.specs.declared.function.Function.TheVariants as function
 use Rattle.dx_macros.specs.Site.{Step}
 use Rattle.dx_macros.specs.Tree.{Place, CallTree, TreeCall, Trees}
-use Rattle.dx_objects.specs.Runs.{Values}
+use Rattle.dx_objects.specs.Runs.{Values, Ran}
 use Rattle.dx_tags.specs.Closed.{ValueTerm, ValueTerms}
 use Rattle.dx_links.specs.Denotes.{Around}
-use Rattle.dx_machine.specs.Machine.{Cleared, FormedCall, Frame, State, Got, Went, Stopped, and_then, state_at, tasks_of, get, get_all}
+use Rattle.dx_cache.specs.Cached.{IsPartOf, part_none, part_keep, part_skip}
+use Rattle.dx_machine.specs.Machine.{Task, Cleared, FormedCall, Frame, State, state_at, tasks_of, runs_in, get, get_all}
 use Rattle.dx_machine.specs.Sound.{HaveAttributes, IsSound}
-use Rattle.dx_machine.specs.Agree.{Demanded, Runs, Refuses, demanded, all_demanded, Agrees}
-use Rattle.dx_machine.proofs.Agreeing.{getting_agrees}
+use Rattle.dx_machine.specs.Agree.{Demanded, all_demanded}
 use Rattle.dx_machine.proofs.Grows.{tasks-append}
-use Rattle.dx_machine.proofs.Keeping.{getting_keeps, getting_all_keeps}
-use Rattle.dx_meaning.specs.Outcome.{Use, Decided, Val, ErrAt, Off, HaltAt, demand}
-use Rattle.dx_meaning.specs.Meaning.{outcomes, together}
-use Rattle.dx_meaning.specs.Scan.{Scanned, Forms, Ends}
+use Rattle.dx_machine.proofs.Keeping.{getting_all_keeps}
+use Rattle.dx_meaning.specs.Outcome.{Value, Use, Decided, Val, ErrAt, Off, HaltAt, demand}
+use Rattle.dx_meaning.specs.Meaning.{outcome, outcomes, together}
+use Rattle.dx_meaning.specs.Scan.{Scanned, Forms, Ends, scan}
 use Rattle.dx_meaning.specs.Forming.{after}
-use Rattle.dx_meaning.specs.Term.{terms_of}
-use Rattle.dx_performing.specs.Acts.{Act, Prints, Puts, Sets, Refuses as ActRefuses, act, is_refusal}
+use Rattle.dx_meaning.specs.Term.{term_of, terms_of}
+use Rattle.dx_performing.specs.Acts.{Act, Prints, Puts, Sets, Refuses, act, is_refusal}
 use Rattle.dx_performing.specs.Execution.{Execution, execution, performing, deciding}
 use Rattle.dx_performing.specs.Kept.{Kept, is_full}
 use Rattle.dx_performing.specs.Course.{Fixed, At, Came, world_of, around_of, sight_of, frame_with, begins, formed_calls, as_terms, look_at, get_scanned, effect_got, came, ends_by, worked, unless, course, committed, clearing}
 use Rattle.dx_performing.specs.Meant.{IsHalted, Means, CameSo, LinksRight}
+use Rattle.dx_performing.specs.Selectors.{selectors, selectors_all}
 use Rattle.dx_performing.specs.SoundEntries.{AreLawfulCalls}
 use Rattle.dx_performing.proofs.EntriesSound.{StandsSound}
 use Rattle.dx_performing.proofs.Executed.{names_of, full, denote}
-use Rattle.dx_performing.proofs.Meant.{all_means, effect_comes}
-use Rattle.dx_demanded.specs.Used.{AreUsed, tasks_in, Uses, RunsAreDemanded}
-use Rattle.dx_demanded.proofs.Got.{getting_all_agrees}
+use Rattle.dx_performing.proofs.Meant.{tree_means, all_means, effect_comes}
+use Rattle.dx_demanded.specs.Ordered.{asked, RanPart, AreReady, SelectorsInOrder, TermsInOrder, ExecutionsInOrder}
+use Rattle.dx_demanded.specs.Used.{IsUsed, AreUsed, tasks_in, RunsAreDemanded}
+use Rattle.dx_demanded.proofs.ControlOrder.{GetsData, selectors_got, all_got, data_gets, all_in_order, all_order_ran}
+use Rattle.dx_demanded.proofs.DataOrder.{InOrder}
 use Rattle.dx_demanded.proofs.Kept.{terms_in, are_links}
-use Rattle.dx_demanded.proofs.Looked.{AllUsed, all_within, all_used}
+use Rattle.dx_demanded.proofs.Parts.{asked_append, ran_none, ran_then, then_ran}
+use Rattle.dx_demanded.proofs.Ready.{all_got_ready}
 use Rattle.dx_demanded.proofs.Sound.{worked_sound}
-use Rattle.dx_demanded.proofs.Trees.{all_need}
-use Rattle.dx_demanded.proofs.Uses.{Within, in_front, behind, used_within, used_append, part_used}
 
--- ---- getting
+-- ---- trees
 
--- all that was run so far is among these
-abbrev pub RanWithin : List Use → State → Type 0
-RanWithin us s = AreUsed us (tasks_of s.events)
+pub selectors_in_order : SelectorsInOrder
+selectors_in_order x k formed t s r f h =
+    let l = are_links x k r in
+    selectors_got (world_of x k) (names_of k) (sight_of x k) (terms_in k.links) l (full x k) formed f x.budget t s h
 
-got_within : (us : List Use) (s : State) (d : Demanded) (g : Got) → Agrees s d g → AreUsed us (tasks_in d) → RanWithin us s → RanWithin us (state_at g)
-got_within us s (Runs ts) (Went s1) h p q = subst (AreUsed us) (sym h.1) (used_append us (tasks_of s.events) h.0 q (part_used us h.2 p))
-got_within us s (Refuses ts c code) (Stopped d code' s1) h p q = subst (AreUsed us) (sym h.2.1) (used_append us (tasks_of s.events) h.2.0 q (part_used us h.2.2 p))
-got_within us s (Runs ts) (Stopped d code s1) h p q = absurd h
-got_within us s (Refuses ts c code) (Went s1) h p q = absurd h
+data_ran : (a : Around) (k : Frame) (d : Decided Value) (own : List ValueTerm) (us : List Use) (t u : ValueTerm) (x : Scanned ValueTerm) (s : State) → Means a d t x → x ≡ Forms u → IsSound k.around k.budget s → AreReady k s own → GetsData k d own us t → RanPart s (asked us) (state_at (get k u s))
+data_ran a k Off own us t u x s m e i r g = cc
+data_ran a k (HaltAt site code) own us t u x s m e i r g = absurd (subst (IsHalted a site code) e m)
+data_ran a k (ErrAt site code) own us t u x s m e i r g = let same : t ≡ u = cc in subst (λ v. RanPart s (asked us) (state_at (get k v s))) same (g s i r)
+data_ran a k (Val v) own us t u x s m e i r g = let same : t ≡ u = cc in subst (λ v. RanPart s (asked us) (state_at (get k v s))) same (g s i r)
 
-then_within : (us : List Use) (g : Got) (next : State → Got) → RanWithin us (state_at g) → ((s1 : State) → g ≡ Went s1 → RanWithin us s1 → RanWithin us (state_at (next s1))) → RanWithin us (state_at (and_then g next))
-then_within us (Went s1) next p f = f s1 refl p
-then_within us (Stopped c code s1) next p f = p
-
--- the selectors that looking meets
-looking_within : (k : Frame) (us : List Use) (ts : List ValueTerm) (s : State) → HaveAttributes k.formed → IsSound k.around k.budget s → AllUsed k.around k.links us ts → RanWithin us s → RanWithin us (state_at (get_all k (as_terms ts) s))
-looking_within k us [] s f h p q = q
-looking_within k us (t ∷ ts) s f h p q =
-    then_within us (get k t s) (get_all k (as_terms ts)) (got_within us s (demanded k.around k.links t) (get k t s) (getting_agrees k t s f h) p.0 q)
-    (λ s1 e r. looking_within k us ts s1 f (subst (λ g. IsSound k.around k.budget (state_at g)) e (getting_keeps k t s f h)) p.1 r)
-
--- the arguments
-halted_within : (a : Around) (k : Frame) (us : List Use) (site : List Step) (code : Code) (x : Scanned ValueTerms) (s : State) → IsHalted a site code x → RanWithin us s → RanWithin us (state_at (get_scanned k x s))
-halted_within a k us site code (Forms ts) s h p = absurd h
-halted_within a k us site code (Ends e) s h p = p
-
-arguments_within : (k : Frame) (us : List Use) (d : Decided Values) (ts : ValueTerms) (x : Scanned ValueTerms) (s : State) → HaveAttributes k.formed → IsSound k.around k.budget s → Means k.around d ts x → Uses d us (all_demanded k.around k.links ts) → RanWithin us s → RanWithin us (state_at (get_scanned k x s))
-arguments_within k us Off ts x s f h m u p = subst (λ y. RanWithin us (state_at (get_scanned k y s))) (sym m) p
-arguments_within k us (HaltAt site code) ts x s f h m u p = halted_within k.around k us site code x s m p
-arguments_within k us (ErrAt site code) ts x s f h m u p = subst (λ y. RanWithin us (state_at (get_scanned k y s))) (sym m) (got_within us s (all_demanded k.around k.links ts) (get_all k ts s) (getting_all_agrees k ts s f h) u p)
-arguments_within k us (Val vs) ts x s f h m u p = subst (λ y. RanWithin us (state_at (get_scanned k y s))) (sym m) (got_within us s (all_demanded k.around k.links ts) (get_all k ts s) (getting_all_agrees k ts s f h) u p)
-
-uses_all_within : (d : Decided Values) (us vs : List Use) (g : Demanded) → Within us vs → Uses d us g → Uses d vs g
-uses_all_within Off us vs g p h = tt
-uses_all_within (HaltAt s c) us vs g p h = tt
-uses_all_within (ErrAt s c) us vs g p h = used_within us vs (tasks_in g) p h
-uses_all_within (Val v) us vs g p h = used_within us vs (tasks_in g) p h
+pub terms_in_order : TermsInOrder
+terms_in_order x k formed t u s r f h e ready =
+    let w = world_of x k in
+    let n = names_of k in
+    let sight = sight_of x k in
+    let l = are_links x k r in
+    data_ran (around_of x k) (frame_with x k formed) (outcome w t).decided (selectors sight t) (outcome w t).data_uses (term_of w n t) u (scan sight t) s (tree_means w n sight l.denote (full x k) t) e h ready
+    (data_gets w n sight (terms_in k.links) l (full x k) formed f x.budget t)
 
 -- ---- an effect
 
-effect_within : (x : Fixed) (k : Kept) (us : List Use) → LinksRight (around_of x k) k.links → (formed : List FormedCall) (args : Trees) (s : State) → HaveAttributes formed → IsSound (around_of x k) x.budget s → Within (demand (together (outcomes (world_of x k) args))) us → RanWithin us s →
-    RanWithin us (state_at (effect_got (frame_with x k formed) (look_at (sight_of x k) args) s))
-effect_within x k us r formed args s f h p q =
+halted_ran : (a : Around) (k : Frame) (rs : List Ran) (site : List Step) (code : Code) (x : Scanned ValueTerms) (s : State) → IsHalted a site code x → RanPart s rs (state_at (get_scanned k x s))
+halted_ran a k rs site code (Forms ts) s h = absurd h
+halted_ran a k rs site code (Ends e) s h = ran_none s rs
+
+-- the arguments, behind the selectors
+arguments_ran : (k : Frame) (us : List Use) (d : Decided Values) (ts : ValueTerms) (x : Scanned ValueTerms) (s : State) (needed : Demanded) → Means k.around d ts x → InOrder d us needed → (IsPartOf (runs_in (tasks_in needed)) (asked us) → RanPart s (asked us) (state_at (get_all k ts s))) → RanPart s (asked us) (state_at (get_scanned k x s))
+arguments_ran k us Off ts x s needed m p f = subst (λ y. RanPart s (asked us) (state_at (get_scanned k y s))) (sym m) (ran_none s (asked us))
+arguments_ran k us (HaltAt site code) ts x s needed m p f = halted_ran k.around k (asked us) site code x s m
+arguments_ran k us (ErrAt site code) ts x s needed m p f = subst (λ y. RanPart s (asked us) (state_at (get_scanned k y s))) (sym m) (f p)
+arguments_ran k us (Val vs) ts x s needed m p f = subst (λ y. RanPart s (asked us) (state_at (get_scanned k y s))) (sym m) (f p)
+
+effect_ran : (x : Fixed) (k : Kept) → LinksRight (around_of x k) k.links → (formed : List FormedCall) (args : Trees) (s : State) → HaveAttributes formed → IsSound (around_of x k) x.budget s →
+    RanPart s (asked (demand (together (outcomes (world_of x k) args)))) (state_at (effect_got (frame_with x k formed) (look_at (sight_of x k) args) s))
+effect_ran x k r formed args s f h =
     let w = world_of x k in
     let n = names_of k in
     let a = around_of x k in
@@ -89,48 +84,50 @@ effect_within x k us r formed args s f h p q =
     let l = are_links x k r in
     let o = together (outcomes w args) in
     let frame = frame_with x k formed in
-    let looked = look_at (sight_of x k) args in
-    let control : Within o.control_uses us = λ t e. p t (in_front o.control_uses o.data_uses t e) in
-    then_within us (get_all frame (as_terms looked.selectors) s) (get_scanned frame looked.terms)
-    (looking_within frame us looked.selectors s f h (all_within a links o.control_uses us looked.selectors control (all_used w n (sight_of x k) links l (full x k) args)) q)
-    (λ s1 e i. arguments_within frame us o.decided (terms_of w n args) looked.terms s1 f
-    (subst (λ g. IsSound a x.budget (state_at g)) e (getting_all_keeps frame (as_terms looked.selectors) s f h))
-    (all_means w n (sight_of x k) l.denote (full x k) args)
-    (uses_all_within o.decided (demand o) us (all_demanded a links (terms_of w n args)) p (all_need w n (sight_of x k) links l (full x k) args).used) i)
+    let sight = sight_of x k in
+    let own = selectors_all sight args in
+    subst (λ rs. RanPart s rs (state_at (effect_got frame (look_at sight args) s))) (sym (asked_append o.control_uses o.data_uses))
+    (then_ran s (asked o.control_uses) (asked o.data_uses) (get_all frame (as_terms own) s) (get_scanned frame (look_at sight args).terms) (all_got w n sight links l (full x k) formed f x.budget args s h)
+    (λ s1 e.
+    let i = subst (λ g. IsSound a x.budget (state_at g)) e (getting_all_keeps frame (as_terms own) s f h) in
+    let ready = all_got_ready frame own s s1 e in
+    arguments_ran frame o.data_uses o.decided (terms_of w n args) (look_at sight args).terms s1 (all_demanded a (links ++ own) (terms_of w n args)) (all_means w n sight l.denote (full x k) args) (all_in_order w n sight links l (full x k) formed f x.budget args s1 i ready)
+    (all_order_ran w n sight links l (full x k) formed f x.budget own o.data_uses (terms_of w n args) s1 i ready)))
 
 -- ---- an execution
 
-by_act : (us : List Use) (site : List Step) (b : Act) (rest : Execution) (now later : At) → RanWithin us now.state → (Within rest.demanded us → RanWithin us later.state) → Within (performing site b rest).demanded us → RanWithin us (unless (is_refusal b) now later).state
-by_act us site (Prints text) rest now later p f q = f q
-by_act us site (Puts name content) rest now later p f q = f q
-by_act us site (Sets name v) rest now later p f q = f q
-by_act us site (ActRefuses code) rest now later p f q = p
+by_act : (site : List Step) (b : Act) (rest : Execution) (now later : At) → RanPart now.state (asked rest.demanded) later.state → RanPart now.state (asked (performing site b rest).demanded) (unless (is_refusal b) now later).state
+by_act site (Prints text) rest now later p = p
+by_act site (Puts name content) rest now later p = p
+by_act site (Sets name v) rest now later p = p
+by_act site (Refuses code) rest now later p = ran_none now.state []
 
-by_decided : (us : List Use) (e : Effect) (p : Place) (d : Decided Values) (ts : ValueTerms) (c : Came) (rest : Execution) (now later : At) → CameSo d ts c → RanWithin us now.state → (Within rest.demanded us → RanWithin us later.state) → Within (deciding e p d rest).demanded us → RanWithin us (unless (ends_by e p c) now later).state
-by_decided us e p Off ts c rest now later m h f q = subst (λ y. RanWithin us (unless (ends_by e p y) now later).state) (sym m) (f q)
-by_decided us e p (HaltAt site code) ts c rest now later m h f q = subst (λ y. RanWithin us (unless (ends_by e p y) now later).state) (sym m) h
-by_decided us e p (ErrAt site code) ts c rest now later m h f q = subst (λ y. RanWithin us (unless (ends_by e p y) now later).state) (sym m) h
-by_decided us e p (Val vs) ts c rest now later m h f q = subst (λ y. RanWithin us (unless (ends_by e p y) now later).state) (sym m) (by_act us p.site (act e p vs) rest now later h f q)
+by_decided : (e : Effect) (p : Place) (d : Decided Values) (ts : ValueTerms) (c : Came) (rest : Execution) (now later : At) → CameSo d ts c → RanPart now.state (asked rest.demanded) later.state → RanPart now.state (asked (deciding e p d rest).demanded) (unless (ends_by e p c) now later).state
+by_decided e p Off ts c rest now later m h = subst (λ y. RanPart now.state (asked rest.demanded) (unless (ends_by e p y) now later).state) (sym m) h
+by_decided e p (HaltAt site code) ts c rest now later m h = subst (λ y. RanPart now.state [] (unless (ends_by e p y) now later).state) (sym m) (ran_none now.state [])
+by_decided e p (ErrAt site code) ts c rest now later m h = subst (λ y. RanPart now.state [] (unless (ends_by e p y) now later).state) (sym m) (ran_none now.state [])
+by_decided e p (Val vs) ts c rest now later m h = subst (λ y. RanPart now.state (asked (deciding e p (Val vs) rest).demanded) (unless (ends_by e p y) now later).state) (sym m) (by_act p.site (act e p vs) rest now later h)
 
-course_within : (x : Fixed) (k : Kept) (us : List Use) → LinksRight (around_of x k) k.links → (effects : List CallTree) → AreLawfulCalls effects → (at : At) → StandsSound x k at → Within (execution (world_of x k) effects).demanded us → RanWithin us at.state → RanWithin us (course x k effects at).state
-course_within x k us r [] h at i p q = q
-course_within x k us r (TreeCall (function.Effect e) p args ∷ cs) h at i within q =
+course_ran : (x : Fixed) (k : Kept) → LinksRight (around_of x k) k.links → (effects : List CallTree) → AreLawfulCalls effects → (at : At) → StandsSound x k at → RanPart at.state (asked (execution (world_of x k) effects).demanded) (course x k effects at).state
+course_ran x k r [] h at i = ran_none at.state []
+course_ran x k r (TreeCall (function.Effect e) p args ∷ cs) h at i =
     let w = world_of x k in
     let looked = look_at (sight_of x k) args in
     let now = worked x k e p looked at in
     let stands = worked_sound x k e p args at h.0.1 i in
     let o = together (outcomes w args) in
     let rest = execution w cs in
-    let own : Within (demand o) us = λ t m. within t (in_front (demand o) (deciding e p o.decided rest).demanded t m) in
-    let more : Within (deciding e p o.decided rest).demanded us = λ t m. within t (behind (demand o) (deciding e p o.decided rest).demanded t m) in
-    let ran = effect_within x k us r (formed_calls (after looked.forms at.formings)) args at.state stands.formed i.state own q in
-    by_decided us e p o.decided (terms_of w (names_of k) args) (came (around_of x k) looked.terms) rest now (course x k cs now)
-    (effect_comes w (names_of k) (sight_of x k) (denote x k r) (full x k) args) ran (λ m. course_within x k us r cs h.1 now stands m ran) more
-course_within x k us r (TreeCall (function.Module m) p args ∷ cs) h at i within q = course_within x k us r cs h.1 at i within q
-course_within x k us r (TreeCall function.Switch p args ∷ cs) h at i within q = course_within x k us r cs h.1 at i within q
-course_within x k us r (TreeCall function.Route p args ∷ cs) h at i within q = course_within x k us r cs h.1 at i within q
-course_within x k us r (TreeCall function.GetLocal p args ∷ cs) h at i within q = course_within x k us r cs h.1 at i within q
-course_within x k us r (TreeCall function.GetGlobal p args ∷ cs) h at i within q = course_within x k us r cs h.1 at i within q
+    let later = course x k cs now in
+    let c = came (around_of x k) looked.terms in
+    let end = unless (ends_by e p c) now later in
+    subst (λ rs. RanPart at.state rs end.state) (sym (asked_append (demand o) (deciding e p o.decided rest).demanded))
+    (ran_then at.state now.state end.state (asked (demand o)) (asked (deciding e p o.decided rest).demanded) (effect_ran x k r (formed_calls (after looked.forms at.formings)) args at.state stands.formed i.state)
+    (by_decided e p o.decided (terms_of w (names_of k) args) c rest now later (effect_comes w (names_of k) (sight_of x k) (denote x k r) (full x k) args) (course_ran x k r cs h.1 now stands)))
+course_ran x k r (TreeCall (function.Module m) p args ∷ cs) h at i = course_ran x k r cs h.1 at i
+course_ran x k r (TreeCall function.Switch p args ∷ cs) h at i = course_ran x k r cs h.1 at i
+course_ran x k r (TreeCall function.Route p args ∷ cs) h at i = course_ran x k r cs h.1 at i
+course_ran x k r (TreeCall function.GetLocal p args ∷ cs) h at i = course_ran x k r cs h.1 at i
+course_ran x k r (TreeCall function.GetGlobal p args ∷ cs) h at i = course_ran x k r cs h.1 at i
 
 -- an emptying runs nothing
 cleared_runs_none : (k : Kept) → tasks_of (clearing k) ≡ []
@@ -140,12 +137,43 @@ cleared_runs_none k = by (is_full k.terms)
     by true = refl
     by false = refl
 
-pub runs_demanded : RunsAreDemanded
-runs_demanded x k effects lawful r h =
+pub executions_in_order : ExecutionsInOrder
+executions_in_order x k effects lawful r h =
     let w = world_of x k in
     let us = (execution w effects).demanded in
     let at = course x k effects (begins k) in
     let behind_it = committed k (execution w effects) at in
-    subst (AreUsed us)
-    (sym (tasks-append at.state.events (clearing behind_it) ∙ ap (λ ts. tasks_of at.state.events ++ ts) (cleared_runs_none behind_it) ∙ append-nil (tasks_of at.state.events)))
-    (course_within x k us r effects lawful (begins k) (record { state = h; formed = tt }) (λ t m. m) tt)
+    let ran = course_ran x k r effects lawful (begins k) (record { state = h; formed = tt }) in
+    let tasks : tasks_of (at.state.events ++ clearing behind_it) ≡ ran.0 = tasks-append at.state.events (clearing behind_it) ∙ ap (λ ts. tasks_of at.state.events ++ ts) (cleared_runs_none behind_it) ∙ append-nil (tasks_of at.state.events) ∙ ran.1 in
+    subst (λ ts. IsPartOf (runs_in ts) (asked us)) (sym tasks) ran.2
+
+-- ---- so each of them is one of these uses
+
+abbrev IsAmong : Ran → List Ran → Type 0
+IsAmong r [] = ⊥
+IsAmong r (q ∷ qs) = (q ≡ r) ⊎ IsAmong r qs
+
+abbrev AreAmong : List Ran → List Ran → Type 0
+AreAmong [] qs = Unit {0}
+AreAmong (r ∷ rs) qs = IsAmong r qs × AreAmong rs qs
+
+among_more : (q : Ran) (rs qs : List Ran) → AreAmong rs qs → AreAmong rs (q ∷ qs)
+among_more q [] qs h = tt
+among_more q (r ∷ rs) qs h = (inr h.0, among_more q rs qs h.1)
+
+part_among : {rs qs : List Ran} → IsPartOf rs qs → AreAmong rs qs
+part_among part_none = tt
+part_among (part_keep {x = x} {xs = xs} {ys = ys} p) = (inl refl, among_more x xs ys (part_among p))
+part_among (part_skip {y = y} {xs = xs} {ys = ys} p) = among_more y xs ys (part_among p)
+
+among_used : (us : List Use) (t : Task) → IsAmong t.run (asked us) → IsUsed us t
+among_used [] t h = absurd h
+among_used (u ∷ us) t (inl e) = inl (ap (λ (r : Ran). r.0) e, ap (λ (r : Ran). r.1) e)
+among_used (u ∷ us) t (inr h) = inr (among_used us t h)
+
+all_used : (us : List Use) (ts : List Task) → AreAmong (runs_in ts) (asked us) → AreUsed us ts
+all_used us [] h = tt
+all_used us (t ∷ ts) h = (among_used us t h.0, all_used us ts h.1)
+
+pub runs_demanded : RunsAreDemanded
+runs_demanded x k effects lawful r h = all_used (execution (world_of x k) effects).demanded _ (part_among (executions_in_order x k effects lawful r h))

@@ -361,7 +361,7 @@ module _ (w : World) (n : Names) (s : Sight) (links : List ValueTerm) (l : AreLi
 
   -- ---- trees
 
-  named_all_agree : (ts : Trees) → Agrees (together (with_name (outcomes w ts))).decided (all_denote a (terms_of w n ts))
+  pub named_all_agree : (ts : Trees) → Agrees (together (with_name (outcomes w ts))).decided (all_denote a (terms_of w n ts))
   named_all_agree NoTree = refl
   named_all_agree (AndTree t ts) =
       let o = outcome w t in
@@ -389,7 +389,7 @@ module _ (w : World) (n : Names) (s : Sight) (links : List ValueTerm) (l : AreLi
         let rest = together (outcomes w ts) in
         beside_needs a o.decided rest.decided o.control_uses o.data_uses rest.control_uses rest.data_uses (met s t) (all_met (each_met s ts)) (demanded a links (term_of w n t)) (all_demanded a links (terms_of w n ts)) (tree_needs t) (all_need ts)
 
-    named_need : (ts : Trees) → AllNeedSo a (together (with_name (outcomes w ts))) (all_met (arguments_met computing.Import (each_met s ts))) (all_demanded a links (terms_of w n ts))
+    pub named_need : (ts : Trees) → AllNeedSo a (together (with_name (outcomes w ts))) (all_met (arguments_met computing.Import (each_met s ts))) (all_demanded a links (terms_of w n ts))
     named_need NoTree = record { found = tt; used = tt }
     named_need (AndTree t ts) =
         let o = as_selector (outcome w t) in

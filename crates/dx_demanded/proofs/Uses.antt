@@ -2,7 +2,6 @@
 use Rattle.std.proofs.Common.{inl, inr, List, [], ◌∷◌, ◌++◌}
 use Rattle.dx_machine.specs.Machine.{Task}
 use Rattle.dx_machine.specs.Agree.{Demanded, Runs, Refuses, more_of}
-use Rattle.dx_cache.specs.Cached.{IsPartOf, part_none, part_keep, part_skip}
 use Rattle.dx_meaning.specs.Outcome.{Use}
 use Rattle.dx_demanded.specs.Used.{IsUsed, AreUsed, tasks_in}
 
@@ -36,11 +35,6 @@ used_append us (t ∷ ts) rs h k = (h.0, used_append us ts rs h.1 k)
 pub used_more : (us : List Use) (ts : List Task) (d : Demanded) → AreUsed us ts → AreUsed us (tasks_in d) → AreUsed us (tasks_in (more_of ts d))
 used_more us ts (Runs rs) h k = used_append us ts rs h k
 used_more us ts (Refuses rs c code) h k = used_append us ts rs h k
-
-pub part_used : (us : List Use) {ts rs : List Task} → IsPartOf ts rs → AreUsed us rs → AreUsed us ts
-part_used us part_none h = tt
-part_used us (part_keep {x = x} {xs = xs} {ys = ys} p) h = (h.0, part_used us p h.1)
-part_used us (part_skip {y = y} {xs = xs} {ys = ys} p) h = part_used us p h.1
 
 -- ---- the uses of one argument, and of those behind it
 

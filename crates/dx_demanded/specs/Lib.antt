@@ -1,3 +1,4 @@
 pub mod Found
-pub mod Used
 pub mod Halted
+pub mod Ordered
+pub mod Used

@@ -1,6 +1,7 @@
 // What is true of errors and runs.
 ghost use Rattle.dx_demanded.specs.Found.{ErrorsAreFound, FirstIsOfAll, GettingsFind};
 ghost use Rattle.dx_demanded.specs.Halted.{HaltedGettingsFind, HaltsAreFound};
+ghost use Rattle.dx_demanded.specs.Ordered.{ExecutionsInOrder, SelectorsInOrder, TermsInOrder};
 ghost use Rattle.dx_demanded.specs.Used.{RunsAreDemanded, TermsUseDemand};
 
 /// Each module that an execution runs is one that its meaning demands, on the same inputs; and so is each that the term of a
@@ -8,6 +9,15 @@ ghost use Rattle.dx_demanded.specs.Used.{RunsAreDemanded, TermsUseDemand};
 pub fn runs_are_demanded()
     ensures executions { RunsAreDemanded }
     ensures trees { TermsUseDemand }
+{}
+
+/// They come in the order in which the meaning demands them. Getting the selectors of a tree, in any sound state, runs some of
+/// its uses of control in their order; where these are ready, the names of Imports among them, getting the tree's term runs some
+/// of its uses of data in their order; and so an execution runs some of all the uses that it demands.
+pub fn runs_come_in_order()
+    ensures selectors { SelectorsInOrder }
+    ensures terms { TermsInOrder }
+    ensures executions { ExecutionsInOrder }
 {}
 
 /// Where a tree or the arguments of an effect come to an error, getting their terms where nothing is kept refuses a call with the

@@ -3,4 +3,4 @@
 
 mod laws;
 
-pub use laws::{errors_are_found, halts_are_found, runs_are_demanded};
+pub use laws::{errors_are_found, halts_are_found, runs_are_demanded, runs_come_in_order};
