@@ -1,6 +1,7 @@
 pub mod Control
 pub mod ControlOrder
 pub mod DataOrder
+pub mod Ended
 pub mod Ends
 pub mod Found
 pub mod Got

@@ -1,4 +1,5 @@
 // What is true of errors and runs.
+ghost use Rattle.dx_demanded.specs.Ended.{EffectsEndAsMeant};
 ghost use Rattle.dx_demanded.specs.Found.{ErrorsAreFound, FirstIsOfAll, GettingsFind};
 ghost use Rattle.dx_demanded.specs.Halted.{HaltedGettingsFind, HaltsAreFound};
 ghost use Rattle.dx_demanded.specs.Ordered.{ExecutionsInOrder, SelectorsInOrder, TermsInOrder};
@@ -36,4 +37,10 @@ pub fn errors_are_found()
 pub fn halts_are_found()
     ensures trees { HaltsAreFound }
     ensures getting { HaltedGettingsFind }
+{}
+
+/// What looking at an effect's arguments by what is told so far comes to, and getting them, or the selector that isn't told yet, in
+/// any sound state, is what the meaning decides: the arguments' values, an error or a halt with its site, or nothing.
+pub fn effects_end_as_meant()
+    ensures { EffectsEndAsMeant }
 {}

@@ -3,4 +3,6 @@
 
 mod laws;
 
-pub use laws::{errors_are_found, halts_are_found, runs_are_demanded, runs_come_in_order};
+pub use laws::{
+    effects_end_as_meant, errors_are_found, halts_are_found, runs_are_demanded, runs_come_in_order,
+};
