@@ -7,12 +7,11 @@ use Rattle.dx_base.specs.declared.function.Module.{Module}
 use Rattle.dx_base.specs.declared.function.Module.TheVariants as computing
 use Rattle.dx_base.specs.declared.function.Effect.{Effect}
 use Rattle.dx_base.specs.declared.function.Effect.TheVariants as effect
-use Rattle.dx_ast.specs.declared.constants.Const.TheVariants as const
 use Rattle.dx_macros.specs.Site.{Step}
 use Rattle.dx_macros.specs.Tree.{Place, Tree, ConstantTree, ResultTree, TreeCall, Trees, NoTree, AndTree}
 use Rattle.dx_links.specs.declared.key.Key.TheVariants as key
 use Rattle.dx_links.specs.Denotes.{Around, denotes}
-use Rattle.dx_tags.specs.Closed.{ValueTerm, ConstantTerm, ValueTerms}
+use Rattle.dx_tags.specs.Closed.{ValueTerm, ValueTerms}
 use Rattle.dx_cache.specs.Cached.{IsPartOf}
 use Rattle.dx_machine.specs.Machine.{FormedCall, Frame, State, Got, Went, Stopped, and_then, state_at, runs_in, get, get_all}
 use Rattle.dx_machine.specs.Sound.{HaveAttributes, IsSound}
@@ -37,6 +36,7 @@ use Rattle.dx_demanded.proofs.DataOrder.{NeedNothing, links_need_nothing, InOrde
 use Rattle.dx_demanded.proofs.Got.{getting_all_agrees}
 use Rattle.dx_demanded.proofs.Parts.{asked_append, ran_none, ran_front, then_ran, got_part}
 use Rattle.dx_demanded.proofs.Picks.{PickNeeds, switch_needs, route_needs, get_needs}
+use Rattle.dx_demanded.proofs.Seeing.{same_shelf}
 use Rattle.dx_demanded.proofs.Ready.{with_links, all_got_ready, get_alike, all_alike, links_with, behind_links}
 
 module _ (k : Frame) where
@@ -183,9 +183,6 @@ module _ (w : World) (n : Names) (s : Sight) (links : List ValueTerm) (l : AreLi
     module_gets computing.Import p result = subst (λ us. Gets k us (module_selectors s computing.Import xs each)) (module_same w computing.Import p.site result (together (with_name os)).decided (together (with_name os)).control_uses (together (with_name os)).data_uses) i.named
     module_gets m p result = subst (λ us. Gets k us (all_selectors xs each)) (module_same w m p.site result (together os).decided (together os).control_uses (together os).data_uses) i.all
 
-    same_shelf : terms_in s ≡ terms_with w n
-    same_shelf = λ j. record { null = null_term; text = λ name. ConstantTerm (const.Text name); held = λ key. full.linked key j }
-
     picked_gets : (p : Place) (b : Pick Value) (c : Pick ValueTerm) → PickNeeds a links b c → Gets k (picked p.site os b).control_uses (picked_selectors each c)
     picked_gets p (PickInput m) (PickInput j) r = subst (λ h. Gets k (outcome_at os m).control_uses (selectors_at each h)) r (i.at m).own_got
     picked_gets p b (PickThis t) r = gets_none k (picked p.site os b).control_uses
@@ -196,7 +193,7 @@ module _ (w : World) (n : Names) (s : Sight) (links : List ValueTerm) (l : AreLi
     picked_gets p PickFault (PickInput m) r = absurd r
 
     shelf_gets : (p : Place) (b : Pick Value) (c : Shelf ValueTerm → Pick ValueTerm) → PickNeeds a links b (c (terms_with w n)) → Gets k (picked p.site os b).control_uses (picked_selectors each (c (terms_in s)))
-    shelf_gets p b c r = subst (λ shelf. Gets k (picked p.site os b).control_uses (picked_selectors each (c shelf))) (sym same_shelf) (picked_gets p b (c (terms_with w n)) r)
+    shelf_gets p b c r = subst (λ shelf. Gets k (picked p.site os b).control_uses (picked_selectors each (c shelf))) (sym (same_shelf w n s full)) (picked_gets p b (c (terms_with w n)) r)
 
     picking_gets : (f : Function) (p : Place) (result : ℕ) → ((v : Value) → PickNeeds a links (pick (values_in w) f p result v) (pick (terms_with w n) f p result v)) → Gets k (selector_rule w f p result os).control_uses (picking_selectors s f p result xs each)
     picking_gets f p result r =

@@ -1,21 +1,19 @@
 -- Where its selectors need nothing, a term needs some of the uses of its tree's data, in their order.
-use Rattle.std.proofs.Common.{◌≡◌, ℕ, zero, suc, List, [], ◌∷◌, ◌++◌, Bool, true, false, Option, Some, refl, sym, ap, ◌∙◌, subst}
-use Rattle.std.specs.Prelude.{Result, Ok, Err, ◌||◌}
-use Rattle.dx_base.specs.declared.code.Code.{Code}
+use Rattle.std.proofs.Common.{◌≡◌, ℕ, zero, suc, List, [], ◌∷◌, ◌++◌, Bool, true, false, refl, sym, ap, ◌∙◌, subst}
+use Rattle.std.specs.Prelude.{Ok, Err, ◌||◌}
 use Rattle.dx_base.specs.declared.function.Function.{Function}
 use Rattle.dx_base.specs.declared.function.Function.TheVariants as function
 use Rattle.dx_base.specs.declared.function.Module.{Module}
 use Rattle.dx_base.specs.declared.function.Module.TheVariants as computing
 use Rattle.dx_base.specs.declared.function.Effect.{Effect}
 use Rattle.dx_base.specs.declared.function.Effect.TheVariants as effect
-use Rattle.dx_ast.specs.declared.constants.Const.TheVariants as const
 use Rattle.dx_macros.specs.Site.{Step}
 use Rattle.dx_macros.specs.Tree.{Place, Tree, ConstantTree, ResultTree, TreeCall, Trees, NoTree, AndTree}
 use Rattle.dx_objects.specs.Runs.{Values, Answer, Ran}
 use Rattle.dx_links.specs.declared.key.Key.TheVariants as key
 use Rattle.dx_links.specs.Denotes.{Around, own_file, file_of, denotes, all_denote}
 use Rattle.dx_links.specs.Getting.{same_value, has_value}
-use Rattle.dx_tags.specs.Closed.{ValueTerm, ConstantTerm, ResultTerm, CallTerm, CallOf, ValueTerms}
+use Rattle.dx_tags.specs.Closed.{ValueTerm, ResultTerm, CallTerm, CallOf, ValueTerms}
 use Rattle.dx_cache.specs.Cached.{IsPartOf, part_none, part_keep}
 use Rattle.dx_machine.specs.Machine.{Task, task_of, runs_in}
 use Rattle.dx_machine.specs.Agree.{Demanded, Runs, Refuses, more_of, then_of, answered as task_answered, run_demanded, unless, demanded, call_demanded, all_demanded}
@@ -23,11 +21,10 @@ use Rattle.dx_machine.proofs.SameTerms.{value_itself}
 use Rattle.dx_meaning.specs.Outcome.{Value, Use, Decided, Val, ErrAt, Off, HaltAt, Outcome}
 use Rattle.dx_meaning.specs.Picking.{Pick, PickThis, PickInput, PickOff, PickFault, Shelf, link_name, key_in, pick, selector_at}
 use Rattle.dx_meaning.specs.Meaning.{World, outcome, outcomes, outcome_at, together, decided_beside, data_beside, selected_with, with_name, arguments, answered, module_rule, module_outcome, after_selector, picked, values_in, selector_rule, effect_rule, by_rule, file_for}
-use Rattle.dx_meaning.specs.Scan.{Sight, Scanned, Forms, null_term, scanned_at, with_file, terms_in, scan, scan_each}
+use Rattle.dx_meaning.specs.Scan.{Sight, Scanned, Forms, scanned_at, with_file, terms_in, scan, scan_each}
 use Rattle.dx_meaning.specs.Met.{Called, all_met, arguments_met, each_met, met}
 use Rattle.dx_meaning.specs.Term.{Names, around, term_at, own_file_of, picked_term, selected_term, terms_with, selector_term, effect_term, term_rule, term_of, terms_of, Agrees}
 use Rattle.dx_meaning.proofs.Terms.{tree_right}
-use Rattle.dx_performing.specs.Course.{value_or_none}
 use Rattle.dx_performing.specs.Meant.{IsFull, Means}
 use Rattle.dx_performing.specs.Selectors.{selectors_at, selectors_beside, all_selectors, told_selectors, got_selectors, picked_selectors, picking_selectors, module_selectors, effect_selectors, rule_selectors, selectors, selectors_each}
 use Rattle.dx_performing.proofs.Meant.{tree_means, all_agree}
@@ -37,6 +34,7 @@ use Rattle.dx_demanded.specs.Used.{tasks_in}
 use Rattle.dx_demanded.proofs.Ends.{file_needs_none, file_denotes_none, link_needs_none}
 use Rattle.dx_demanded.proofs.Parts.{none_part, part_append, runs_append, asked_append}
 use Rattle.dx_demanded.proofs.Picks.{PickNeeds, switch_needs, route_needs, get_needs}
+use Rattle.dx_demanded.proofs.Seeing.{same_shelf, told_some}
 use Rattle.dx_demanded.proofs.Trees.{tree_needs, all_need, named_need, named_all_agree}
 
 -- ---- terms that need nothing
@@ -154,9 +152,6 @@ module _ (w : World) (n : Names) (s : Sight) (links : List ValueTerm) (l : AreLi
   abbrev a : Around
   a = around w n
 
-  told_some : (o : Option Value) (r : Result Value Code) (v : Value) → o ≡ value_or_none r → r ≡ Ok v → o ≡ Some v
-  told_some o r v e f = e ∙ ap value_or_none f
-
   -- a selector with a value, and what that leads to, need nothing
   told_needs : (v : Value) (t : ValueTerm) (x : Scanned ValueTerm) (own : List ValueTerm) (go : Value → List ValueTerm) → x ≡ Forms t → denotes a t ≡ Ok v → NeedNothing a links (own ++ got_selectors s x go) → NeedNothing a links (t ∷ go v)
   told_needs v t x own go e q h =
@@ -213,9 +208,6 @@ module _ (w : World) (n : Names) (s : Sight) (links : List ValueTerm) (l : AreLi
         unless_order d.decided d.data_uses (has_value links (ResultTerm result c)) (call_demanded a links c)
         (called_order w a p result m us o.decided o.control_uses o.data_uses calls (all_demanded a links us) (all_denote a us) found order agree)
 
-    same_shelf : terms_in s ≡ terms_with w n
-    same_shelf = λ j. record { null = null_term; text = λ name. ConstantTerm (const.Text name); held = λ k. full.linked k j }
-
     selected_order : (d : Decided Value) (cu du : List Use) (t : ValueTerm) (x : Scanned ValueTerm) (own : List ValueTerm) (out : Value → Outcome Value) (go_term : Value → ValueTerm) (go : Value → List ValueTerm) → Means a d t x → Agrees d (denotes a t) → NeedNothing a links (own ++ got_selectors s x go) →
         ((v : Value) → NeedNothing a links (go v) → InOrder (out v).decided (out v).data_uses (demanded a links (go_term v))) →
         InOrder (after_selector (selected_with d cu du).decided (selected_with d cu du).control_uses out).decided (after_selector (selected_with d cu du).decided (selected_with d cu du).control_uses out).data_uses (demanded a links (selected_term d go_term))
@@ -237,7 +229,7 @@ module _ (w : World) (n : Names) (s : Sight) (links : List ValueTerm) (l : AreLi
     picked_order p (PickInput k) PickFault r h = absurd r
 
     shelf_order : (p : Place) (b : Pick Value) (c : Shelf ValueTerm → Pick ValueTerm) → PickNeeds a links b (c (terms_with w n)) → NeedNothing a links (picked_selectors each (c (terms_in s))) → InOrder (picked p.site os b).decided (picked p.site os b).data_uses (demanded a links (picked_term ts (c (terms_with w n))))
-    shelf_order p b c r h = picked_order p b (c (terms_with w n)) r (subst (λ shelf. NeedNothing a links (picked_selectors each (c shelf))) same_shelf h)
+    shelf_order p b c r h = picked_order p b (c (terms_with w n)) r (subst (λ shelf. NeedNothing a links (picked_selectors each (c shelf))) (same_shelf w n s full) h)
 
     picking_order : (f : Function) (p : Place) (result : ℕ) → ((v : Value) → PickNeeds a links (pick (values_in w) f p result v) (pick (terms_with w n) f p result v)) → NeedNothing a links (picking_selectors s f p result xs each) →
         InOrder (selector_rule w f p result os).decided (selector_rule w f p result os).data_uses (demanded a links (selector_term w n f p result os ts))

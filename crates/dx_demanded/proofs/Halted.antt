@@ -1,6 +1,6 @@
 -- The call that is refused in a selector is found.
-use Rattle.std.proofs.Common.{◌≡◌, ℕ, zero, suc, List, [], ◌∷◌, Option, Some, None, refl, sym, ap, ◌∙◌, subst}
-use Rattle.std.specs.Prelude.{Result, Ok, Err}
+use Rattle.std.proofs.Common.{◌≡◌, ℕ, zero, suc, List, [], ◌∷◌, Option, None, refl, sym, subst}
+use Rattle.std.specs.Prelude.{Ok, Err}
 use Rattle.dx_base.specs.declared.code.Code.{Code}
 use Rattle.dx_base.specs.declared.function.Function.{Function}
 use Rattle.dx_base.specs.declared.function.Function.TheVariants as function
@@ -8,28 +8,27 @@ use Rattle.dx_base.specs.declared.function.Module.{Module}
 use Rattle.dx_base.specs.declared.function.Module.TheVariants as computing
 use Rattle.dx_base.specs.declared.function.Effect.{Effect}
 use Rattle.dx_base.specs.declared.function.Effect.TheVariants as effect
-use Rattle.dx_ast.specs.declared.constants.Const.TheVariants as const
 use Rattle.dx_macros.specs.Site.{Step}
 use Rattle.dx_macros.specs.Tree.{Place, Tree, ConstantTree, ResultTree, TreeCall, Trees, NoTree, AndTree}
 use Rattle.dx_objects.specs.Runs.{Values, Answer}
 use Rattle.dx_links.specs.declared.key.Key.TheVariants as key
 use Rattle.dx_links.specs.Denotes.{Around, denotes}
-use Rattle.dx_tags.specs.Closed.{ValueTerm, ConstantTerm, ValueTerms}
+use Rattle.dx_tags.specs.Closed.{ValueTerm, ValueTerms}
 use Rattle.dx_machine.specs.Agree.{demanded}
 use Rattle.dx_meaning.specs.Outcome.{Value, Use, Decided, Val, ErrAt, Off, HaltAt, Outcome}
 use Rattle.dx_meaning.specs.Picking.{Pick, PickThis, PickInput, PickOff, PickFault, Shelf, link_name, key_in, pick, selector_at}
 use Rattle.dx_meaning.specs.Meaning.{World, outcome, outcomes, outcome_at, together, decided_beside, selected_with, with_name, answered, module_rule, module_outcome, after_selector, picked, values_in, selector_rule, effect_rule, by_rule, file_for}
-use Rattle.dx_meaning.specs.Scan.{Sight, IsOff, Stops, Needs, Scanned, Forms, Ends, scanned_beside, all_scanned, null_term, scanned_at, call_scanned, written_for, picked_scanned, terms_in, valued, selected, selector_scanned, effect_scanned, module_scanned, rule_scanned, scan, scan_each}
+use Rattle.dx_meaning.specs.Scan.{Sight, IsOff, Stops, Needs, Scanned, Forms, Ends, scanned_beside, all_scanned, scanned_at, call_scanned, written_for, picked_scanned, terms_in, valued, selected, selector_scanned, effect_scanned, module_scanned, rule_scanned, scan, scan_each}
 use Rattle.dx_meaning.specs.Met.{Called, met_at, picked_met, effect_met, met, each_met}
 use Rattle.dx_meaning.specs.Term.{Names, around, term_at, terms_with, term_of, terms_of, Agrees}
 use Rattle.dx_meaning.proofs.Terms.{tree_right}
-use Rattle.dx_performing.specs.Course.{value_or_none}
 use Rattle.dx_performing.specs.Meant.{IsFull, IsHalted, Means}
 use Rattle.dx_performing.proofs.Executed.{full}
 use Rattle.dx_performing.proofs.Meant.{tree_means}
 use Rattle.dx_demanded.specs.Found.{AreLinks, RefusesAt, Finds}
 use Rattle.dx_demanded.specs.Halted.{halted_beside, all_halted, selected_halted, picking_halted, module_halted, rule_halted, halted_met, each_halted, halted_all, SelectorRefuses, HaltFinds, HaltsAreFound}
 use Rattle.dx_demanded.proofs.Picks.{PickNeeds, switch_needs, route_needs, get_needs}
+use Rattle.dx_demanded.proofs.Seeing.{same_shelf, told_none, told_some}
 use Rattle.dx_demanded.proofs.Trees.{tree_needs}
 
 module _ (a : Around) (links : List ValueTerm) where
@@ -100,12 +99,6 @@ module _ (w : World) (n : Names) (s : Sight) (links : List ValueTerm) (l : AreLi
   halted_selector f p result xs site code (Ends (Stops place c)) within own go h k = tt
   halted_selector f p result xs site code (Ends (Needs place u)) within own go h k = k
 
-  told_none : (o : Option Value) (r : Result Value Code) (code : Code) → o ≡ value_or_none r → r ≡ Err code → o ≡ None
-  told_none o r code e f = e ∙ ap value_or_none f
-
-  told_some : (o : Option Value) (r : Result Value Code) (v : Value) → o ≡ value_or_none r → r ≡ Ok v → o ≡ Some v
-  told_some o r v e f = e ∙ ap value_or_none f
-
   refused_selector : (f : Function) (p : Place) (result : ℕ) (xs : List (Scanned ValueTerm)) (site : List Step) (code : Code) (t : ValueTerm) (x : Scanned ValueTerm) (within own : List Called) (go : Value → List Called) → x ≡ Forms t → denotes a t ≡ Err code → RefusesAt a own site code (demanded a links t) →
       SelectorRefuses a links (selected_halted s x within own go) site code (selected s f p result xs x)
   refused_selector f p result xs site code t x within own go e d k = rw (e, told_none (s.told t) (denotes a t) code (full.told t) d) k
@@ -150,9 +143,6 @@ module _ (w : World) (n : Names) (s : Sight) (links : List ValueTerm) (l : AreLi
     module_halts computing.Import p result h = h
     module_halts m p result h = called_halts a links w m p.site result None (together os).decided (together os).control_uses (together os).data_uses (all_halted xs halts) (all_scanned xs) i.all
 
-    same_shelf : terms_in s ≡ terms_with w n
-    same_shelf = λ j. record { null = null_term; text = λ name. ConstantTerm (const.Text name); held = λ k. full.linked k j }
-
     picked_halts : (p : Place) (b : Pick Value) (c : Pick ValueTerm) → PickNeeds a links b c → HaltFinds a links (picked p.site os b).decided (picked_met halts c) (picked_scanned p xs c)
     picked_halts p (PickThis v) c r = tt
     picked_halts p PickOff c r = tt
@@ -166,7 +156,7 @@ module _ (w : World) (n : Names) (s : Sight) (links : List ValueTerm) (l : AreLi
     picked_halts p PickFault PickOff r = absurd r
 
     shelf_halts : (p : Place) (b : Pick Value) (c : Shelf ValueTerm → Pick ValueTerm) → PickNeeds a links b (c (terms_with w n)) → HaltFinds a links (picked p.site os b).decided (picked_met halts (c (terms_in s))) (picked_scanned p xs (c (terms_in s)))
-    shelf_halts p b c r = rw same_shelf (picked_halts p b (c (terms_with w n)) r)
+    shelf_halts p b c r = rw (same_shelf w n s full) (picked_halts p b (c (terms_with w n)) r)
 
     picking_halts : (f : Function) (p : Place) (result : ℕ) → ((v : Value) → HaltFinds a links (picked p.site os (pick (values_in w) f p result v)).decided (picked_met halts (pick (terms_in s) f p result v)) (valued s f p result xs v)) →
         HaltFinds a links (selector_rule w f p result os).decided (picking_halted s f p result xs mets halts) (selector_scanned s f p result xs)

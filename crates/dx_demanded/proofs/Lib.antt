@@ -14,6 +14,7 @@ pub mod Performed
 pub mod Picks
 pub mod Places
 pub mod Ready
+pub mod Seeing
 pub mod Sound
 pub mod Trees
 pub mod Used

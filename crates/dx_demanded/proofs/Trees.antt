@@ -1,5 +1,5 @@
 -- What the terms of trees need: the call that an error names, and the uses.
-use Rattle.std.proofs.Common.{◌≡◌, inl, ℕ, zero, suc, List, [], ◌∷◌, ◌++◌, Option, Some, None, Bool, true, false, refl, sym, ap, ◌∙◌, subst}
+use Rattle.std.proofs.Common.{◌≡◌, inl, ℕ, zero, suc, List, [], ◌∷◌, ◌++◌, None, Bool, true, false, refl, sym, ◌∙◌, subst}
 use Rattle.std.specs.Prelude.{Result, Ok, Err}
 use Rattle.dx_base.specs.declared.code.Code.{Code}
 use Rattle.dx_base.specs.declared.function.Function.{Function}
@@ -8,7 +8,6 @@ use Rattle.dx_base.specs.declared.function.Module.{Module}
 use Rattle.dx_base.specs.declared.function.Module.TheVariants as computing
 use Rattle.dx_base.specs.declared.function.Effect.{Effect}
 use Rattle.dx_base.specs.declared.function.Effect.TheVariants as effect
-use Rattle.dx_ast.specs.declared.constants.Const.TheVariants as const
 use Rattle.dx_ast.specs.Value.{value_of}
 use Rattle.dx_macros.specs.Site.{Step}
 use Rattle.dx_macros.specs.Tree.{Place, Tree, ConstantTree, ResultTree, TreeCall, Trees, NoTree, AndTree}
@@ -17,17 +16,16 @@ use Rattle.dx_objects.specs.Values.{value_at}
 use Rattle.dx_links.specs.declared.key.Key.TheVariants as key
 use Rattle.dx_links.specs.Denotes.{Around, own_file, file_of, denotes, denoted_result, denoted_beside, results_of, all_denote}
 use Rattle.dx_links.specs.Getting.{has_value}
-use Rattle.dx_tags.specs.Closed.{ValueTerm, ConstantTerm, ResultTerm, CallTerm, CallOf, ValueTerms}
+use Rattle.dx_tags.specs.Closed.{ValueTerm, ResultTerm, CallTerm, CallOf, ValueTerms}
 use Rattle.dx_machine.specs.Machine.{Task, task_of}
 use Rattle.dx_machine.specs.Agree.{Demanded, Runs, Refuses, more_of, then_of, answered as task_answered, run_demanded, unless, demanded, call_demanded, all_demanded}
 use Rattle.dx_meaning.specs.Outcome.{Value, Use, Decided, Val, ErrAt, Off, HaltAt, Outcome}
 use Rattle.dx_meaning.specs.Picking.{Pick, PickThis, PickInput, PickOff, PickFault, Shelf, link_name, key_in, pick, selector_at}
 use Rattle.dx_meaning.specs.Meaning.{World, outcome, outcomes, outcome_at, together, decided_beside, control_beside, data_beside, selected_with, as_selector, with_name, arguments, answered, module_rule, module_outcome, after_selector, picked, values_in, selector_rule, effect_rule, by_rule, file_for}
-use Rattle.dx_meaning.specs.Scan.{Sight, Scanned, Forms, null_term, scanned_at, with_file, terms_in, rule_scanned, scan_each}
+use Rattle.dx_meaning.specs.Scan.{Sight, Scanned, Forms, scanned_at, with_file, terms_in, rule_scanned, scan_each}
 use Rattle.dx_meaning.specs.Term.{Names, around, term_at, own_file_of, picked_term, selected_term, terms_with, selector_term, effect_term, term_rule, term_of, terms_of, Agrees}
 use Rattle.dx_meaning.specs.Met.{Called, met_at, all_met, arguments_met, own_met, picked_met, selected_met, selector_met, effect_met, met_rule, met, each_met}
 use Rattle.dx_meaning.proofs.Terms.{tree_right}
-use Rattle.dx_performing.specs.Course.{value_or_none}
 use Rattle.dx_performing.specs.Meant.{IsFull, Means}
 use Rattle.dx_performing.proofs.Meant.{tree_means, no_file_first, all_agree}
 use Rattle.dx_demanded.specs.Found.{AreLinks, HaveAllResults, RefusesAt, RunsAll, Finds}
@@ -35,6 +33,7 @@ use Rattle.dx_demanded.specs.Used.{AreUsed, tasks_in, Uses}
 use Rattle.dx_demanded.proofs.Ends.{EndsAs, call_ends, result_ends, file_needs_none, file_denotes_none}
 use Rattle.dx_demanded.proofs.Picks.{PickNeeds, switch_needs, route_needs, get_needs}
 use Rattle.dx_demanded.proofs.Places.{have_append, stands_behind, stands_first, stands_itself}
+use Rattle.dx_demanded.proofs.Seeing.{same_shelf, told_some}
 use Rattle.dx_demanded.proofs.Uses.{Within, in_front, behind, both_within, used_within, used_more, own_within, others_within, own_alone_within, chosen_within}
 
 -- what a term needs is found and used as it should be, beside what its tree comes to, its uses, and the calls that it meets
@@ -291,14 +290,8 @@ module _ (w : World) (n : Names) (s : Sight) (links : List ValueTerm) (l : AreLi
 
     -- ---- a call with a selector
 
-    same_shelf : terms_in s ≡ terms_with w n
-    same_shelf = λ j. record { null = null_term; text = λ name. ConstantTerm (const.Text name); held = λ k. full.linked k j }
-
-    told_so : (o : Option Value) (r : Result Value Code) (v : Value) → o ≡ value_or_none r → r ≡ Ok v → o ≡ Some v
-    told_so o r v e f = e ∙ ap value_or_none f
-
     value_met : (f : Function) (p : Place) (result : ℕ) (v : Value) (t : ValueTerm) (x : Scanned ValueTerm) → x ≡ Forms t → denotes a t ≡ Ok v → selected_met s f p result each x ≡ picked_met each (pick (terms_in s) f p result v)
-    value_met f p result v t x e d = rw (e, told_so (s.told t) (denotes a t) v (full.told t) d) refl
+    value_met f p result v t x e d = rw (e, told_some (s.told t) (denotes a t) v (full.told t) d) refl
 
     selected_needs : (f : Function) (p : Place) (result : ℕ) (d : Decided Value) (cu du : List Use) (t : ValueTerm) (x : Scanned ValueTerm) → Means a d t x → Agrees d (denotes a t) → (go : Value → Outcome Value) (go_term : Value → ValueTerm) →
         ((v : Value) → NeedsSo a (go v) (picked_met each (pick (terms_in s) f p result v)) (demanded a links (go_term v))) →
@@ -330,7 +323,7 @@ module _ (w : World) (n : Names) (s : Sight) (links : List ValueTerm) (l : AreLi
     picked_needs p PickFault PickOff r = absurd r
 
     shelf_needs : (p : Place) (b : Pick Value) (c : Shelf ValueTerm → Pick ValueTerm) → PickNeeds a links b (c (terms_with w n)) → NeedsSo a (picked p.site os b) (picked_met each (c (terms_in s))) (demanded a links (picked_term ts (c (terms_with w n))))
-    shelf_needs p b c r = rw same_shelf (picked_needs p b (c (terms_with w n)) r)
+    shelf_needs p b c r = rw (same_shelf w n s full) (picked_needs p b (c (terms_with w n)) r)
 
     picking_needs : (f : Function) (p : Place) (result : ℕ) → ((v : Value) → PickNeeds a links (pick (values_in w) f p result v) (pick (terms_with w n) f p result v)) →
         NeedsSo a (selector_rule w f p result os) (selector_met s f p result xs each) (demanded a links (selector_term w n f p result os ts))
