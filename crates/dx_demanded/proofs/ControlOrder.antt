@@ -9,6 +9,7 @@ use Rattle.dx_base.specs.declared.function.Effect.{Effect}
 use Rattle.dx_base.specs.declared.function.Effect.TheVariants as effect
 use Rattle.dx_macros.specs.Site.{Step}
 use Rattle.dx_macros.specs.Tree.{Place, Tree, ConstantTree, ResultTree, TreeCall, Trees, NoTree, AndTree}
+use Rattle.dx_objects.specs.Runs.{Values}
 use Rattle.dx_links.specs.declared.key.Key.TheVariants as key
 use Rattle.dx_links.specs.Denotes.{Around, denotes}
 use Rattle.dx_tags.specs.Closed.{ValueTerm, ValueTerms}
@@ -21,19 +22,20 @@ use Rattle.dx_machine.proofs.Keeping.{getting_all_keeps}
 use Rattle.dx_meaning.specs.Outcome.{Value, Use, Decided, Val, ErrAt, Off, HaltAt, Outcome}
 use Rattle.dx_meaning.specs.Picking.{Pick, PickThis, PickInput, PickOff, PickFault, Shelf, link_name, key_in, pick, selector_at}
 use Rattle.dx_meaning.specs.Meaning.{World, outcome, outcomes, outcome_at, together, control_beside, with_name, picked, values_in, selector_rule, effect_rule, by_rule}
-use Rattle.dx_meaning.specs.Scan.{Sight, Scanned, Forms, Ends, null_term, scanned_at, terms_in, scan, scan_each}
+use Rattle.dx_meaning.specs.Scan.{Sight, Scanned, Forms, Ends, null_term, scanned_at, terms_in, scan, scan_each, all_scanned}
 use Rattle.dx_meaning.specs.Term.{Names, around, term_at, terms_with, term_of, terms_of, Agrees}
 use Rattle.dx_meaning.proofs.Terms.{tree_right}
 use Rattle.dx_performing.specs.Course.{value_or_none, as_terms}
 use Rattle.dx_performing.specs.Meant.{IsFull, IsHalted, Means}
 use Rattle.dx_performing.specs.Selectors.{selectors_at, selectors_beside, all_selectors, told_selectors, got_selectors, picked_selectors, picking_selectors, module_selectors, effect_selectors, rule_selectors, selectors, selectors_each}
-use Rattle.dx_performing.proofs.Meant.{tree_means}
+use Rattle.dx_performing.proofs.Meant.{tree_means, all_means}
 use Rattle.dx_demanded.specs.Found.{AreLinks}
-use Rattle.dx_demanded.specs.Ordered.{asked, RanPart, AreReady}
+use Rattle.dx_demanded.specs.Ordered.{asked, RanPart, AreReady, all_names, names, names_each}
 use Rattle.dx_demanded.specs.Used.{tasks_in}
 use Rattle.dx_demanded.proofs.Control.{after_control, after_same, named_same, module_same}
 use Rattle.dx_demanded.proofs.DataOrder.{NeedNothing, links_need_nothing, InOrder, tree_order, all_order}
 use Rattle.dx_demanded.proofs.Got.{getting_all_agrees}
+use Rattle.dx_demanded.proofs.NamesReady.{names_ready, all_names_ready}
 use Rattle.dx_demanded.proofs.Parts.{asked_append, ran_none, ran_front, then_ran, got_part}
 use Rattle.dx_demanded.proofs.Picks.{PickNeeds, switch_needs, route_needs, get_needs}
 use Rattle.dx_demanded.proofs.Seeing.{same_shelf}
@@ -54,6 +56,13 @@ module _ (k : Frame) where
   GetsData (ErrAt site code) own us t = GetsAfter own us t
   GetsData Off own us t = Unit {0}
   GetsData (HaltAt site code) own us t = Unit {0}
+
+  -- all arguments so
+  abbrev pub AllRan : Decided Values → List Use → ValueTerms → State → Type 0
+  AllRan (Val vs) us ts st = RanPart st (asked us) (state_at (get_all k ts st))
+  AllRan (ErrAt site code) us ts st = RanPart st (asked us) (state_at (get_all k ts st))
+  AllRan Off us ts st = Unit {0}
+  AllRan (HaltAt site code) us ts st = Unit {0}
 
   then_assoc : (g : Got) (f h : State → Got) → and_then (and_then g f) h ≡ and_then g (λ s. and_then (f s) h)
   then_assoc (Went s) f h = refl
@@ -145,7 +154,7 @@ module _ (w : World) (n : Names) (s : Sight) (links : List ValueTerm) (l : AreLi
   abbrev k : Frame
   k = frame w n links formed budget
 
-  -- ---- data, where the selectors are ready
+  -- ---- data, where the names of Imports are ready
 
   order_ran : (own : List ValueTerm) (us : List Use) (t : ValueTerm) (st : State) → IsSound a budget st → AreReady k st own → IsPartOf (runs_in (tasks_in (demanded a (links ++ own) t))) (asked us) → RanPart st (asked us) (state_at (get k t st))
   order_ran own us t st i r p =
@@ -161,20 +170,35 @@ module _ (w : World) (n : Names) (s : Sight) (links : List ValueTerm) (l : AreLi
   own_needs_nothing : (own : List ValueTerm) → NeedNothing a (links ++ own) own
   own_needs_nothing own = links_need_nothing a (links ++ own) own (λ u e. behind_links links own u e)
 
-  pub data_gets : (t : Tree) → GetsData k (outcome w t).decided (selectors s t) (outcome w t).data_uses (term_of w n t)
-  data_gets t = by_order (outcome w t).decided (selectors s t) (outcome w t).data_uses (term_of w n t)
-      (λ st i r. tree_order w n s (links ++ selectors s t) (links_with w n k (selectors s t) st refl l i r) full t (own_needs_nothing (selectors s t)))
+  pub named_gets : (t : Tree) → GetsData k (outcome w t).decided (names s t) (outcome w t).data_uses (term_of w n t)
+  named_gets t = by_order (outcome w t).decided (names s t) (outcome w t).data_uses (term_of w n t) (λ st i r. tree_order w n s (links ++ names s t) (links_with w n k (names s t) st refl l i r) full t (own_needs_nothing (names s t)))
 
-  -- of all arguments
-  pub all_order_ran : (own : List ValueTerm) (us : List Use) (ts : ValueTerms) (st : State) → IsSound a budget st → AreReady k st own → IsPartOf (runs_in (tasks_in (all_demanded a (links ++ own) ts))) (asked us) → RanPart st (asked us) (state_at (get_all k ts st))
+  -- and so where its selectors are ready
+  by_selectors : (d : Decided Value) (own its : List ValueTerm) (us : List Use) (t : ValueTerm) (x : Scanned ValueTerm) → Means a d t x → ((st : State) (u : ValueTerm) → x ≡ Forms u → AreReady k st own → AreReady k st its) → GetsData k d its us t → GetsData k d own us t
+  by_selectors Off own its us t x m f g = tt
+  by_selectors (HaltAt site code) own its us t x m f g = tt
+  by_selectors (ErrAt site code) own its us t x m f g = λ st i r. g st i (f st t m r)
+  by_selectors (Val v) own its us t x m f g = λ st i r. g st i (f st t m r)
+
+  data_gets : (t : Tree) → GetsData k (outcome w t).decided (selectors s t) (outcome w t).data_uses (term_of w n t)
+  data_gets t = by_selectors (outcome w t).decided (selectors s t) (names s t) (outcome w t).data_uses (term_of w n t) (scan s t) (tree_means w n s l.denote full t) (λ st u e r. names_ready k st s t u e r) (named_gets t)
+
+  all_order_ran : (own : List ValueTerm) (us : List Use) (ts : ValueTerms) (st : State) → IsSound a budget st → AreReady k st own → IsPartOf (runs_in (tasks_in (all_demanded a (links ++ own) ts))) (asked us) → RanPart st (asked us) (state_at (get_all k ts st))
   all_order_ran own us ts st i r p =
       subst (λ g. RanPart st (asked us) (state_at g)) (all_alike k own ts st r)
       (got_part st (all_demanded a (links ++ own) ts) (get_all (with_links k own) ts st) (asked us) (getting_all_agrees (with_links k own) ts st attributes i) p)
 
-  pub all_in_order : (ts : Trees) (st : State) → IsSound a budget st → AreReady k st (all_selectors (scan_each s ts) (selectors_each s ts)) → InOrder (together (outcomes w ts)).decided (together (outcomes w ts)).data_uses (all_demanded a (links ++ all_selectors (scan_each s ts) (selectors_each s ts)) (terms_of w n ts))
-  all_in_order ts st i r =
-      let own = all_selectors (scan_each s ts) (selectors_each s ts) in
-      all_order w n s (links ++ own) (links_with w n k own st refl l i r) full ts (own_needs_nothing own)
+  by_all_order : (d : Decided Values) (its : List ValueTerm) (us : List Use) (ts : ValueTerms) (x : Scanned ValueTerms) (st : State) → IsSound a budget st → Means a d ts x → ((vs : ValueTerms) → x ≡ Forms vs → AreReady k st its) → (AreReady k st its → InOrder d us (all_demanded a (links ++ its) ts)) → AllRan k d us ts st
+  by_all_order Off its us ts x st i m f g = tt
+  by_all_order (HaltAt site code) its us ts x st i m f g = tt
+  by_all_order (ErrAt site code) its us ts x st i m f g = let r = f ts m in all_order_ran its us ts st i r (g r)
+  by_all_order (Val vs) its us ts x st i m f g = let r = f ts m in all_order_ran its us ts st i r (g r)
+
+  pub all_data_ran : (ts : Trees) (st : State) → IsSound a budget st → AreReady k st (all_selectors (scan_each s ts) (selectors_each s ts)) → AllRan k (together (outcomes w ts)).decided (together (outcomes w ts)).data_uses (terms_of w n ts) st
+  all_data_ran ts st i r =
+      let its = all_names (names_each s ts) in
+      by_all_order (together (outcomes w ts)).decided its (together (outcomes w ts)).data_uses (terms_of w n ts) (all_scanned (scan_each s ts)) st i (all_means w n s l.denote full ts) (λ vs e. all_names_ready k st s ts vs e r)
+      (λ q. all_order w n s (links ++ its) (links_with w n k its st refl l i q) full ts (own_needs_nothing its))
 
   -- ---- rules
 

@@ -1,4 +1,4 @@
--- Where its selectors need nothing, a term needs some of the uses of its tree's data, in their order.
+-- Where the names of Imports need nothing, a term needs some of the uses of its tree's data, in their order.
 use Rattle.std.proofs.Common.{◌≡◌, ℕ, zero, suc, List, [], ◌∷◌, ◌++◌, Bool, true, false, refl, sym, ap, ◌∙◌, subst}
 use Rattle.std.specs.Prelude.{Ok, Err, ◌||◌}
 use Rattle.dx_base.specs.declared.function.Function.{Function}
@@ -26,10 +26,10 @@ use Rattle.dx_meaning.specs.Met.{Called, all_met, arguments_met, each_met, met}
 use Rattle.dx_meaning.specs.Term.{Names, around, term_at, own_file_of, picked_term, selected_term, terms_with, selector_term, effect_term, term_rule, term_of, terms_of, Agrees}
 use Rattle.dx_meaning.proofs.Terms.{tree_right}
 use Rattle.dx_performing.specs.Meant.{IsFull, Means}
-use Rattle.dx_performing.specs.Selectors.{selectors_at, selectors_beside, all_selectors, told_selectors, got_selectors, picked_selectors, picking_selectors, module_selectors, effect_selectors, rule_selectors, selectors, selectors_each}
+use Rattle.dx_performing.specs.Selectors.{selectors_at, told_selectors, picked_selectors, effect_selectors}
 use Rattle.dx_performing.proofs.Meant.{tree_means, all_agree}
 use Rattle.dx_demanded.specs.Found.{AreLinks, Finds}
-use Rattle.dx_demanded.specs.Ordered.{asked}
+use Rattle.dx_demanded.specs.Ordered.{asked, all_names, name_of, module_names, picking_names, selector_names, rule_names, names, names_each}
 use Rattle.dx_demanded.specs.Used.{tasks_in}
 use Rattle.dx_demanded.proofs.Ends.{file_needs_none, file_denotes_none, link_needs_none}
 use Rattle.dx_demanded.proofs.Parts.{none_part, part_append, runs_append, asked_append}
@@ -74,26 +74,21 @@ more_part : (us vs : List Use) (ts : List Task) (d : Demanded) → IsPartOf (run
 more_part us vs ts (Runs rs) p q = rw (runs_append ts rs, asked_append us vs) (part_append (runs_in rs) (asked vs) p q)
 more_part us vs ts (Refuses rs c code) p q = rw (runs_append ts rs, asked_append us vs) (part_append (runs_in rs) (asked vs) p q)
 
-beside_order : (a : Around) (links : List ValueTerm) (d : Decided Value) (e : Decided Values) (du others : List Use) (calls : List Called) (t : ValueTerm) (x : Scanned ValueTerm) (own rest : List ValueTerm) (g h : Demanded) → Means a d t x → Finds a d calls g → NeedNothing a links (selectors_beside x own rest) →
-    (NeedNothing a links own → InOrder d du g) → (NeedNothing a links rest → InOrder e others h) → InOrder (decided_beside d e) (data_beside d e du others) (then_of g h)
-beside_order a links Off e du others calls t x own rest g h m f k p q = tt
-beside_order a links (HaltAt s c) e du others calls t x own rest g h m f k p q = tt
-beside_order a links (ErrAt s c) Off du others calls t x own rest g h m f k p q = tt
-beside_order a links (ErrAt s c) (HaltAt s' c') du others calls t x own rest g h m f k p q = tt
-beside_order a links (ErrAt s c) (ErrAt s' c') du others calls t x own rest (Runs ts) h m f k p q = absurd f
-beside_order a links (ErrAt s c) (ErrAt s' c') du others calls t x own rest (Refuses ts r code) h m f k p q = p (need_front a links own rest (subst (λ y. NeedNothing a links (selectors_beside y own rest)) m k))
-beside_order a links (ErrAt s c) (Val vs) du others calls t x own rest (Runs ts) h m f k p q = absurd f
-beside_order a links (ErrAt s c) (Val vs) du others calls t x own rest (Refuses ts r code) h m f k p q = p (need_front a links own rest (subst (λ y. NeedNothing a links (selectors_beside y own rest)) m k))
-beside_order a links (Val v) Off du others calls t x own rest g h m f k p q = tt
-beside_order a links (Val v) (HaltAt s c) du others calls t x own rest g h m f k p q = tt
-beside_order a links (Val v) (ErrAt s c) du others calls t x own rest (Refuses ts r code) h m f k p q = absurd f
-beside_order a links (Val v) (ErrAt s c) du others calls t x own rest (Runs ts) h m f k p q =
-    let both = subst (λ y. NeedNothing a links (selectors_beside y own rest)) m k in
-    more_part du others ts h (p (need_front a links own rest both)) (q (need_behind a links own rest both))
-beside_order a links (Val v) (Val vs) du others calls t x own rest (Refuses ts r code) h m f k p q = absurd f
-beside_order a links (Val v) (Val vs) du others calls t x own rest (Runs ts) h m f k p q =
-    let both = subst (λ y. NeedNothing a links (selectors_beside y own rest)) m k in
-    more_part du others ts h (p (need_front a links own rest both)) (q (need_behind a links own rest both))
+beside_order : (a : Around) (d : Decided Value) (e : Decided Values) (du others : List Use) (calls : List Called) (g h : Demanded) → Finds a d calls g → InOrder d du g → InOrder e others h → InOrder (decided_beside d e) (data_beside d e du others) (then_of g h)
+beside_order a Off e du others calls g h f p q = tt
+beside_order a (HaltAt s c) e du others calls g h f p q = tt
+beside_order a (ErrAt s c) Off du others calls g h f p q = tt
+beside_order a (ErrAt s c) (HaltAt s' c') du others calls g h f p q = tt
+beside_order a (ErrAt s c) (ErrAt s' c') du others calls (Runs ts) h f p q = absurd f
+beside_order a (ErrAt s c) (ErrAt s' c') du others calls (Refuses ts r code) h f p q = p
+beside_order a (ErrAt s c) (Val vs) du others calls (Runs ts) h f p q = absurd f
+beside_order a (ErrAt s c) (Val vs) du others calls (Refuses ts r code) h f p q = p
+beside_order a (Val v) Off du others calls g h f p q = tt
+beside_order a (Val v) (HaltAt s c) du others calls g h f p q = tt
+beside_order a (Val v) (ErrAt s c) du others calls (Refuses ts r code) h f p q = absurd f
+beside_order a (Val v) (ErrAt s c) du others calls (Runs ts) h f p q = more_part du others ts h p q
+beside_order a (Val v) (Val vs) du others calls (Refuses ts r code) h f p q = absurd f
+beside_order a (Val v) (Val vs) du others calls (Runs ts) h f p q = more_part du others ts h p q
 
 -- ---- a call of a module
 
@@ -141,10 +136,10 @@ pub record Orders (a : Around) (links : List ValueTerm) (o : Outcome Value) (t :
 
 pub record Inputs (a : Around) (links : List ValueTerm) (s : Sight) (os : List (Outcome Value)) (ts : ValueTerms) (xs : List (Scanned ValueTerm)) (each : List (List ValueTerm)) (mets : List (List Called)) : Type 0 where
   pub at : (k : ℕ) → Orders a links (outcome_at os k) (term_at ts k) (scanned_at xs k) (selectors_at each k)
-  pub all : NeedNothing a links (all_selectors xs each) → InOrder (together os).decided (together os).data_uses (all_demanded a links ts)
+  pub all : NeedNothing a links (all_names each) → InOrder (together os).decided (together os).data_uses (all_demanded a links ts)
   pub all_found : Finds a (together os).decided (all_met mets) (all_demanded a links ts)
   pub agree : Agrees (together os).decided (all_denote a ts)
-  pub named : NeedNothing a links (module_selectors s computing.Import xs each) → InOrder (together (with_name os)).decided (together (with_name os)).data_uses (all_demanded a links ts)
+  pub named : NeedNothing a links (module_names computing.Import xs each) → InOrder (together (with_name os)).decided (together (with_name os)).data_uses (all_demanded a links ts)
   pub named_found : Finds a (together (with_name os)).decided (all_met (arguments_met computing.Import mets)) (all_demanded a links ts)
   pub named_agree : Agrees (together (with_name os)).decided (all_denote a ts)
 
@@ -152,12 +147,11 @@ module _ (w : World) (n : Names) (s : Sight) (links : List ValueTerm) (l : AreLi
   abbrev a : Around
   a = around w n
 
-  -- a selector with a value, and what that leads to, need nothing
-  told_needs : (v : Value) (t : ValueTerm) (x : Scanned ValueTerm) (own : List ValueTerm) (go : Value → List ValueTerm) → x ≡ Forms t → denotes a t ≡ Ok v → NeedNothing a links (own ++ got_selectors s x go) → NeedNothing a links (t ∷ go v)
-  told_needs v t x own go e q h =
-      let formed = subst (λ y. NeedNothing a links (own ++ got_selectors s y go)) e h in
-      let told = subst (λ o. NeedNothing a links (own ++ t ∷ told_selectors o go)) (told_some (s.told t) (denotes a t) v (full.told t) q) formed in
-      need_behind a links own (t ∷ go v) told
+  -- what a selector with a value leads to needs nothing
+  told_needs : (v : Value) (t : ValueTerm) (x : Scanned ValueTerm) (go : Value → List ValueTerm) → x ≡ Forms t → denotes a t ≡ Ok v → NeedNothing a links (picking_names s x go) → NeedNothing a links (go v)
+  told_needs v t x go e q h =
+      let formed = subst (λ y. NeedNothing a links (picking_names s y go)) e h in
+      subst (λ o. NeedNothing a links (told_selectors o go)) (told_some (s.told t) (denotes a t) v (full.told t) q) formed
 
   nothing_more : (us : List Use) (e : Decided Values) (g h : Demanded) → g ≡ Runs [] → InOrder e us h → InOrder e us (then_of g h)
   nothing_more us e g h q p = subst (λ y. InOrder e us (then_of y h)) (sym q) (same e h p)
@@ -171,18 +165,21 @@ module _ (w : World) (n : Names) (s : Sight) (links : List ValueTerm) (l : AreLi
       same (ErrAt site code) (Refuses ts c code') p = p
 
   -- the name of an Import, and its other arguments
-  named_order : (d : Decided Value) (cu du : List Use) (e : Decided Values) (others : List Use) (t : ValueTerm) (x : Scanned ValueTerm) (own rest : List ValueTerm) (g h : Demanded) → g ≡ demanded a links t → Means a d t x → Agrees d (denotes a t) → NeedNothing a links (own ++ got_selectors s x (λ v. rest)) → (NeedNothing a links rest → InOrder e others h) →
+  named_needs : (t : ValueTerm) (x : Scanned ValueTerm) (rest : List ValueTerm) → x ≡ Forms t → NeedNothing a links (name_of x ++ rest) → NeedNothing a links (t ∷ rest)
+  named_needs t x rest e h = subst (λ y. NeedNothing a links (name_of y ++ rest)) e h
+
+  named_order : (d : Decided Value) (cu du : List Use) (e : Decided Values) (others : List Use) (t : ValueTerm) (x : Scanned ValueTerm) (rest : List ValueTerm) (g h : Demanded) → g ≡ demanded a links t → Means a d t x → NeedNothing a links (name_of x ++ rest) → (NeedNothing a links rest → InOrder e others h) →
       InOrder (decided_beside (selected_with d cu du).decided e) (data_beside (selected_with d cu du).decided e (selected_with d cu du).data_uses others) (then_of g h)
-  named_order Off cu du e others t x own rest g h i m q k p = tt
-  named_order (HaltAt site code) cu du e others t x own rest g h i m q k p = tt
-  named_order (ErrAt site code) cu du e others t x own rest g h i m q k p = tt
-  named_order (Val v) cu du Off others t x own rest g h i m q k p = tt
-  named_order (Val v) cu du (HaltAt site code) others t x own rest g h i m q k p = tt
-  named_order (Val v) cu du (ErrAt site code) others t x own rest g h i m q k p = let needs = told_needs v t x own (λ u. rest) m q k in nothing_more others (ErrAt site code) g h (i ∙ needs.0) (p needs.1)
-  named_order (Val v) cu du (Val vs) others t x own rest g h i m q k p = let needs = told_needs v t x own (λ u. rest) m q k in nothing_more others (Val (v ∷ vs)) g h (i ∙ needs.0) (p needs.1)
+  named_order Off cu du e others t x rest g h i m k p = tt
+  named_order (HaltAt site code) cu du e others t x rest g h i m k p = tt
+  named_order (ErrAt site code) cu du e others t x rest g h i m k p = tt
+  named_order (Val v) cu du Off others t x rest g h i m k p = tt
+  named_order (Val v) cu du (HaltAt site code) others t x rest g h i m k p = tt
+  named_order (Val v) cu du (ErrAt site code) others t x rest g h i m k p = let needs = named_needs t x rest m k in nothing_more others (ErrAt site code) g h (i ∙ needs.0) (p needs.1)
+  named_order (Val v) cu du (Val vs) others t x rest g h i m k p = let needs = named_needs t x rest m k in nothing_more others (Val (v ∷ vs)) g h (i ∙ needs.0) (p needs.1)
 
   module _ (os : List (Outcome Value)) (ts : ValueTerms) (xs : List (Scanned ValueTerm)) (each : List (List ValueTerm)) (mets : List (List Called)) (i : Inputs (around w n) links s os ts xs each mets) where
-    arguments_order : (m : Module) → NeedNothing a links (module_selectors s m xs each) → InOrder (together (arguments m os)).decided (together (arguments m os)).data_uses (all_demanded a links ts)
+    arguments_order : (m : Module) → NeedNothing a links (module_names m xs each) → InOrder (together (arguments m os)).decided (together (arguments m os)).data_uses (all_demanded a links ts)
     arguments_order computing.Import = i.named
     arguments_order m = i.all
 
@@ -194,7 +191,7 @@ module _ (w : World) (n : Names) (s : Sight) (links : List ValueTerm) (l : AreLi
     arguments_agree computing.Import = i.named_agree
     arguments_agree m = i.agree
 
-    module_order : (m : Module) (p : Place) (result : ℕ) → NeedNothing a links (module_selectors s m xs each) → InOrder (by_rule w (function.Module m) p result os).decided (by_rule w (function.Module m) p result os).data_uses (demanded a links (term_rule w n (function.Module m) p result os ts))
+    module_order : (m : Module) (p : Place) (result : ℕ) → NeedNothing a links (module_names m xs each) → InOrder (by_rule w (function.Module m) p result os).decided (by_rule w (function.Module m) p result os).data_uses (demanded a links (term_rule w n (function.Module m) p result os ts))
     module_order m p result h =
         let file = own_file_of w m os in
         let us = with_file ts file in
@@ -208,13 +205,13 @@ module _ (w : World) (n : Names) (s : Sight) (links : List ValueTerm) (l : AreLi
         unless_order d.decided d.data_uses (has_value links (ResultTerm result c)) (call_demanded a links c)
         (called_order w a p result m us o.decided o.control_uses o.data_uses calls (all_demanded a links us) (all_denote a us) found order agree)
 
-    selected_order : (d : Decided Value) (cu du : List Use) (t : ValueTerm) (x : Scanned ValueTerm) (own : List ValueTerm) (out : Value → Outcome Value) (go_term : Value → ValueTerm) (go : Value → List ValueTerm) → Means a d t x → Agrees d (denotes a t) → NeedNothing a links (own ++ got_selectors s x go) →
+    selected_order : (d : Decided Value) (cu du : List Use) (t : ValueTerm) (x : Scanned ValueTerm) (out : Value → Outcome Value) (go_term : Value → ValueTerm) (go : Value → List ValueTerm) → Means a d t x → Agrees d (denotes a t) → NeedNothing a links (picking_names s x go) →
         ((v : Value) → NeedNothing a links (go v) → InOrder (out v).decided (out v).data_uses (demanded a links (go_term v))) →
         InOrder (after_selector (selected_with d cu du).decided (selected_with d cu du).control_uses out).decided (after_selector (selected_with d cu du).decided (selected_with d cu du).control_uses out).data_uses (demanded a links (selected_term d go_term))
-    selected_order Off cu du t x own out go_term go m q h k = tt
-    selected_order (HaltAt site code) cu du t x own out go_term go m q h k = tt
-    selected_order (ErrAt site code) cu du t x own out go_term go m q h k = tt
-    selected_order (Val v) cu du t x own out go_term go m q h k = k v (told_needs v t x own go m q h).1
+    selected_order Off cu du t x out go_term go m q h k = tt
+    selected_order (HaltAt site code) cu du t x out go_term go m q h k = tt
+    selected_order (ErrAt site code) cu du t x out go_term go m q h k = tt
+    selected_order (Val v) cu du t x out go_term go m q h k = k v (told_needs v t x go m q h)
 
     picked_order : (p : Place) (b : Pick Value) (c : Pick ValueTerm) → PickNeeds a links b c → NeedNothing a links (picked_selectors each c) → InOrder (picked p.site os b).decided (picked p.site os b).data_uses (demanded a links (picked_term ts c))
     picked_order p (PickThis v) (PickThis t) r h = subst (λ g. InOrder (Val v) [] g) (sym r) part_none
@@ -231,12 +228,12 @@ module _ (w : World) (n : Names) (s : Sight) (links : List ValueTerm) (l : AreLi
     shelf_order : (p : Place) (b : Pick Value) (c : Shelf ValueTerm → Pick ValueTerm) → PickNeeds a links b (c (terms_with w n)) → NeedNothing a links (picked_selectors each (c (terms_in s))) → InOrder (picked p.site os b).decided (picked p.site os b).data_uses (demanded a links (picked_term ts (c (terms_with w n))))
     shelf_order p b c r h = picked_order p b (c (terms_with w n)) r (subst (λ shelf. NeedNothing a links (picked_selectors each (c shelf))) (same_shelf w n s full) h)
 
-    picking_order : (f : Function) (p : Place) (result : ℕ) → ((v : Value) → PickNeeds a links (pick (values_in w) f p result v) (pick (terms_with w n) f p result v)) → NeedNothing a links (picking_selectors s f p result xs each) →
+    picking_order : (f : Function) (p : Place) (result : ℕ) → ((v : Value) → PickNeeds a links (pick (values_in w) f p result v) (pick (terms_with w n) f p result v)) → NeedNothing a links (selector_names s f p result xs each) →
         InOrder (selector_rule w f p result os).decided (selector_rule w f p result os).data_uses (demanded a links (selector_term w n f p result os ts))
     picking_order f p result r h =
         let o = outcome_at os (selector_at f) in
         let at = i.at (selector_at f) in
-        selected_order o.decided o.control_uses o.data_uses (term_at ts (selector_at f)) (scanned_at xs (selector_at f)) (selectors_at each (selector_at f))
+        selected_order o.decided o.control_uses o.data_uses (term_at ts (selector_at f)) (scanned_at xs (selector_at f))
         (λ v. picked p.site os (pick (values_in w) f p result v)) (λ v. picked_term ts (pick (terms_with w n) f p result v)) (λ v. picked_selectors each (pick (terms_in s) f p result v)) at.means at.agrees h
         (λ v. shelf_order p (pick (values_in w) f p result v) (λ shelf. pick shelf f p result v) (r v))
 
@@ -247,7 +244,7 @@ module _ (w : World) (n : Names) (s : Sight) (links : List ValueTerm) (l : AreLi
     effect_order effect.Echo h = part_none
     effect_order effect.Export h = part_none
 
-    rule_order : (f : Function) (p : Place) (result : ℕ) → NeedNothing a links (rule_selectors s f p result xs each) → InOrder (by_rule w f p result os).decided (by_rule w f p result os).data_uses (demanded a links (term_rule w n f p result os ts))
+    rule_order : (f : Function) (p : Place) (result : ℕ) → NeedNothing a links (rule_names s f p result xs each) → InOrder (by_rule w f p result os).decided (by_rule w f p result os).data_uses (demanded a links (term_rule w n f p result os ts))
     rule_order (function.Module m) p result h = module_order m p result h
     rule_order (function.Effect e) p result h = effect_order e h
     rule_order function.Switch p result h = picking_order function.Switch p result (λ v. switch_needs a links v) h
@@ -258,27 +255,27 @@ module _ (w : World) (n : Names) (s : Sight) (links : List ValueTerm) (l : AreLi
   -- ---- trees
 
   mutual
-    pub tree_order : (t : Tree) → NeedNothing a links (selectors s t) → InOrder (outcome w t).decided (outcome w t).data_uses (demanded a links (term_of w n t))
+    pub tree_order : (t : Tree) → NeedNothing a links (names s t) → InOrder (outcome w t).decided (outcome w t).data_uses (demanded a links (term_of w n t))
     tree_order (ConstantTree c) h = part_none
     tree_order (ResultTree result (TreeCall f p args)) h =
-        rule_order (outcomes w args) (terms_of w n args) (scan_each s args) (selectors_each s args) (each_met s args)
+        rule_order (outcomes w args) (terms_of w n args) (scan_each s args) (names_each s args) (each_met s args)
         (record { at = at_order args; all = all_order args; all_found = (all_need w n s links l full args).found; agree = all_agree w n s l.denote full args; named = name_order args; named_found = (named_need w n s links l full args).found; named_agree = named_all_agree w n s links l full args })
         f p result h
 
-    at_order : (ts : Trees) → (k : ℕ) → Orders a links (outcome_at (outcomes w ts) k) (term_at (terms_of w n ts) k) (scanned_at (scan_each s ts) k) (selectors_at (selectors_each s ts) k)
+    at_order : (ts : Trees) → (k : ℕ) → Orders a links (outcome_at (outcomes w ts) k) (term_at (terms_of w n ts) k) (scanned_at (scan_each s ts) k) (selectors_at (names_each s ts) k)
     at_order NoTree k = record { means = refl; agrees = refl; order = λ h. part_none }
     at_order (AndTree t ts) zero = record { means = tree_means w n s l.denote full t; agrees = (tree_right w n l.denote t).0; order = tree_order t }
     at_order (AndTree t ts) (suc k) = at_order ts k
 
-    pub all_order : (ts : Trees) → NeedNothing a links (all_selectors (scan_each s ts) (selectors_each s ts)) → InOrder (together (outcomes w ts)).decided (together (outcomes w ts)).data_uses (all_demanded a links (terms_of w n ts))
+    pub all_order : (ts : Trees) → NeedNothing a links (all_names (names_each s ts)) → InOrder (together (outcomes w ts)).decided (together (outcomes w ts)).data_uses (all_demanded a links (terms_of w n ts))
     all_order NoTree h = part_none
     all_order (AndTree t ts) h =
-        beside_order a links (outcome w t).decided (together (outcomes w ts)).decided (outcome w t).data_uses (together (outcomes w ts)).data_uses (met s t) (term_of w n t) (scan s t) (selectors s t) (all_selectors (scan_each s ts) (selectors_each s ts)) (demanded a links (term_of w n t)) (all_demanded a links (terms_of w n ts))
-        (tree_means w n s l.denote full t) (tree_needs w n s links l full t).found h (tree_order t) (all_order ts)
+        beside_order a (outcome w t).decided (together (outcomes w ts)).decided (outcome w t).data_uses (together (outcomes w ts)).data_uses (met s t) (demanded a links (term_of w n t)) (all_demanded a links (terms_of w n ts))
+        (tree_needs w n s links l full t).found (tree_order t (need_front a links (names s t) (all_names (names_each s ts)) h)) (all_order ts (need_behind a links (names s t) (all_names (names_each s ts)) h))
 
-    name_order : (ts : Trees) → NeedNothing a links (module_selectors s computing.Import (scan_each s ts) (selectors_each s ts)) → InOrder (together (with_name (outcomes w ts))).decided (together (with_name (outcomes w ts))).data_uses (all_demanded a links (terms_of w n ts))
+    name_order : (ts : Trees) → NeedNothing a links (module_names computing.Import (scan_each s ts) (names_each s ts)) → InOrder (together (with_name (outcomes w ts))).decided (together (with_name (outcomes w ts))).data_uses (all_demanded a links (terms_of w n ts))
     name_order NoTree h = part_none
     name_order (AndTree t ts) h =
         let o = outcome w t in
-        named_order o.decided o.control_uses o.data_uses (together (outcomes w ts)).decided (together (outcomes w ts)).data_uses (term_of w n t) (scan s t) (selectors s t) (all_selectors (scan_each s ts) (selectors_each s ts)) (demanded a links (term_of w n t)) (all_demanded a links (terms_of w n ts)) refl
-        (tree_means w n s l.denote full t) (tree_right w n l.denote t).0 h (all_order ts)
+        named_order o.decided o.control_uses o.data_uses (together (outcomes w ts)).decided (together (outcomes w ts)).data_uses (term_of w n t) (scan s t) (all_names (names_each s ts)) (demanded a links (term_of w n t)) (all_demanded a links (terms_of w n ts)) refl
+        (tree_means w n s l.denote full t) h (all_order ts)

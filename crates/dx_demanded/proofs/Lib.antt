@@ -9,6 +9,7 @@ pub mod Halted
 pub mod HaltsGot
 pub mod HaltsStay
 pub mod Kept
+pub mod NamesReady
 pub mod Parts
 pub mod Performed
 pub mod Picks

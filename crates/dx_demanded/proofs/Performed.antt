@@ -1,5 +1,5 @@
 -- The runs of an execution are some of the uses that it demands, in their order.
-use Rattle.std.proofs.Common.{◌≡◌, ◌⊎◌, inl, inr, List, [], ◌∷◌, ◌++◌, Bool, true, false, refl, sym, ap, ◌∙◌, subst, append-nil}
+use Rattle.std.proofs.Common.{◌≡◌, ℕ, ◌⊎◌, inl, inr, List, [], ◌∷◌, ◌++◌, Bool, true, false, refl, sym, ap, ◌∙◌, subst, append-nil}
 use Rattle.std.specs.Prelude.{if◌then◌else◌}
 use Rattle.dx_base.specs.declared.code.Code.{Code}
 use Rattle.dx_base.specs.declared.function.Effect.{Effect}
@@ -12,28 +12,26 @@ use Rattle.dx_links.specs.Denotes.{Around}
 use Rattle.dx_cache.specs.Cached.{IsPartOf, part_none, part_keep, part_skip}
 use Rattle.dx_machine.specs.Machine.{Task, Cleared, FormedCall, Frame, State, state_at, tasks_of, runs_in, get, get_all}
 use Rattle.dx_machine.specs.Sound.{HaveAttributes, IsSound}
-use Rattle.dx_machine.specs.Agree.{Demanded, all_demanded}
 use Rattle.dx_machine.proofs.Grows.{tasks-append}
 use Rattle.dx_machine.proofs.Keeping.{getting_all_keeps}
 use Rattle.dx_meaning.specs.Outcome.{Value, Use, Decided, Val, ErrAt, Off, HaltAt, demand}
-use Rattle.dx_meaning.specs.Meaning.{outcome, outcomes, together}
+use Rattle.dx_meaning.specs.Meaning.{World, outcome, outcomes, together}
 use Rattle.dx_meaning.specs.Scan.{Scanned, Forms, Ends, scan}
 use Rattle.dx_meaning.specs.Forming.{after}
-use Rattle.dx_meaning.specs.Term.{term_of, terms_of}
+use Rattle.dx_meaning.specs.Term.{Names, around, term_of, terms_of}
 use Rattle.dx_performing.specs.Acts.{Act, Prints, Puts, Sets, Refuses, act, is_refusal}
 use Rattle.dx_performing.specs.Execution.{Execution, execution, performing, deciding}
 use Rattle.dx_performing.specs.Kept.{Kept, is_full}
 use Rattle.dx_performing.specs.Course.{Fixed, At, Came, world_of, around_of, sight_of, frame_with, begins, formed_calls, as_terms, look_at, get_scanned, effect_got, came, ends_by, worked, unless, course, committed, clearing}
 use Rattle.dx_performing.specs.Meant.{IsHalted, Means, CameSo, LinksRight}
-use Rattle.dx_performing.specs.Selectors.{selectors, selectors_all}
+use Rattle.dx_performing.specs.Selectors.{selectors_all}
 use Rattle.dx_performing.specs.SoundEntries.{AreLawfulCalls}
 use Rattle.dx_performing.proofs.EntriesSound.{StandsSound}
 use Rattle.dx_performing.proofs.Executed.{names_of, full, denote}
 use Rattle.dx_performing.proofs.Meant.{tree_means, all_means, effect_comes}
-use Rattle.dx_demanded.specs.Ordered.{asked, RanPart, AreReady, SelectorsInOrder, TermsInOrder, ExecutionsInOrder}
-use Rattle.dx_demanded.specs.Used.{IsUsed, AreUsed, tasks_in, RunsAreDemanded}
-use Rattle.dx_demanded.proofs.ControlOrder.{GetsData, selectors_got, all_got, data_gets, all_in_order, all_order_ran}
-use Rattle.dx_demanded.proofs.DataOrder.{InOrder}
+use Rattle.dx_demanded.specs.Ordered.{asked, RanPart, AreReady, SelectorsInOrder, TermsInOrder, ExecutionsInOrder, names}
+use Rattle.dx_demanded.specs.Used.{IsUsed, AreUsed, RunsAreDemanded}
+use Rattle.dx_demanded.proofs.ControlOrder.{GetsData, frame, AllRan, selectors_got, all_got, named_gets, all_data_ran}
 use Rattle.dx_demanded.proofs.Kept.{terms_in, are_links}
 use Rattle.dx_demanded.proofs.Parts.{asked_append, ran_none, ran_then, then_ran}
 use Rattle.dx_demanded.proofs.Ready.{all_got_ready}
@@ -58,8 +56,8 @@ terms_in_order x k formed t u s r f h e ready =
     let n = names_of k in
     let sight = sight_of x k in
     let l = are_links x k r in
-    data_ran (around_of x k) (frame_with x k formed) (outcome w t).decided (selectors sight t) (outcome w t).data_uses (term_of w n t) u (scan sight t) s (tree_means w n sight l.denote (full x k) t) e h ready
-    (data_gets w n sight (terms_in k.links) l (full x k) formed f x.budget t)
+    data_ran (around_of x k) (frame_with x k formed) (outcome w t).decided (names sight t) (outcome w t).data_uses (term_of w n t) u (scan sight t) s (tree_means w n sight l.denote (full x k) t) e h ready
+    (named_gets w n sight (terms_in k.links) l (full x k) formed f x.budget t)
 
 -- ---- an effect
 
@@ -68,11 +66,11 @@ halted_ran a k rs site code (Forms ts) s h = absurd h
 halted_ran a k rs site code (Ends e) s h = ran_none s rs
 
 -- the arguments, behind the selectors
-arguments_ran : (k : Frame) (us : List Use) (d : Decided Values) (ts : ValueTerms) (x : Scanned ValueTerms) (s : State) (needed : Demanded) → Means k.around d ts x → InOrder d us needed → (IsPartOf (runs_in (tasks_in needed)) (asked us) → RanPart s (asked us) (state_at (get_all k ts s))) → RanPart s (asked us) (state_at (get_scanned k x s))
-arguments_ran k us Off ts x s needed m p f = subst (λ y. RanPart s (asked us) (state_at (get_scanned k y s))) (sym m) (ran_none s (asked us))
-arguments_ran k us (HaltAt site code) ts x s needed m p f = halted_ran k.around k (asked us) site code x s m
-arguments_ran k us (ErrAt site code) ts x s needed m p f = subst (λ y. RanPart s (asked us) (state_at (get_scanned k y s))) (sym m) (f p)
-arguments_ran k us (Val vs) ts x s needed m p f = subst (λ y. RanPart s (asked us) (state_at (get_scanned k y s))) (sym m) (f p)
+arguments_ran : (w : World) (n : Names) (links : List ValueTerm) (formed : List FormedCall) (budget : ℕ) (us : List Use) (d : Decided Values) (ts : ValueTerms) (x : Scanned ValueTerms) (s : State) → Means (around w n) d ts x → AllRan (frame w n links formed budget) d us ts s → RanPart s (asked us) (state_at (get_scanned (frame w n links formed budget) x s))
+arguments_ran w n links formed budget us Off ts x s m p = subst (λ y. RanPart s (asked us) (state_at (get_scanned (frame w n links formed budget) y s))) (sym m) (ran_none s (asked us))
+arguments_ran w n links formed budget us (HaltAt site code) ts x s m p = halted_ran (around w n) (frame w n links formed budget) (asked us) site code x s m
+arguments_ran w n links formed budget us (ErrAt site code) ts x s m p = subst (λ y. RanPart s (asked us) (state_at (get_scanned (frame w n links formed budget) y s))) (sym m) p
+arguments_ran w n links formed budget us (Val vs) ts x s m p = subst (λ y. RanPart s (asked us) (state_at (get_scanned (frame w n links formed budget) y s))) (sym m) p
 
 effect_ran : (x : Fixed) (k : Kept) → LinksRight (around_of x k) k.links → (formed : List FormedCall) (args : Trees) (s : State) → HaveAttributes formed → IsSound (around_of x k) x.budget s →
     RanPart s (asked (demand (together (outcomes (world_of x k) args)))) (state_at (effect_got (frame_with x k formed) (look_at (sight_of x k) args) s))
@@ -91,8 +89,7 @@ effect_ran x k r formed args s f h =
     (λ s1 e.
     let i = subst (λ g. IsSound a x.budget (state_at g)) e (getting_all_keeps frame (as_terms own) s f h) in
     let ready = all_got_ready frame own s s1 e in
-    arguments_ran frame o.data_uses o.decided (terms_of w n args) (look_at sight args).terms s1 (all_demanded a (links ++ own) (terms_of w n args)) (all_means w n sight l.denote (full x k) args) (all_in_order w n sight links l (full x k) formed f x.budget args s1 i ready)
-    (all_order_ran w n sight links l (full x k) formed f x.budget own o.data_uses (terms_of w n args) s1 i ready)))
+    arguments_ran w n links formed x.budget o.data_uses o.decided (terms_of w n args) (look_at sight args).terms s1 (all_means w n sight l.denote (full x k) args) (all_data_ran w n sight links l (full x k) formed f x.budget args s1 i ready)))
 
 -- ---- an execution
 

@@ -12,9 +12,9 @@ pub fn runs_are_demanded()
     ensures trees { TermsUseDemand }
 {}
 
-/// They come in the order in which the meaning demands them. Getting the selectors of a tree, in any sound state, runs some of
-/// its uses of control in their order; where these are ready, the names of Imports among them, getting the tree's term runs some
-/// of its uses of data in their order; and so an execution runs some of all the uses that it demands.
+/// They come in the order in which the meaning demands them. In any sound state getting the selectors of a tree runs some of its
+/// uses of control in their order; where the names of Imports are ready, getting the tree's term runs some of its uses of data in
+/// their order; and so an execution runs some of all the uses that it demands.
 pub fn runs_come_in_order()
     ensures selectors { SelectorsInOrder }
     ensures terms { TermsInOrder }
