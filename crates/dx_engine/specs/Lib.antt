@@ -1,0 +1,4 @@
+pub mod Shortened
+pub mod Gathering
+pub mod Doing
+pub mod Running
