@@ -1,6 +1,6 @@
 -- Getting the values of terms in order.
-use Rattle.std.proofs.Common.{true≢false, ◌≡◌, List, [], ◌∷◌, Bool, true, false, Option, Some, None, refl, sym, ap, ◌∙◌, subst}
-use Rattle.std.specs.Prelude.{◌||◌, Result, Ok, Err}
+use Rattle.std.proofs.Common.{◌≡◌, List, [], ◌∷◌, true, Option, None, refl, sym, ap, ◌∙◌, subst}
+use Rattle.std.specs.Prelude.{◌||◌, Ok, Err}
 use Rattle.dx_base.specs.Object.{Tree as Object}
 use Rattle.dx_base.specs.declared.code.Code.{Code}
 use Rattle.dx_ast.specs.Value.{value_of}

@@ -1,7 +1,6 @@
 -- The next of some inputs, and where looking at it begins.
 use Rattle.std.proofs.Common.{◌≡◌, ℕ, ◌+◌, ◌<◌, ◌≤◌, List, length, drop, get_or, Option, Some, sym, ap, ◌∙◌, subst}
 use Rattle.std.proofs.lemmas.List.{at_drop_more, at_drop_all}
-use Rattle.dx_graph.specs.Unfolding.{calls_of, trees_of}
 use Rattle.dx_graph.specs.declared.node.Input.{Input}
 use Rattle.dx_io.specs.Devices.{FileMap as InputFiles}
 use Rattle.std.specs.Prelude.{Result}
@@ -14,7 +13,7 @@ use Rattle.dx_meaning.specs.Forming.{Formings}
 use Rattle.dx_performing.specs.Course.{Fixed, around_of}
 use Rattle.dx_performing.specs.Kept.{Kept}
 use Rattle.dx_performing.specs.Meant.{LinksRight}
-use Rattle.dx_looking.specs.Setting.{nodes_in, fixed}
+use Rattle.dx_looking.specs.Setting.{fixed}
 use Rattle.dx_looking.specs.Looking.{FromHere, StandsAt, LooksSo, input_tree}
 use Rattle.dx_looking.specs.declared.cut.Cut.{Cut}
 use Rattle.dx_looking.specs.declared.looked.Looked.{Looked}

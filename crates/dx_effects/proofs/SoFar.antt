@@ -1,15 +1,14 @@
 -- Looking at some arguments in order, as far as it has come.
-use Rattle.std.proofs.Common.{◌≡◌, ℕ, List, [], ◌∷◌, ◌++◌, length, map, Bool, true, false, refl, sym, ap, ◌∙◌, subst, append_assoc, append-nil}
+use Rattle.std.proofs.Common.{◌≡◌, ℕ, List, [], ◌∷◌, ◌++◌, length, map, true, refl, sym, ap, ◌∙◌, subst, append-nil}
 use Rattle.std.specs.Prelude.{Ok, Err, ◌||◌}
 use Rattle.dx_base.specs.declared.code.Code.{Code}
 use Rattle.dx_cache.proofs.Places.{cases}
 use Rattle.dx_macros.specs.Tree.{Tree, Trees, NoTree, AndTree}
-use Rattle.dx_tags.specs.declared.term.Term.{Term}
 use Rattle.dx_tags.specs.declared.term.ValueTag.{ValueTag}
 use Rattle.dx_tags.specs.Closed.{ValueTerm, ValueTerms, NoTerm, AndTerm, CallTerm, Head, heads_of, value_term, value_terms, GoesOn, AreEarlier}
 use Rattle.dx_tags.proofs.Growth.{values_on}
 use Rattle.dx_links.specs.Getting.{same_call}
-use Rattle.dx_machine.specs.Machine.{FormedCall, Frame, State, Got, Went, Stopped, and_then, state_at, tasks_of, get, get_all}
+use Rattle.dx_machine.specs.Machine.{FormedCall, Frame, State, Got, Went, Stopped, and_then, tasks_of, get, get_all}
 use Rattle.dx_machine.specs.Covered.{is_formed}
 use Rattle.dx_machine.proofs.Grows.{all_grow}
 use Rattle.dx_getting.specs.Told.{Told}
@@ -31,7 +30,7 @@ use Rattle.dx_looking.specs.declared.looked.Refusal.{Refusal}
 use Rattle.dx_looking.specs.declared.setup.Setup.{Setup}
 use Rattle.dx_looking.specs.declared.progress.Progress.{Progress}
 use Rattle.dx_looking.proofs.Cutting.{cut_now}
-use Rattle.dx_effects.specs.AllLooking.{LookedSo, AllLookSo}
+use Rattle.dx_effects.specs.AllLooking.{AllLookSo}
 use Rattle.dx_effects.specs.declared.looked.AllLooked.TheVariants as all
 
 -- ---- what was formed first stays, however more is formed behind it
@@ -127,9 +126,9 @@ module _ (setup : Setup) (x : Fixed) (k : Kept) (base : Told) where
   done whole s f ts at now so = (
     so.scans ∙ ahead_none (value_terms (heads_of at.tags) ts),
     λ later same.
-    let r = so.gets later same in
-    subst (GoesTo (λ s'. StandsAt setup x k base at now s' (after (look whole).forms f))) (sym r.goes)
-    (subst (λ h. StandsAt setup x k base at now r.state h) (sym so.forms) r.stands),
+        let r = so.gets later same in
+        subst (GoesTo (λ s'. StandsAt setup x k base at now s' (after (look whole).forms f))) (sym r.goes)
+        (subst (λ h. StandsAt setup x k base at now r.state h) (sym so.forms) r.stands),
   )
 
   pub cut_so_far : (whole rest : Trees) (s : State) (f : Formings) (ts : List ValueTag) (at : Progress) (now : Told) (cut : Cut) → SoFar whole rest s f ts at now → AllLookSo setup x k base whole s f (Err cut) at now

@@ -15,7 +15,7 @@ use Rattle.dx_machine.proofs.Keeping.{getting_all_keeps}
 use Rattle.dx_getting.specs.All.{GetsAll}
 use Rattle.dx_getting.specs.Told.{Told}
 use Rattle.dx_getting.proofs.Getting.{earlier_at}
-use Rattle.dx_getting.specs.Stands.{Stands, WentTo, FailsAt, MayGetValue, frame_of, around_of, world}
+use Rattle.dx_getting.specs.Stands.{Stands, WentTo, FailsAt, MayGetValue, frame_of, world}
 use Rattle.dx_getting.specs.Steps.{AreCalls}
 use Rattle.dx_getting.specs.declared.fail.GetFail.{GetFail}
 use Rattle.dx_getting.specs.declared.fail.GetFail.TheVariants.{Refused, ReadFault, Memory}
@@ -30,8 +30,7 @@ use Rattle.dx_performing.specs.Course.{Fixed, frame_with, with_values}
 use Rattle.dx_performing.specs.Course as course
 use Rattle.dx_performing.specs.Meant.{LinksRight}
 use Rattle.dx_looking.specs.Setting.{setting_in, told_terms}
-use Rattle.dx_looking.specs.Looking.{IsLooking, AllReady, StandsAt, GoesTo, StopsAt, IsCutIn}
-use Rattle.dx_looking.specs.declared.looked.Refusal.{Refusal}
+use Rattle.dx_looking.specs.Looking.{IsLooking, StandsAt, GoesTo, StopsAt, IsCutIn}
 use Rattle.dx_looking.specs.declared.setup.Setup.{Setup}
 use Rattle.dx_looking.specs.declared.progress.Progress.{Progress}
 use Rattle.dx_looking.proofs.Bridge.{may_get, around_same, gets_all_same, attributes_of}

@@ -1,10 +1,10 @@
 -- What the arguments of an effect come to, from what looking at them comes to.
-use Rattle.std.proofs.Common.{◌≡◌, ℕ, List, refl, sym, ap, ◌∙◌, subst}
+use Rattle.std.proofs.Common.{◌≡◌, ℕ, List, sym, ap, ◌∙◌, subst}
 use Rattle.std.specs.Prelude.{Result, Ok, Err}
 use Rattle.dx_base.specs.declared.code.Code.{Code}
 use Rattle.dx_tags.specs.declared.term.ValueTag.{ValueTag}
 use Rattle.dx_tags.specs.Closed.{ValueTerms, heads_of, value_terms}
-use Rattle.dx_machine.specs.Machine.{FormedCall, Frame, State, Got, Went, Stopped, and_then, get_all}
+use Rattle.dx_machine.specs.Machine.{FormedCall, Frame, State, Got, Went, and_then, get_all}
 use Rattle.dx_getting.specs.Told.{Told}
 use Rattle.dx_getting.proofs.Getting.{then_went}
 use Rattle.dx_meaning.specs.Scan.{Stop, Scanned, Forms, Ends}
@@ -65,12 +65,11 @@ module _ (setup : Setup) (x : Fixed) (k : Kept) (base : Told) (looked : Looked) 
     pub taken : (r : Result Arguments Cut) (at' : Progress) (now' : Told) → ((s1 : State) → StandsAt setup x k base at now s1 (after looked.forms f) → TermsSo setup x k base terms s1 (after looked.forms f) r at' now') → Comes r at' now'
     taken (Ok how) at' now' got =
         let formed = formed_calls (after looked.forms f) in
-        let here = reached formed (same_itself formed) in
-        (
+        let here = reached formed (same_itself formed) in (
           subst (MeanSo (around_of x k) (nodes_in setup) at'.tags how) (sym h.0) (got here.0 here.2).0,
           λ later same.
-          let r = reached later same in
-          subst (EndSo at'.tags how (λ s'. StandsAt setup x k base at' now' s' (after looked.forms f))) (sym (goes later r.0 r.1)) ((got r.0 r.2).1 later same),
+              let r = reached later same in
+              subst (EndSo at'.tags how (λ s'. StandsAt setup x k base at' now' s' (after looked.forms f))) (sym (goes later r.0 r.1)) ((got r.0 r.2).1 later same),
         )
     taken (Err cut) at' now' got = λ later same.
         let r = reached later same in

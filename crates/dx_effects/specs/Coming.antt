@@ -16,7 +16,7 @@ use Rattle.dx_meaning.specs.Forming.{Formings, after}
 use Rattle.dx_demand.specs.Terms.{AreArguments}
 use Rattle.dx_demand.specs.Memo.{formed_of, selector_of, site_of}
 use Rattle.dx_demand.specs.Found.{AllFound}
-use Rattle.dx_performing.specs.Course.{Fixed, Came, HasValues, IsRefused, Looked, around_of, sight_of, look_at, effect_got, came}
+use Rattle.dx_performing.specs.Course.{Fixed, HasValues, IsRefused, around_of, sight_of, look_at, effect_got, came}
 use Rattle.dx_performing.specs.Kept.{Kept}
 use Rattle.dx_looking.specs.Setting.{nodes_in}
 use Rattle.dx_looking.specs.Looking.{StandsAt, HoweverFormed, GoesTo, StopsAt, IsCutIn}

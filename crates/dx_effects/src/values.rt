@@ -47,13 +47,6 @@ pub(crate) fn got_values<F: Files, L: Library>(
         graph: setup.graph,
         seen: &at.seen,
     };
-    let got = get_all(
-        terms.as_slice(),
-        &scene,
-        &calls,
-        &mut at.work,
-        files,
-        lib,
-    );
+    let got = get_all(terms.as_slice(), &scene, &calls, &mut at.work, files, lib);
     came_of(terms, got)
 }

@@ -1,8 +1,8 @@
-use Rattle.std.proofs.Common.{◌≡◌, ℕ, List, length, All, sym, ap, ◌∙◌, subst}
+use Rattle.std.proofs.Common.{length, All, sym, ap, ◌∙◌, subst}
 use Rattle.std.specs.Prelude.{Ok}
 use Rattle.dx_graph.specs.Graph.{MayTake}
 use Rattle.dx_graph.specs.declared.node.Node.{Node}
-use Rattle.dx_tags.specs.Closed.{heads_of, value_terms, GoesOn}
+use Rattle.dx_tags.specs.Closed.{heads_of, value_terms}
 use Rattle.dx_getting.specs.Told.{told}
 use Rattle.dx_meaning.specs.Forming.{after}
 use Rattle.dx_performing.specs.Course.{sight_of, look_at}
@@ -11,7 +11,6 @@ use Rattle.dx_effects.specs.AllLooking.{AllLookSo, input_trees}
 use Rattle.dx_effects.specs.Coming.{TermsSo, node_trees}
 use Rattle.dx_effects.proofs.NextInput.{by_budget}
 use Rattle.dx_effects.proofs.NodeInputs.{inputs_taken}
-use Rattle.dx_effects.proofs.ValuesCome.{on_any}
 use Rattle.dx_effects.proofs.WholeEffect.{cut_looking, off, halt, refused, taken}
 use Rattle.dx_effects.proofs.effect.arguments_of.Goals as goal
 

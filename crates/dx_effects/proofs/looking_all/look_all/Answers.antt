@@ -1,4 +1,4 @@
-use Rattle.std.proofs.Common.{◌≡◌, ◌∙◌, ◌<◌, ◌≤◌, ℕ, ◌+◌, List, [], length, drop, get_or, refl, sym, ap, subst, arith}
+use Rattle.std.proofs.Common.{◌∙◌, ◌≤◌, ◌+◌, length, drop, refl, sym, ap, subst, arith}
 use Rattle.std.specs.Prelude.{Ok, Err}
 use Rattle.std.proofs.lemmas.Result.{err_from_is_err_and}
 use Rattle.dx_tags.proofs.Growth.{goes_on_same, goes_on_then}
@@ -129,7 +129,7 @@ loop-i-preserved g c =
           (all_found_grows c.loop-i.at.tags c.look.new.at.tags on c.args.setup.now.links.now.links (formed_of c.loop-i.at.seen.memo) (formed_of c.look.new.at.seen.memo) c.in_ok-t.ensures.first c.loop-i.terms c.loop-i.invariant.arguments.earlier c.loop-i.invariant.found)
           fits.1);
       so_far =
-      λ map told_map k links base s f st.
+          λ map told_map k links base s f st.
           let setup = c.args.setup.now in
           let inputs = c.args.inputs.now in
           let i = c.loop-i.i-index in

@@ -1,4 +1,4 @@
-use Rattle.std.proofs.Common.{◌≡◌, ◌≤◌, ℕ, drop}
+use Rattle.std.proofs.Common.{◌≡◌, ◌≤◌, drop}
 use Rattle.dx_tags.specs.Closed.{GoesOn}
 use Rattle.dx_getting.specs.Told.{told}
 use Rattle.dx_demand.specs.Terms.{AreArguments}

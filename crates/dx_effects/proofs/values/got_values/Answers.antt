@@ -1,4 +1,4 @@
-use Rattle.std.proofs.Common.{◌≡◌, sym, ap, ◌∙◌, subst}
+use Rattle.std.proofs.Common.{sym, ap, ◌∙◌, subst}
 use Rattle.std.specs.Prelude.{slice_get, IfOk}
 use Rattle.dx_tags.specs.Closed.{heads_of, value_terms}
 use Rattle.dx_tags.specs.Whole.{HaveNoFile}
@@ -37,4 +37,4 @@ returns-clause-comes g c =
     let gets = c.get_all-got.ensures.gets map told_map (links_denote setup at c.requires.looking x k st.kept right) base s st.work in
     subst (λ r. TermsSo setup x k base (value_terms (heads_of at.tags) c.args.terms) s f r (with_work at c.get_all-got.new.work) now') (sym c.came_of.ensures)
     (values_come setup x k right base now now' at s f c.requires.looking st c.args.terms c.requires.arguments c.requires.found c.get_all-got.new.work c.get_all-got.result
-        (subst (λ ts. GetsAll (setting_in setup at) (world g.L.Library.answer map) base ts c.get_all-got.result (get_all (frame_of (setting_in setup at) (world g.L.Library.answer map) at.work.cache.budget) (value_terms (heads_of at.tags) ts) s) c.get_all-got.new.work now') c.as_slice.ensures gets))
+    (subst (λ ts. GetsAll (setting_in setup at) (world g.L.Library.answer map) base ts c.get_all-got.result (get_all (frame_of (setting_in setup at) (world g.L.Library.answer map) at.work.cache.budget) (value_terms (heads_of at.tags) ts) s) c.get_all-got.new.work now') c.as_slice.ensures gets))
