@@ -5,7 +5,7 @@ use Rattle.dx_base.specs.declared.code.Code.{Code}
 use Rattle.dx_base.specs.declared.function.Effect.{Effect}
 use Rattle.dx_base.specs.declared.function.Function.TheVariants as function
 use Rattle.dx_io.specs.Devices.{Grows, GrowsInto, Writes}
-use Rattle.dx_graph.specs.Graph.{node_at}
+use Rattle.dx_graph.specs.Graph.{Node, node_at}
 use Rattle.dx_macros.specs.Site.{Step}
 use Rattle.dx_macros.specs.Tree.{Place, CallTree, TreeCall, Trees}
 use Rattle.dx_tags.specs.declared.term.Term.{Term}
@@ -70,20 +70,19 @@ behind_worked false now later n = n
 worked_more : (x : Fixed) (k : Kept) (e : Effect) (p : Place) (looked : Looked) (at : At) → MoreRuns at.state (worked x k e p looked at).state
 worked_more x k e p looked at = let g = effect_grows (frame_with x k (formed_calls (worked x k e p looked at).formings)) looked at.state in record { more = g.more; runs = g.runs }
 
-mutual
-  pub course_more : (x : Fixed) (k : Kept) (cs : List CallTree) (at : At) → MoreRuns at.state (course x k cs at).state
-  course_more x k [] at = more_none at.state
-  course_more x k (c ∷ cs) at = call_more x k c cs at
+call_more : (x : Fixed) (k : Kept) (c : CallTree) (rest : At → At) → ((at : At) → MoreRuns at.state (rest at).state) → (at : At) → MoreRuns at.state (call_course x k c rest at).state
+call_more x k (TreeCall (function.Effect e) p args) rest h at =
+    let now = worked x k e p (look_at (sight_of x k) args) at in
+    unless_more at.state (ends_by e p (came (around_of x k) (look_at (sight_of x k) args).terms)) now (rest now) (worked_more x k e p (look_at (sight_of x k) args) at) (h now)
+call_more x k (TreeCall (function.Module m) p args) rest h at = h at
+call_more x k (TreeCall function.Switch p args) rest h at = h at
+call_more x k (TreeCall function.Route p args) rest h at = h at
+call_more x k (TreeCall function.GetLocal p args) rest h at = h at
+call_more x k (TreeCall function.GetGlobal p args) rest h at = h at
 
-  call_more : (x : Fixed) (k : Kept) (c : CallTree) (cs : List CallTree) (at : At) → MoreRuns at.state (call_course x k c (course x k cs) at).state
-  call_more x k (TreeCall (function.Effect e) p args) cs at =
-      let now = worked x k e p (look_at (sight_of x k) args) at in
-      unless_more at.state (ends_by e p (came (around_of x k) (look_at (sight_of x k) args).terms)) now (course x k cs now) (worked_more x k e p (look_at (sight_of x k) args) at) (course_more x k cs now)
-  call_more x k (TreeCall (function.Module m) p args) cs at = course_more x k cs at
-  call_more x k (TreeCall function.Switch p args) cs at = course_more x k cs at
-  call_more x k (TreeCall function.Route p args) cs at = course_more x k cs at
-  call_more x k (TreeCall function.GetLocal p args) cs at = course_more x k cs at
-  call_more x k (TreeCall function.GetGlobal p args) cs at = course_more x k cs at
+pub course_more : (x : Fixed) (k : Kept) (cs : List CallTree) (at : At) → MoreRuns at.state (course x k cs at).state
+course_more x k [] at = more_none at.state
+course_more x k (c ∷ cs) at = call_more x k c (course x k cs) (course_more x k cs) at
 
 -- ---- changes as terms grow
 
@@ -101,34 +100,34 @@ sets_append hs (c ∷ a) b = ap (λ rest. record { key = c.key; link = option_ma
 
 -- ---- what an effect adds to an execution
 
-pub ahead_printed : {nodes : _} (site : List Step) (d : Done) (x : Execution) → is_end d ≡ false → (ahead nodes site d x).printed ≡ text_in d ++ x.printed
-ahead_printed site (done.Prints text) x e = refl
-ahead_printed site (done.Puts name object) x e = refl
-ahead_printed site (done.Sets c) x e = refl
-ahead_printed site done.PassedOver x e = refl
-ahead_printed site (done.Ends n code) x e = cc
+pub ahead_printed : (nodes : List Node) (site : List Step) (d : Done) (x : Execution) → is_end d ≡ false → (ahead nodes site d x).printed ≡ text_in d ++ x.printed
+ahead_printed nodes site (done.Prints text) x e = refl
+ahead_printed nodes site (done.Puts name object) x e = refl
+ahead_printed nodes site (done.Sets c) x e = refl
+ahead_printed nodes site done.PassedOver x e = refl
+ahead_printed nodes site (done.Ends n code) x e = cc
 
-pub ahead_exports : {nodes : _} (site : List Step) (d : Done) (x : Execution) → is_end d ≡ false → (ahead nodes site d x).exports ≡ puts_in d ++ x.exports
-ahead_exports site (done.Prints text) x e = refl
-ahead_exports site (done.Puts name object) x e = refl
-ahead_exports site (done.Sets c) x e = refl
-ahead_exports site done.PassedOver x e = refl
-ahead_exports site (done.Ends n code) x e = cc
+pub ahead_exports : (nodes : List Node) (site : List Step) (d : Done) (x : Execution) → is_end d ≡ false → (ahead nodes site d x).exports ≡ puts_in d ++ x.exports
+ahead_exports nodes site (done.Prints text) x e = refl
+ahead_exports nodes site (done.Puts name object) x e = refl
+ahead_exports nodes site (done.Sets c) x e = refl
+ahead_exports nodes site done.PassedOver x e = refl
+ahead_exports nodes site (done.Ends n code) x e = cc
 
-pub ahead_error : {nodes : _} (site : List Step) (d : Done) (x : Execution) → is_end d ≡ false → (ahead nodes site d x).error ≡ x.error
-ahead_error site (done.Prints text) x e = refl
-ahead_error site (done.Puts name object) x e = refl
-ahead_error site (done.Sets c) x e = refl
-ahead_error site done.PassedOver x e = refl
-ahead_error site (done.Ends n code) x e = cc
+pub ahead_error : (nodes : List Node) (site : List Step) (d : Done) (x : Execution) → is_end d ≡ false → (ahead nodes site d x).error ≡ x.error
+ahead_error nodes site (done.Prints text) x e = refl
+ahead_error nodes site (done.Puts name object) x e = refl
+ahead_error nodes site (done.Sets c) x e = refl
+ahead_error nodes site done.PassedOver x e = refl
+ahead_error nodes site (done.Ends n code) x e = cc
 
 -- the text of an effect is a front of what is printed from it on
-pub ahead_front : {nodes : _} (site : List Step) (d : Done) (x : Execution) → (rest : List ℕ) × ((ahead nodes site d x).printed ≡ text_in d ++ rest)
-ahead_front site (done.Prints text) x = (x.printed, refl)
-ahead_front site (done.Puts name object) x = (x.printed, refl)
-ahead_front site (done.Sets c) x = (x.printed, refl)
-ahead_front site done.PassedOver x = (x.printed, refl)
-ahead_front site (done.Ends n code) x = ([], refl)
+pub ahead_front : (nodes : List Node) (site : List Step) (d : Done) (x : Execution) → (rest : List ℕ) × ((ahead nodes site d x).printed ≡ text_in d ++ rest)
+ahead_front nodes site (done.Prints text) x = (x.printed, refl)
+ahead_front nodes site (done.Puts name object) x = (x.printed, refl)
+ahead_front nodes site (done.Sets c) x = (x.printed, refl)
+ahead_front nodes site done.PassedOver x = (x.printed, refl)
+ahead_front nodes site (done.Ends n code) x = ([], refl)
 
 -- ---- on the course
 
@@ -138,13 +137,13 @@ pub record OnCourse (setup : Setup) (x : Fixed) (k : Kept) (base : Told) (all re
   pub stands : StandsAt setup x k base at now state formed
   pub course : course x k all (from_state s f) ≡ course x k rest (record { state = state; formings = formed; sets = set_terms_of (heads_of at.tags) g.changes })
   pub text : List ℕ
-  pub written : Grows before written text
+  pub wrote : Grows before written text
   pub printed : (execution (world_of x k) all).printed ≡ text ++ (execution (world_of x k) rest).printed
   pub exports : (execution (world_of x k) all).exports ≡ g.exports ++ (execution (world_of x k) rest).exports
   pub error : (execution (world_of x k) all).error ≡ (execution (world_of x k) rest).error
 
 pub begun : (setup : Setup) (x : Fixed) (k : Kept) (base : Told) (all : List CallTree) (s : State) (f : Formings) (before : Option (List ℕ)) (at : Progress) (now : Told) → StandsAt setup x k base at now s f → OnCourse setup x k base all all s f before nothing at now before
-begun setup x k base all s f before at now st = record { state = s; formed = f; stands = st; course = refl; text = []; written = grows_nothing before; printed = refl; exports = refl; error = refl }
+begun setup x k base all s f before at now st = record { state = s; formed = f; stands = st; course = refl; text = []; wrote = grows_nothing before; printed = refl; exports = refl; error = refl }
 
 module _ (setup : Setup) (x : Fixed) (k : Kept) (base : Told) (all rest : List CallTree) (s : State) (f : Formings) (before : Option (List ℕ)) (g : Gathering) (at : Progress) (now : Told) (written : Option (List ℕ)) (n : ℕ) (e : Effect) (o : OnCourse setup x k base all (TreeCall (function.Effect e) (place_of_node setup n) (node_trees setup n) ∷ rest) s f before g at now written) where
   abbrev here : At
@@ -167,7 +166,7 @@ module _ (setup : Setup) (x : Fixed) (k : Kept) (base : Told) (all rest : List C
   cut_there now' h =
       let m = behind_worked ends behind (course x k rest behind) (course_more x k rest behind) in
       record {
-        printed = (o.text, (execution (world_of x k) (TreeCall (function.Effect e) place (node_trees setup n) ∷ rest)).printed, o.printed, o.written);
+        printed = (o.text, (execution (world_of x k) (TreeCall (function.Effect e) place (node_trees setup n) ∷ rest)).printed, o.printed, o.wrote);
         told = subst (λ (a : At). AddsSome base now' (tasks_of a.state.events)) (sym o.course) (some_later base now' (tasks_of behind.state.events) m.more (tasks_of (unless ends behind (course x k rest behind)).state.events) h m.runs);
       }
 
@@ -185,24 +184,24 @@ module _ (setup : Setup) (x : Fixed) (k : Kept) (base : Told) (all rest : List C
     pub cut_printing : (written' : Option (List ℕ)) → GrowsInto written written' (text_in d) → AreCutShort x k base all s f before now' written'
     cut_printing written' p =
         let m = behind_worked ends behind (course x k rest behind) (course_more x k rest behind) in
-        let a = ahead_front {nodes = nodes_in setup} place.site d (execution (world_of x k) rest) in
+        let a = ahead_front (nodes_in setup) place.site d (execution (world_of x k) rest) in
         record {
-          printed = (o.text ++ p.0, p.1 ++ a.0, o.printed ∙ ap (λ y. o.text ++ y) (decided ∙ a.1 ∙ ap (λ y. y ++ a.0) p.2 ∙ append_assoc p.0 p.1 a.0) ∙ sym (append_assoc o.text p.0 (p.1 ++ a.0)), grows_more before written written' o.text p.0 o.written p.3);
+          printed = (o.text ++ p.0, p.1 ++ a.0, o.printed ∙ ap (λ y. o.text ++ y) (decided ∙ a.1 ∙ ap (λ y. y ++ a.0) p.2 ∙ append_assoc p.0 p.1 a.0) ∙ sym (append_assoc o.text p.0 (p.1 ++ a.0)), grows_more before written written' o.text p.0 o.wrote p.3);
           told = subst (λ (y : At). AddsSome base now' (tasks_of y.state.events)) (sym o.course) (some_later base now' (tasks_of behind.state.events) m.more (tasks_of (unless ends behind (course x k rest behind)).state.events) (some_all base now' (tasks_of behind.state.events) [] (tasks_of behind.state.events) so.stands.work.told (sym (append-nil (tasks_of behind.state.events)))) m.runs);
         }
 
     -- it goes on with the others
     pub goes_on : is_end d ≡ false → (written' : Option (List ℕ)) → Grows written written' (text_in d) → OnCourse setup x k base all rest s f before (gathered_with d g) at' now' written'
-    goes_on no written' p = record {
+    goes_on none written' p = record {
       state = behind.state;
       formed = behind.formings;
       stands = so.stands;
-      course = o.course ∙ ap (λ b. unless b behind (course x k rest behind)) (so.ends ∙ no) ∙ ap (course x k rest) behind_is;
+      course = o.course ∙ ap (λ b. unless b behind (course x k rest behind)) (so.ends ∙ none) ∙ ap (course x k rest) behind_is;
       text = o.text ++ text_in d;
-      written = grows_more before written written' o.text (text_in d) o.written p;
-      printed = o.printed ∙ ap (λ y. o.text ++ y) (decided ∙ ahead_printed {nodes = nodes_in setup} place.site d (execution (world_of x k) rest) no) ∙ sym (append_assoc o.text (text_in d) (execution (world_of x k) rest).printed);
-      exports = o.exports ∙ ap (λ y. g.exports ++ y) (ap (λ (y : Execution). y.exports) (so.decides (execution (world_of x k) rest)) ∙ ahead_exports {nodes = nodes_in setup} place.site d (execution (world_of x k) rest) no) ∙ sym (append_assoc g.exports (puts_in d) (execution (world_of x k) rest).exports);
-      error = o.error ∙ ap (λ (y : Execution). y.error) (so.decides (execution (world_of x k) rest)) ∙ ahead_error {nodes = nodes_in setup} place.site d (execution (world_of x k) rest) no;
+      wrote = grows_more before written written' o.text (text_in d) o.wrote p;
+      printed = o.printed ∙ ap (λ y. o.text ++ y) (decided ∙ ahead_printed (nodes_in setup) place.site d (execution (world_of x k) rest) none) ∙ sym (append_assoc o.text (text_in d) (execution (world_of x k) rest).printed);
+      exports = o.exports ∙ ap (λ y. g.exports ++ y) (ap (λ (y : Execution). y.exports) (so.decides (execution (world_of x k) rest)) ∙ ahead_exports (nodes_in setup) place.site d (execution (world_of x k) rest) none) ∙ sym (append_assoc g.exports (puts_in d) (execution (world_of x k) rest).exports);
+      error = o.error ∙ ap (λ (y : Execution). y.error) (so.decides (execution (world_of x k) rest)) ∙ ahead_error (nodes_in setup) place.site d (execution (world_of x k) rest) none;
     }
 
 -- ---- behind the last effect
@@ -216,27 +215,27 @@ pub record IsDone (setup : Setup) (x : Fixed) (k : Kept) (base : Told) (all : Li
   pub stands : StandsAt setup x k base at now (course x k all (from_state s f)).state (course x k all (from_state s f)).formings
 
 pub done_so : (setup : Setup) (x : Fixed) (k : Kept) (base : Told) (all : List CallTree) (s : State) (f : Formings) (before : Option (List ℕ)) (g : Gathering) (at : Progress) (now : Told) (written : Option (List ℕ)) → g.error ≡ None → OnCourse setup x k base all [] s f before g at now written → IsDone setup x k base all s f before g at now written
-done_so setup x k base all s f before g at now written no o = record {
-  printed = subst (Grows before written) (sym (o.printed ∙ append-nil o.text)) o.written;
+done_so setup x k base all s f before g at now written none o = record {
+  printed = subst (Grows before written) (sym (o.printed ∙ append-nil o.text)) o.wrote;
   exports = sym (o.exports ∙ append-nil g.exports);
-  error = ap (error_of (nodes_in setup)) no ∙ sym o.error;
+  error = ap (error_of (nodes_in setup)) none ∙ sym o.error;
   sets = sym (ap (λ (a : At). a.sets) o.course);
   stands = subst (λ (a : At). StandsAt setup x k base at now a.state a.formings) (sym o.course) o.stands;
 }
 
 module _ (setup : Setup) (x : Fixed) (k : Kept) (base : Told) (all rest : List CallTree) (s : State) (f : Formings) (before : Option (List ℕ)) (g : Gathering) (at : Progress) (now : Told) (written : Option (List ℕ)) (n : ℕ) (e : Effect) (o : OnCourse setup x k base all (TreeCall (function.Effect e) (place_of_node setup n) (node_trees setup n) ∷ rest) s f before g at now written) (at' : Progress) (now' : Told) (on : GoesOn at.tags at'.tags) (fits : ChangesFit at.tags g.changes) where
   end_by : (d : Done) → DoneSo setup x k base n e o.state o.formed d at' now' → is_end d ≡ true → (written' : Option (List ℕ)) → Grows written written' (text_in d) → IsDone setup x k base all s f before (gathered_with d g) at' now' written'
-  end_by (done.Prints text) so yes written' p = cc
-  end_by (done.Puts name object) so yes written' p = cc
-  end_by (done.Sets c) so yes written' p = cc
-  end_by done.PassedOver so yes written' p = cc
-  end_by (done.Ends m code) so yes written' p =
+  end_by (done.Prints text) so is written' p = cc
+  end_by (done.Puts name object) so is written' p = cc
+  end_by (done.Sets c) so is written' p = cc
+  end_by done.PassedOver so is written' p = cc
+  end_by (done.Ends m code) so is written' p =
       let w = world_of x k in
       let b = behind setup x k base all rest s f before g at now written n e o in
       let there : course x k all (from_state s f) ≡ b = o.course ∙ ap (λ y. unless y b (course x k rest b)) so.ends in
       let ended = so.decides (execution w rest) in
       record {
-        printed = subst (Grows before written') (sym (o.printed ∙ ap (λ y. o.text ++ y) (ap (λ (y : Execution). y.printed) ended))) (grows_more before written written' o.text [] o.written p);
+        printed = subst (Grows before written') (sym (o.printed ∙ ap (λ y. o.text ++ y) (ap (λ (y : Execution). y.printed) ended))) (grows_more before written written' o.text [] o.wrote p);
         exports = sym (o.exports ∙ ap (λ y. g.exports ++ y) (ap (λ (y : Execution). y.exports) ended));
         error = sym (o.error ∙ ap (λ (y : Execution). y.error) ended);
         sets = sym (sets_behind setup x k base all rest s f before g at now written n e o (done.Ends m code) at' now' so on fits) ∙ sym (ap (λ (a : At). a.sets) there);

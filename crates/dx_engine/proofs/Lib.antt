@@ -1,1 +1,2 @@
 pub mod Coursing
+pub mod NextEffect

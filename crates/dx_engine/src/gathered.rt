@@ -1,8 +1,8 @@
 //! What the effects of an execution come to, until they are put and set.
-ghost use Rattle.std.specs.Prelude.{◌≡◌, OnOk, IfOk};
+ghost use Rattle.std.specs.Prelude.{◌≡◌, Err, OnOk, IfOk};
 ghost use Rattle.dx_io.specs.Devices.{Writes, Cause};
 ghost use Rattle.dx_engine.specs.Gathering.{text_in, gathers, nothing, gathered_with, is_end};
-ghost use Rattle.dx_engine.specs.declared.short.Short.TheVariants.{WriteFault};
+ghost use Rattle.dx_engine.specs.declared.short.Short.TheVariants.{ReadFault, WriteFault};
 
 use crate::done::Done;
 use crate::short::Short;
@@ -42,6 +42,7 @@ impl Gathered {
         ensures writes { Writes (O.written out.old) (O.written out.new) (text_in done) result }
         ensures gathered { OnOk result (gathers self.new ≡ gathered_with done (gathers self.old)) }
         ensures ends { IfOk result (λ ends. ends ≡ is_end done) }
+        ensures reads { ¬ (result ≡ Err ReadFault) }
         ensures cause { Cause WriteFault (O.faults out.old) (O.faults out.new) result }
     {
         match done {

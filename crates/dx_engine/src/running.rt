@@ -57,7 +57,11 @@ pub fn run_effects<F: Files, L: Library, O: Sink>(
     for n in setup.graph.effects() {
         let effect = effect_at(setup.graph, *n);
         let done = perform(*n, effect, setup, at, files, lib)?;
-        if gathered.take(setup.alloc, done, out)? {
+        let ends = match gathered.take(setup.alloc, done, out) {
+            Ok(ends) => ends,
+            Err(short) => return Err(short),
+        };
+        if ends {
             return Ok(gathered);
         }
     }
