@@ -2,3 +2,5 @@ pub mod Shortened
 pub mod Gathering
 pub mod Doing
 pub mod Running
+pub mod Keeping
+pub mod Beginning
