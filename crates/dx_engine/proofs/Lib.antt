@@ -1,2 +1,3 @@
 pub mod Coursing
 pub mod NextEffect
+pub mod Begun

@@ -1,5 +1,5 @@
 -- What the effects of an execution come to, from what is kept.
-use Rattle.std.specs.Prelude.{◌≡◌, ◌<◌, ℕ, List, map, length, Option, Some, None, Result, Ok, Err}
+use Rattle.std.specs.Prelude.{◌≡◌, ◌<◌, ℕ, List, [], map, length, Option, Some, None, Result, Ok, Err}
 use Rattle.dx_io.specs.Devices.{FileMap as InputFiles, Grows, GrowsInto}
 use Rattle.dx_graph.specs.Graph.{Node}
 use Rattle.dx_macros.specs.Tree.{CallTree}
@@ -20,6 +20,10 @@ use Rattle.dx_engine.specs.declared.gathered.Gathered.{Gathered}
 use Rattle.dx_engine.specs.declared.short.Short.{Short}
 use Rattle.dx_engine.specs.declared.state.State.{State}
 use Rattle.dx_base.specs.declared.code.Code.{Code}
+use Rattle.dx_tags.specs.declared.term.Term.{Term}
+use Rattle.dx_cache.specs.Cached.{Cached}
+use Rattle.dx_demand.specs.declared.seen.Seen.{Seen}
+use Rattle.dx_looking.specs.declared.progress.Progress.{Progress}
 
 -- for files that tell their content, and a sound state
 abbrev pub FromState : Answers → Option InputFiles → State → (Fixed → Type 0) → Type 0
@@ -59,3 +63,18 @@ NodeFits nodes (Some e) = e.0 < length nodes
 pub record GathersFit (nodes : List Node) (st : State) (g : Gathered) : Type 0 where
   pub error : NodeFits nodes g.error
   pub changes : ChangesFit st.tags g.changes
+
+-- ---- in code
+
+-- nothing was told, is known or happened yet
+pub record IsFresh (what : Seen) (terms : List Term) (entries : Cached) (at : Progress) : Type 0 where
+  pub tags : at.tags ≡ terms
+  pub seen : at.seen ≡ what
+  pub cache : at.work.cache ≡ entries
+  pub told : at.told ≡ []
+  pub known : at.work.known.calls ≡ []
+  pub events : at.work.events.items ≡ []
+
+-- the terms, the cache and the events are those of the work
+abbrev pub taken_back : State → Progress → State
+taken_back st at = record { tags = at.tags; links = st.links; bound = st.bound; held = st.held; cache = at.work.cache; written = st.written; events = at.work.events }

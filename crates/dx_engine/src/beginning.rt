@@ -6,7 +6,7 @@ ghost use Rattle.dx_graph.specs.Unfolding.{unfolded};
 ghost use Rattle.dx_tags.specs.Closed.{GoesOn};
 ghost use Rattle.dx_getting.specs.Told.{told};
 ghost use Rattle.dx_engine.specs.Keeping.{StateFits};
-ghost use Rattle.dx_engine.specs.Beginning.{FromState, GathersFit, EffectsSo};
+ghost use Rattle.dx_engine.specs.Beginning.{IsFresh, taken_back, FromState, GathersFit, EffectsSo};
 ghost use Rattle.dx_engine.specs.declared.short.Short.TheVariants.{ReadFault, WriteFault};
 
 use crate::gathered::Gathered;
@@ -24,7 +24,33 @@ use dx_tags::Tags;
 use std::alloc::Global;
 use std::mem;
 
+// Nothing was done yet with these terms and this cache.
+fn fresh(alloc: Global, seen: Seen, tags: Tags, cache: Cache) -> Progress
+    ensures { IsFresh seen tags cache result }
+{
+    Progress {
+        tags,
+        seen,
+        told: ToldValues::new(alloc),
+        work: Work {
+            cache,
+            known: Known::new(alloc),
+            events: Vec::new(alloc),
+        },
+    }
+}
+
 impl State {
+    // Takes the terms and the cache back, with the events.
+    fn take_back(&mut self, at: Progress)
+        ensures { self.new ≡ taken_back self.old at }
+    {
+        self.tags = at.tags;
+        let work = at.work;
+        self.cache = work.cache;
+        self.events = work.events;
+    }
+
     /// Performs the effects of a graph in order, up to the first that ends the execution. Nothing is put yet, and no link changes.
     pub(crate) fn run<F: Files, L: Library, O: Sink>(
         &mut self,
@@ -50,16 +76,9 @@ impl State {
     {
         let seen = Seen::new(alloc, g)?;
         let budget = self.cache.budget();
-        let mut at = Progress {
-            tags: mem::replace(&mut self.tags, Tags::new(alloc)),
-            seen,
-            told: ToldValues::new(alloc),
-            work: Work {
-                cache: mem::replace(&mut self.cache, Cache::new(alloc, budget)),
-                known: Known::new(alloc),
-                events: Vec::new(alloc),
-            },
-        };
+        let tags = mem::replace(&mut self.tags, Tags::new(alloc));
+        let cache = mem::replace(&mut self.cache, Cache::new(alloc, budget));
+        let mut at = fresh(alloc, seen, tags, cache);
         let setup = Setup {
             alloc,
             graph: g,
@@ -69,10 +88,7 @@ impl State {
             written: &self.written,
         };
         let ran = run_effects(&setup, &mut at, files, lib, out);
-        self.tags = at.tags;
-        let work = at.work;
-        self.cache = work.cache;
-        self.events = work.events;
+        self.take_back(at);
         ran
     }
 }
