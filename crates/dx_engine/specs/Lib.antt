@@ -4,3 +4,5 @@ pub mod Doing
 pub mod Running
 pub mod Keeping
 pub mod Beginning
+pub mod Leaving
+pub mod Ending

@@ -3,13 +3,17 @@
 
 mod beginning;
 mod done;
+mod ending;
+mod exec_error;
 mod gathered;
 mod performing;
+mod prepared;
 mod running;
 mod short;
 mod state;
 
 pub use done::Done;
+pub use exec_error::ExecError;
 pub use gathered::Gathered;
 pub use performing::perform;
 pub use running::run_effects;

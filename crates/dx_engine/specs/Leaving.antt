@@ -1,0 +1,56 @@
+-- What an execution leaves behind its last effect.
+use Rattle.std.specs.Prelude.{◌≡◌, ℕ, List, [], ◌∷◌, ◌++◌, length, Option, Some, None, is_some, Bool, true, false, if◌then◌else◌, Result, Ok, Err}
+use Rattle.dx_base.specs.declared.code.Code.{Code}
+use Rattle.dx_graph.specs.Graph.{Node}
+use Rattle.dx_macros.specs.Site.{steps_text}
+use Rattle.dx_links.specs.LinkMap.{LinkMap, after}
+use Rattle.dx_links.specs.declared.held.Change.{Change}
+use Rattle.dx_tags.specs.declared.term.Term.{Term}
+use Rattle.dx_tags.specs.Files.{FileMap}
+use Rattle.dx_objects.specs.Runs.{Values}
+use Rattle.dx_cache.specs.declared.entry.Entry.{Entry}
+use Rattle.dx_getting.specs.declared.event.Event.{Event}
+use Rattle.dx_getting.specs.declared.event.Event.TheVariants as shown
+use Rattle.dx_getting.specs.Emptied.{held_terms, values_held, all_held}
+use Rattle.dx_demand.specs.Memo.{site_of}
+use Rattle.dx_demand.specs.Forming.{named_terms}
+use Rattle.dx_performing.specs.Kept.{is_full}
+use Rattle.dx_performing.specs.Execution.{Export}
+use Rattle.dx_ending.specs.Putting.{ArePut, exports_of}
+use Rattle.dx_looking.specs.Setting.{IsBound}
+use Rattle.dx_engine.specs.declared.prepared.NextLinks.{NextLinks}
+use Rattle.dx_engine.specs.declared.prepared.NextEmpty.{NextEmpty}
+use Rattle.dx_engine.specs.declared.prepared.Prepared.{Prepared}
+use Rattle.dx_engine.specs.declared.gathered.Gathered.{Gathered}
+use Rattle.dx_engine.specs.declared.state.State.{State}
+
+-- the links after changes, or the same after an error
+abbrev pub links_behind : LinkMap → Bool → List Change → LinkMap
+links_behind links true changes = links
+links_behind links false changes = after links changes
+
+-- ---- what is prepared
+
+abbrev pub NextSo : LinkMap → Bool → List Change → Option NextLinks → Type 0
+NextSo links failed changes None = links_behind links failed changes ≡ links
+NextSo links failed changes (Some n) = (n.links.links ≡ links_behind links failed changes) × IsBound n.links.links n.bound
+
+abbrev pub EmptySo : LinkMap → Bool → Option NextEmpty → Type 0
+EmptySo links full None = full ≡ false
+EmptySo links full (Some e) = (full ≡ true) × (e.emptied.links.links ≡ all_held links) × (e.emptied.tags ≡ held_terms (length links)) × (e.emptied.held ≡ values_held links) × IsBound e.emptied.links.links e.bound
+
+pub record PreparedSo (links : LinkMap) (full failed : Bool) (changes : List Change) (p : Prepared) : Type 0 where
+  pub next : NextSo links failed changes p.links
+  pub empty : EmptySo (links_behind links failed changes) full p.empty
+
+-- ---- what is put in place
+
+-- the links, terms, held values, entries and events that are kept then, for links after the execution
+pub record IsLeft (st : State) (links : LinkMap) (full : Bool) (st' : State) : Type 0 where
+  pub links_are : st'.links.links ≡ (if full then all_held links else links)
+  pub bound : IsBound st'.links.links st'.bound
+  pub tags : st'.tags ≡ (if full then held_terms (length links) else st.tags)
+  pub held : st'.held ≡ (if full then values_held links else st.held)
+  pub entries : st'.cache.entries ≡ (if full then [] else st.cache.entries)
+  pub budget : st'.cache.budget ≡ st.cache.budget
+  pub events : st'.events.items ≡ st.events.items ++ (if full then shown.Clear ∷ [] else [])
