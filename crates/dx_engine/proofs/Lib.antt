@@ -1,3 +1,5 @@
 pub mod Coursing
 pub mod NextEffect
 pub mod Begun
+pub mod FitsBehind
+pub mod SoundBehind
