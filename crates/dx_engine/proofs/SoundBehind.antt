@@ -1,9 +1,11 @@
 -- What is kept behind an execution is what the machine keeps, fits, and is sound.
-use Rattle.std.proofs.Common.{◌≡◌, ℕ, zero, suc, ◌<◌, List, [], ◌∷◌, map, length, Bool, true, false, Option, Some, None, refl, sym, ap, ap₂, ◌∙◌, subst, arith, All}
+use Rattle.std.proofs.Common.{◌≡◌, ℕ, zero, suc, ◌<◌, List, [], ◌∷◌, ◌++◌, map, length, append-nil, Bool, true, false, Option, Some, None, refl, sym, ap, ap₂, ◌∙◌, subst, arith, All}
 use Rattle.std.specs.Prelude.{if◌then◌else◌, is_some}
+use Rattle.std.proofs.lemmas.List.{map-append}
 use Rattle.std.proofs.Math.Logic.{∥∥₁_elim}
 use Rattle.std.proofs.Props.{props}
 use Rattle.dx_base.specs.declared.code.Code.{Code}
+use Rattle.dx_cache.proofs.Places.{cases}
 use Rattle.dx_cache.specs.declared.entry.Entry.{Entry}
 use Rattle.dx_objects.specs.Runs.{Values}
 use Rattle.dx_graph.specs.Graph as plain
@@ -17,22 +19,27 @@ use Rattle.dx_tags.specs.declared.term.Term.{Term}
 use Rattle.dx_tags.specs.Closed.{heads_of, GoesOn}
 use Rattle.dx_tags.specs.Files.{FileMap}
 use Rattle.dx_links.specs.LinkMap.{LinkMap, after}
+use Rattle.dx_machine.specs.Machine.{Cleared, tasks_of}
 use Rattle.dx_machine.specs.Sound.{IsSound}
+use Rattle.dx_machine.proofs.Grows.{tasks-append}
 use Rattle.dx_getting.specs.Emptied.{held_terms, values_held, all_held}
 use Rattle.dx_getting.specs.Terms.{BoundValues}
-use Rattle.dx_getting.specs.Told.{Told}
+use Rattle.dx_getting.specs.Told.{Told, Adds}
+use Rattle.dx_getting.specs.declared.event.Event.{Event as ShownEvent}
+use Rattle.dx_getting.specs.declared.event.Event.TheVariants as shown
 use Rattle.dx_getting.specs.Steps.{AreCalls}
-use Rattle.dx_getting.specs.Stands.{World, EntriesRight, named, world}
+use Rattle.dx_getting.specs.Stands.{World, EntriesRight, named, shown_event, world}
 use Rattle.dx_demand.specs.Terms.{AreExact}
 use Rattle.dx_demand.specs.Picked.{LinksFit}
 use Rattle.dx_demand.specs.Forming.{named_terms}
 use Rattle.dx_demand.proofs.PortSteps.{nodes_of}
-use Rattle.dx_performing.specs.Execution.{execution, after_exports}
-use Rattle.dx_performing.specs.Kept.{Kept, after_set_terms, is_full, emptied}
-use Rattle.dx_performing.specs.Course.{Fixed, world_of, around_of, begins, committed, unless_full, executed}
+use Rattle.dx_performing.specs.Execution.{execution, after_exports, behind}
+use Rattle.dx_performing.specs.Kept.{Kept, after_set_terms, current, is_full, emptied}
+use Rattle.dx_performing.specs.Course.{Fixed, world_of, around_of, begins, committed, clearing, unless_full, executed}
 use Rattle.dx_performing.specs.Meant.{LinksRight}
 use Rattle.dx_performing.specs.SoundEntries.{IsLawfulTree, IsLawfulCall, AreLawfulTrees, AreLawfulCalls}
 use Rattle.dx_performing.proofs.EntriesSound.{entries_stay_sound}
+use Rattle.dx_performing.proofs.Executed.{leaves_what_is_meant}
 use Rattle.dx_performing.proofs.LinksSound.{links_stay_right}
 use Rattle.dx_looking.specs.Setting.{IsBound, links_of}
 use Rattle.dx_looking.proofs.Growth.{links_same}
@@ -79,7 +86,7 @@ abbrev pub files_behind : State → Gathered → FileMap
 files_behind st g = after_exports st.written.files (gathers g).exports
 
 -- without an emptying: from st on, whose effects left st'
-pub record IsLeft (st st' : State) (g : Gathered) (st2 : State) : Type 0 where
+pub record IsCarried (st st' : State) (g : Gathered) (st2 : State) : Type 0 where
   pub tags : st2.tags ≡ st'.tags
   pub links : st2.links.links ≡ links_behind st g
   pub held : st2.held ≡ st.held
@@ -103,8 +110,8 @@ behind_each terms st g f c = by (is_some g.error)
     by true = f
     by false = after_each terms st.links.links g.changes f c
 
-pub left_fits : (st st' st2 : State) (g : Gathered) → StateFits st' → st'.links ≡ st.links → ChangesFit st'.tags g.changes → IsLeft st st' g st2 → IsBound st2.links.links st2.bound → StateFits st2
-left_fits st st' st2 g f same c is bound =
+pub carried_fits : (st st' st2 : State) (g : Gathered) → StateFits st' → st'.links ≡ st.links → ChangesFit st'.tags g.changes → IsCarried st st' g st2 → IsBound st2.links.links st2.bound → StateFits st2
+carried_fits st st' st2 g f same c is bound =
     let each : EachFits st'.tags st.links.links = subst (λ (ls : LinkMap). EachFits st'.tags ls) (ap (λ l. l.links) same) (each_fits st'.tags st'.links.links st'.bound f.links f.bound) in
     let fits : LinksFit st'.tags (links_behind st g) = each_held st'.tags (links_behind st g) (behind_each st'.tags st g each c) in
     let calls : AreCalls st'.tags st2.cache.entries = subst (AreCalls st'.tags) (sym is.entries) f.entries in
@@ -172,14 +179,14 @@ module _ (x : Fixed) (st st' st2 : State) (effects : List CallTree) (nodes : Lis
   full_there : (b : Bool) → is_full (named_terms st'.tags) ≡ b → is_full done.terms ≡ b
   full_there b full = ap is_full (sym are.terms) ∙ full
 
-  left_so : is_full (named_terms st'.tags) ≡ false → unless_full done ≡ done
-  left_so full = ap (λ (b : Bool). if b then emptied done else done) (full_there false full)
+  carried_so : is_full (named_terms st'.tags) ≡ false → unless_full done ≡ done
+  carried_so full = ap (λ (b : Bool). if b then emptied done else done) (full_there false full)
 
   emptied_so : is_full (named_terms st'.tags) ≡ true → unless_full done ≡ emptied done
   emptied_so full = ap (λ (b : Bool). if b then emptied done else done) (full_there true full)
 
-  left_is : IsLeft st st' g st2 → kept_of st2 ≡ kept_with st' (links_behind st g) (files_behind st g) st.held
-  left_is is = λ i. record {
+  carried_is : IsCarried st st' g st2 → kept_of st2 ≡ kept_with st' (links_behind st g) (files_behind st g) st.held
+  carried_is is = λ i. record {
     entries = map (named (heads_of (is.tags i))) (is.entries i);
     terms = named_terms (is.tags i);
     links = links_of (heads_of (is.tags i)) (is.links i);
@@ -196,8 +203,8 @@ module _ (x : Fixed) (st st' st2 : State) (effects : List CallTree) (nodes : Lis
     written = (is.written ∙ files_are) i;
   }
 
-  pub kept_left : is_full (named_terms st'.tags) ≡ false → IsLeft st st' g st2 → kept_of st2 ≡ (executed x effects (kept_of st)).kept
-  kept_left full is = left_is is ∙ kept_behind ∙ sym (left_so full)
+  pub kept_carried : is_full (named_terms st'.tags) ≡ false → IsCarried st st' g st2 → kept_of st2 ≡ (executed x effects (kept_of st)).kept
+  kept_carried full is = carried_is is ∙ kept_behind ∙ sym (carried_so full)
 
   pub kept_emptied : is_full (named_terms st'.tags) ≡ true → IsEmptied st g st2 → kept_of st2 ≡ (executed x effects (kept_of st)).kept
   kept_emptied full is = emptied_is is ∙ sym (empties_alike (heads_of st'.tags) (links_behind st g) done (sym links_are)) ∙ sym (emptied_so full)
@@ -210,8 +217,8 @@ right_with : (terms : List Term) (held : Values) (links links' : BoundValues) (f
 right_with terms held links links' files [] h = tt
 right_with terms held links links' files (x ∷ xs) h = (h.0, right_with terms held links links' files xs h.1)
 
-pub right_left : (st st' st2 : State) (g : Gathered) (files : World) → st'.held ≡ st.held → IsLeft st st' g st2 → EntriesRight (setting_of st') files st'.cache.entries → EntriesRight (setting_of st2) files st2.cache.entries
-right_left st st' st2 g files same is right =
+pub right_carried : (st st' st2 : State) (g : Gathered) (files : World) → st'.held ≡ st.held → IsCarried st st' g st2 → EntriesRight (setting_of st') files st'.cache.entries → EntriesRight (setting_of st2) files st2.cache.entries
+right_carried st st' st2 g files same is right =
     let held : st'.held ≡ st2.held = same ∙ sym is.held in
     subst (λ (es : List Entry). EntriesRight (setting_of st2) files es) (sym is.entries)
     (subst (λ (ts : List Term). EntriesRight (record { terms = ts; links = st2.bound; held = st2.held; formed = [] }) files st'.cache.entries) (sym is.tags)
@@ -233,12 +240,91 @@ sound_behind x st st2 effects sound lawful budget kept right = record {
 -- ---- all of it
 
 module _ (x : Fixed) (st st' st2 : State) (effects : List CallTree) (nodes : List Node) (base : Told) (before : Option (List ℕ)) (g : Gathered) (now : Told) (written : Option (List ℕ)) (are : EffectsAre x st effects nodes base before g st' now written) (fits : StateFits st) (on : GoesOn st.tags st'.tags) (sound : IsSoundState x st) (lawful : AreLawfulCalls effects) (budget : st2.cache.budget ≡ st.cache.budget) where
-  pub sound_left : is_full (named_terms st'.tags) ≡ false → st'.held ≡ st.held → IsLeft st st' g st2 → IsSoundState x st2
-  sound_left full held is =
-      sound_behind x st st2 effects sound lawful budget (kept_left x st st' st2 effects nodes base before g now written are fits on full is)
-      (right_left st st' st2 g (world x.answer x.file) held is are.right)
+  pub sound_carried : is_full (named_terms st'.tags) ≡ false → st'.held ≡ st.held → IsCarried st st' g st2 → IsSoundState x st2
+  sound_carried full held is =
+      sound_behind x st st2 effects sound lawful budget (kept_carried x st st' st2 effects nodes base before g now written are fits on full is)
+      (right_carried st st' st2 g (world x.answer x.file) held is are.right)
 
   pub sound_emptied : is_full (named_terms st'.tags) ≡ true → IsEmptied st g st2 → IsSoundState x st2
   sound_emptied full is =
       sound_behind x st st2 effects sound lawful budget (kept_emptied x st st' st2 effects nodes base before g now written are fits on full is)
       (right_emptied st st2 g (world x.answer x.file) is)
+
+-- ---- its events and runs
+
+module _ (x : Fixed) (st st' : State) (effects : List CallTree) (nodes : List Node) (base : Told) (before : Option (List ℕ)) (g : Gathered) (now : Told) (written : Option (List ℕ)) (are : EffectsAre x st effects nodes base before g st' now written) where
+  abbrev made : Kept
+  made = committed (kept_of st) (execution (world_of x (kept_of st)) effects) (course_of x st effects)
+
+  clearing_shown : (b : Bool) → is_full made.terms ≡ b → map shown_event (clearing made) ≡ (if b then shown.Clear ∷ [] else [])
+  clearing_shown b full = ap (λ (c : Bool). map shown_event (if c then Cleared ∷ [] else [])) full ∙ by b
+    where
+      by : (c : Bool) → map shown_event (if c then Cleared ∷ [] else []) ≡ (if c then shown.Clear ∷ [] else [])
+      by true = refl
+      by false = refl
+
+  pub events_behind : (full : Bool) → is_full (named_terms st'.tags) ≡ full → (items : List ShownEvent) → items ≡ st'.events.items ++ (if full then shown.Clear ∷ [] else []) → items ≡ map shown_event (executed x effects (kept_of st)).events
+  events_behind full full_is items is =
+      is
+      ∙ ap₂ (λ (a b : List ShownEvent). a ++ b) are.events (sym (clearing_shown full (ap is_full (sym are.terms) ∙ full_is)))
+      ∙ sym (map-append shown_event (course_of x st effects).state.events (clearing made))
+
+  no_tasks : tasks_of (clearing made) ≡ []
+  no_tasks = by (is_full made.terms)
+    where
+      by : (b : Bool) → tasks_of (if b then Cleared ∷ [] else []) ≡ []
+      by true = refl
+      by false = refl
+
+  pub told_behind : Adds base now (tasks_of (executed x effects (kept_of st)).events)
+  told_behind =
+      subst (Adds base now) (sym (tasks-append (course_of x st effects).state.events (clearing made) ∙ ap (λ ts. tasks_of (course_of x st effects).state.events ++ ts) no_tasks ∙ append-nil (tasks_of (course_of x st effects).state.events))) are.told
+
+-- ---- the links and files are as meant
+
+pub current_behind : (x : Fixed) (st st2 : State) (effects : List CallTree) → IsSoundState x st → kept_of st2 ≡ (executed x effects (kept_of st)).kept → current (kept_of st2) ≡ behind (execution (world_of x (kept_of st)) effects) (current (kept_of st))
+current_behind x st st2 effects sound kept = ap current kept ∙ leaves_what_is_meant x (kept_of st) effects sound.links
+
+-- ---- all of it, where it may end with an emptying: the links behind it, and what there is then
+
+module _ (st st' st2 : State) (g : Gathered) (links : LinkMap) (full : Bool)
+    (links_so : links ≡ links_behind st g)
+    (tags_are : st2.tags ≡ (if full then held_terms (length links) else st'.tags))
+    (links_are : st2.links.links ≡ (if full then all_held links else links))
+    (held_are : st2.held ≡ (if full then values_held links else st'.held))
+    (entries_are : st2.cache.entries ≡ (if full then [] else st'.cache.entries))
+    (written_is : st2.written.files ≡ files_behind st g)
+    (held_same : st'.held ≡ st.held) where
+  is_carried : full ≡ false → IsCarried st st' g st2
+  is_carried off = record {
+    tags = subst (λ (b : Bool). st2.tags ≡ (if b then held_terms (length links) else st'.tags)) off tags_are;
+    links = subst (λ (b : Bool). st2.links.links ≡ (if b then all_held links else links)) off links_are ∙ links_so;
+    held = subst (λ (b : Bool). st2.held ≡ (if b then values_held links else st'.held)) off held_are ∙ held_same;
+    entries = subst (λ (b : Bool). st2.cache.entries ≡ (if b then [] else st'.cache.entries)) off entries_are;
+    written = written_is;
+  }
+
+  is_emptied : full ≡ true → IsEmptied st g st2
+  is_emptied so = record {
+    tags = subst (λ (b : Bool). st2.tags ≡ (if b then held_terms (length links) else st'.tags)) so tags_are ∙ ap (λ (ls : LinkMap). held_terms (length ls)) links_so;
+    links = subst (λ (b : Bool). st2.links.links ≡ (if b then all_held links else links)) so links_are ∙ ap all_held links_so;
+    held = subst (λ (b : Bool). st2.held ≡ (if b then values_held links else st'.held)) so held_are ∙ ap values_held links_so;
+    entries = subst (λ (b : Bool). st2.cache.entries ≡ (if b then [] else st'.cache.entries)) so entries_are;
+    written = written_is;
+  }
+
+  pub fits_behind : StateFits st' → st'.links ≡ st.links → ChangesFit st'.tags g.changes → IsBound st2.links.links st2.bound → StateFits st2
+  fits_behind f same c bound = cases full
+      (λ so. emptied_fits st st2 g (is_emptied so) bound)
+      (λ off. carried_fits st st' st2 g f same c (is_carried off) bound)
+
+  module _ (x : Fixed) (effects : List CallTree) (nodes : List Node) (base : Told) (before : Option (List ℕ)) (now : Told) (written : Option (List ℕ)) (are : EffectsAre x st effects nodes base before g st' now written) (fits : StateFits st) (on : GoesOn st.tags st'.tags) (full_is : is_full (named_terms st'.tags) ≡ full) where
+    pub kept_there : kept_of st2 ≡ (executed x effects (kept_of st)).kept
+    kept_there = cases full
+        (λ so. kept_emptied x st st' st2 effects nodes base before g now written are fits on (full_is ∙ so) (is_emptied so))
+        (λ off. kept_carried x st st' st2 effects nodes base before g now written are fits on (full_is ∙ off) (is_carried off))
+
+    pub sound_there : IsSoundState x st → AreLawfulCalls effects → st2.cache.budget ≡ st.cache.budget → IsSoundState x st2
+    sound_there sound lawful budget = cases full
+        (λ so. sound_emptied x st st' st2 effects nodes base before g now written are fits on sound lawful budget (full_is ∙ so) (is_emptied so))
+        (λ off. sound_carried x st st' st2 effects nodes base before g now written are fits on sound lawful budget (full_is ∙ off) held_same (is_carried off))
