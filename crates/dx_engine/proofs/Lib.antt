@@ -3,3 +3,4 @@ pub mod NextEffect
 pub mod Begun
 pub mod FitsBehind
 pub mod SoundBehind
+pub mod LeftBehind
