@@ -1,3 +1,6 @@
 pub mod Coursing
 pub mod NextEffect
 pub mod Begun
+pub mod FitsBehind
+pub mod SoundBehind
+pub mod LeftBehind

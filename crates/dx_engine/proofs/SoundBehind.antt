@@ -1,0 +1,330 @@
+-- What is kept behind an execution is what the machine keeps, fits, and is sound.
+use Rattle.std.proofs.Common.{◌≡◌, ℕ, zero, suc, ◌<◌, List, [], ◌∷◌, ◌++◌, map, length, append-nil, Bool, true, false, Option, Some, None, refl, sym, ap, ap₂, ◌∙◌, subst, arith, All}
+use Rattle.std.specs.Prelude.{if◌then◌else◌, is_some}
+use Rattle.std.proofs.lemmas.List.{map-append}
+use Rattle.std.proofs.Math.Logic.{∥∥₁_elim}
+use Rattle.std.proofs.Props.{props}
+use Rattle.dx_base.specs.declared.code.Code.{Code}
+use Rattle.dx_cache.proofs.Places.{cases}
+use Rattle.dx_cache.specs.declared.entry.Entry.{Entry}
+use Rattle.dx_objects.specs.Runs.{Values}
+use Rattle.dx_graph.specs.Graph as plain
+use Rattle.dx_graph.specs.Graph.{Node, node_at, MayTake, AreNodes, IsGraph}
+use Rattle.dx_graph.specs.Unfolding.{call_at, tree_of, trees_of, calls_of, unfolded}
+use Rattle.dx_graph.specs.declared.node.Input.{Input}
+use Rattle.dx_graph.specs.declared.node.Input.TheVariants as input
+use Rattle.dx_graph.proofs.Unfolding.{unfold_by_inputs}
+use Rattle.dx_macros.specs.Tree.{CallTree}
+use Rattle.dx_tags.specs.declared.term.Term.{Term}
+use Rattle.dx_tags.specs.Closed.{heads_of, GoesOn}
+use Rattle.dx_tags.specs.Files.{FileMap}
+use Rattle.dx_links.specs.LinkMap.{LinkMap, after}
+use Rattle.dx_machine.specs.Machine.{Cleared, tasks_of}
+use Rattle.dx_machine.specs.Sound.{IsSound}
+use Rattle.dx_machine.proofs.Grows.{tasks-append}
+use Rattle.dx_getting.specs.Emptied.{held_terms, values_held, all_held}
+use Rattle.dx_getting.specs.Terms.{BoundValues}
+use Rattle.dx_getting.specs.Told.{Told, Adds}
+use Rattle.dx_getting.specs.declared.event.Event.{Event as ShownEvent}
+use Rattle.dx_getting.specs.declared.event.Event.TheVariants as shown
+use Rattle.dx_getting.specs.Steps.{AreCalls}
+use Rattle.dx_getting.specs.Stands.{World, EntriesRight, named, shown_event, world}
+use Rattle.dx_demand.specs.Terms.{AreExact}
+use Rattle.dx_demand.specs.Picked.{LinksFit}
+use Rattle.dx_demand.specs.Forming.{named_terms}
+use Rattle.dx_demand.proofs.PortSteps.{nodes_of}
+use Rattle.dx_performing.specs.Execution.{execution, after_exports, behind}
+use Rattle.dx_performing.specs.Kept.{Kept, after_set_terms, current, is_full, emptied}
+use Rattle.dx_performing.specs.Course.{Fixed, world_of, around_of, begins, committed, clearing, unless_full, executed}
+use Rattle.dx_performing.specs.Meant.{LinksRight}
+use Rattle.dx_performing.specs.SoundEntries.{IsLawfulTree, IsLawfulCall, AreLawfulTrees, AreLawfulCalls}
+use Rattle.dx_performing.proofs.EntriesSound.{entries_stay_sound}
+use Rattle.dx_performing.proofs.Executed.{leaves_what_is_meant}
+use Rattle.dx_performing.proofs.LinksSound.{links_stay_right}
+use Rattle.dx_looking.specs.Setting.{IsBound, links_of}
+use Rattle.dx_looking.proofs.Growth.{links_same}
+use Rattle.dx_ending.specs.Emptying.{kept_empty}
+use Rattle.dx_ending.proofs.SetLaws.{sets_alike}
+use Rattle.dx_ending.proofs.EmptyLaws.{empties_alike}
+use Rattle.dx_engine.specs.Gathering.{gathers, error_of}
+use Rattle.dx_engine.specs.Running.{ChangesFit}
+use Rattle.dx_engine.specs.Keeping.{StateFits, kept_of, setting_of, IsSoundState}
+use Rattle.dx_engine.specs.Beginning.{EffectsAre, course_of}
+use Rattle.dx_engine.specs.declared.gathered.Gathered.{Gathered}
+use Rattle.dx_engine.specs.declared.state.State.{State}
+use Rattle.dx_engine.proofs.FitsBehind.{EachFits, each_held, each_fits, after_each, held_fits, held_are_exact}
+
+-- ---- the calls of a graph have lawful attributes
+
+input_lawful : (nodes : List Node) (n : ℕ) → ((m : ℕ) → m < n → IsLawfulCall (call_at (calls_of nodes) m)) → (i : Input) → MayTake nodes n i → IsLawfulTree (tree_of (calls_of nodes) i)
+input_lawful nodes n f (input.Constant c) h = tt
+input_lawful nodes n f (input.Result m result) h = f m h.0
+
+inputs_lawful : (nodes : List Node) (n : ℕ) → ((m : ℕ) → m < n → IsLawfulCall (call_at (calls_of nodes) m)) → (is : List Input) → All (MayTake nodes n) is → AreLawfulTrees (trees_of (calls_of nodes) is)
+inputs_lawful nodes n f [] h = tt
+inputs_lawful nodes n f (i ∷ is) h = (input_lawful nodes n f i (h 0 i (omega arith)), inputs_lawful nodes n f is (λ k d lt. h (suc k) d (omega (arith, lt))))
+
+call_lawful : (nodes : List Node) → AreNodes nodes → (bound n : ℕ) → n < bound → n < length nodes → IsLawfulCall (call_at (calls_of nodes) n)
+call_lawful nodes all zero n lt h = absurd (omega (arith, lt))
+call_lawful nodes all (suc bound) n lt h =
+    subst IsLawfulCall (sym (unfold_by_inputs nodes all n h))
+    ((all n h).cache, inputs_lawful nodes n (λ m below. call_lawful nodes all bound m (omega (arith, lt, below)) (omega (arith, h, below))) (node_at nodes n).inputs (all n h).inputs)
+
+effects_lawful : (nodes : List Node) → AreNodes nodes → (es : List ℕ) → All (λ n. n < length nodes) es → AreLawfulCalls (map (call_at (calls_of nodes)) es)
+effects_lawful nodes all [] h = tt
+effects_lawful nodes all (n ∷ es) h = (call_lawful nodes all (suc n) n (omega arith) (h 0 n (omega arith)), effects_lawful nodes all es (λ k d lt. h (suc k) d (omega (arith, lt))))
+
+pub lawful_calls : (g : plain.Graph) → ∥ IsGraph g ∥₁ → AreLawfulCalls (unfolded g)
+lawful_calls g h = effects_lawful g.nodes (nodes_of g h) g.effects (λ k d lt. ∥∥₁_elim h (hlevel props) (λ is. (is.effects k d lt).0))
+
+-- ---- what is put in place behind the effects of an execution
+
+abbrev pub links_behind : State → Gathered → LinkMap
+links_behind st g = if is_some g.error then st.links.links else after st.links.links g.changes
+
+abbrev pub files_behind : State → Gathered → FileMap
+files_behind st g = after_exports st.written.files (gathers g).exports
+
+-- without an emptying: from st on, whose effects left st'
+pub record IsCarried (st st' : State) (g : Gathered) (st2 : State) : Type 0 where
+  pub tags : st2.tags ≡ st'.tags
+  pub links : st2.links.links ≡ links_behind st g
+  pub held : st2.held ≡ st.held
+  pub entries : st2.cache.entries ≡ st'.cache.entries
+  pub written : st2.written.files ≡ files_behind st g
+
+-- with an emptying
+pub record IsEmptied (st : State) (g : Gathered) (st2 : State) : Type 0 where
+  pub tags : st2.tags ≡ held_terms (length (links_behind st g))
+  pub links : st2.links.links ≡ all_held (links_behind st g)
+  pub held : st2.held ≡ values_held (links_behind st g)
+  pub entries : st2.cache.entries ≡ []
+  pub written : st2.written.files ≡ files_behind st g
+
+-- ---- it fits
+
+behind_each : (terms : List Term) (st : State) (g : Gathered) → EachFits terms st.links.links → ChangesFit terms g.changes → EachFits terms (links_behind st g)
+behind_each terms st g f c = by (is_some g.error)
+  where
+    by : (b : Bool) → EachFits terms (if b then st.links.links else after st.links.links g.changes)
+    by true = f
+    by false = after_each terms st.links.links g.changes f c
+
+pub carried_fits : (st st' st2 : State) (g : Gathered) → StateFits st' → st'.links ≡ st.links → ChangesFit st'.tags g.changes → IsCarried st st' g st2 → IsBound st2.links.links st2.bound → StateFits st2
+carried_fits st st' st2 g f same c is bound =
+    let each : EachFits st'.tags st.links.links = subst (λ (ls : LinkMap). EachFits st'.tags ls) (ap (λ l. l.links) same) (each_fits st'.tags st'.links.links st'.bound f.links f.bound) in
+    let fits : LinksFit st'.tags (links_behind st g) = each_held st'.tags (links_behind st g) (behind_each st'.tags st g each c) in
+    let calls : AreCalls st'.tags st2.cache.entries = subst (AreCalls st'.tags) (sym is.entries) f.entries in
+    record {
+      exact = subst AreExact (sym is.tags) f.exact;
+      links = subst (λ ts. LinksFit ts st2.links.links) (sym is.tags) (subst (LinksFit st'.tags) (sym is.links) fits);
+      bound = bound;
+      entries = subst (λ ts. AreCalls ts st2.cache.entries) (sym is.tags) calls;
+    }
+
+pub emptied_fits : (st st2 : State) (g : Gathered) → IsEmptied st g st2 → IsBound st2.links.links st2.bound → StateFits st2
+emptied_fits st st2 g is bound =
+    let links = links_behind st g in
+    record {
+      exact = subst AreExact (sym is.tags) (held_are_exact (length links));
+      links = subst (λ ts. LinksFit ts st2.links.links) (sym is.tags) (subst (LinksFit (held_terms (length links))) (sym is.links) (held_fits links));
+      bound = bound;
+      entries = subst (AreCalls st2.tags) (sym is.entries) tt;
+    }
+
+-- ---- it is what the machine keeps
+
+some_error : (nodes : List Node) (e : Option (ℕ × Code)) → is_some (error_of nodes e) ≡ is_some e
+some_error nodes None = refl
+some_error nodes (Some e) = refl
+
+-- what is kept with these links and files, and no emptying
+abbrev kept_with : State → LinkMap → FileMap → Values → Kept
+kept_with st links files held = record {
+  entries = map (named (heads_of st.tags)) st.cache.entries;
+  terms = named_terms st.tags;
+  links = links_of (heads_of st.tags) links;
+  held = held;
+  written = files;
+}
+
+module _ (x : Fixed) (st st' st2 : State) (effects : List CallTree) (nodes : List Node) (base : Told) (before : Option (List ℕ)) (g : Gathered) (now : Told) (written : Option (List ℕ)) (are : EffectsAre x st effects nodes base before g st' now written) (fits : StateFits st) (on : GoesOn st.tags st'.tags) where
+  abbrev done : Kept
+  done = committed (kept_of st) (execution (world_of x (kept_of st)) effects) (course_of x st effects)
+
+  links_there : (b : Bool) → links_of (heads_of st'.tags) (if b then st.links.links else after st.links.links g.changes) ≡ (if b then (kept_of st).links else after_set_terms (kept_of st).links (course_of x st effects).sets)
+  links_there true = links_same st.tags st'.tags on st.links.links st.bound fits.links fits.bound
+  links_there false =
+      sets_alike (heads_of st'.tags) st.links.links g.changes
+      ∙ ap₂ after_set_terms (links_same st.tags st'.tags on st.links.links st.bound fits.links fits.bound) are.sets
+
+  error_there : is_some g.error ≡ is_some (execution (world_of x (kept_of st)) effects).error
+  error_there = sym (some_error nodes g.error) ∙ ap is_some are.error
+
+  links_are : links_of (heads_of st'.tags) (links_behind st g) ≡ done.links
+  links_are = links_there (is_some g.error) ∙ ap (λ (b : Bool). if b then (kept_of st).links else after_set_terms (kept_of st).links (course_of x st effects).sets) error_there
+
+  files_are : files_behind st g ≡ done.written
+  files_are = ap (after_exports st.written.files) are.exports
+
+  pub kept_behind : kept_with st' (links_behind st g) (files_behind st g) st.held ≡ done
+  kept_behind = λ i. record {
+    entries = are.entries i;
+    terms = are.terms i;
+    links = links_are i;
+    held = st.held;
+    written = files_are i;
+  }
+
+  full_there : (b : Bool) → is_full (named_terms st'.tags) ≡ b → is_full done.terms ≡ b
+  full_there b full = ap is_full (sym are.terms) ∙ full
+
+  carried_so : is_full (named_terms st'.tags) ≡ false → unless_full done ≡ done
+  carried_so full = ap (λ (b : Bool). if b then emptied done else done) (full_there false full)
+
+  emptied_so : is_full (named_terms st'.tags) ≡ true → unless_full done ≡ emptied done
+  emptied_so full = ap (λ (b : Bool). if b then emptied done else done) (full_there true full)
+
+  carried_is : IsCarried st st' g st2 → kept_of st2 ≡ kept_with st' (links_behind st g) (files_behind st g) st.held
+  carried_is is = λ i. record {
+    entries = map (named (heads_of (is.tags i))) (is.entries i);
+    terms = named_terms (is.tags i);
+    links = links_of (heads_of (is.tags i)) (is.links i);
+    held = is.held i;
+    written = is.written i;
+  }
+
+  emptied_is : IsEmptied st g st2 → kept_of st2 ≡ kept_empty done (links_behind st g)
+  emptied_is is = λ i. record {
+    entries = map (named (heads_of (is.tags i))) (is.entries i);
+    terms = named_terms (is.tags i);
+    links = links_of (heads_of (is.tags i)) (is.links i);
+    held = is.held i;
+    written = (is.written ∙ files_are) i;
+  }
+
+  pub kept_carried : is_full (named_terms st'.tags) ≡ false → IsCarried st st' g st2 → kept_of st2 ≡ (executed x effects (kept_of st)).kept
+  kept_carried full is = carried_is is ∙ kept_behind ∙ sym (carried_so full)
+
+  pub kept_emptied : is_full (named_terms st'.tags) ≡ true → IsEmptied st g st2 → kept_of st2 ≡ (executed x effects (kept_of st)).kept
+  kept_emptied full is = emptied_is is ∙ sym (empties_alike (heads_of st'.tags) (links_behind st g) done (sym links_are)) ∙ sym (emptied_so full)
+
+-- ---- it is sound
+
+-- the links are nothing to the entries
+right_with : (terms : List Term) (held : Values) (links links' : BoundValues) (files : World) (es : List Entry) →
+    EntriesRight (record { terms = terms; links = links; held = held; formed = [] }) files es → EntriesRight (record { terms = terms; links = links'; held = held; formed = [] }) files es
+right_with terms held links links' files [] h = tt
+right_with terms held links links' files (x ∷ xs) h = (h.0, right_with terms held links links' files xs h.1)
+
+pub right_carried : (st st' st2 : State) (g : Gathered) (files : World) → st'.held ≡ st.held → IsCarried st st' g st2 → EntriesRight (setting_of st') files st'.cache.entries → EntriesRight (setting_of st2) files st2.cache.entries
+right_carried st st' st2 g files same is right =
+    let held : st'.held ≡ st2.held = same ∙ sym is.held in
+    subst (λ (es : List Entry). EntriesRight (setting_of st2) files es) (sym is.entries)
+    (subst (λ (ts : List Term). EntriesRight (record { terms = ts; links = st2.bound; held = st2.held; formed = [] }) files st'.cache.entries) (sym is.tags)
+    (subst (λ (vs : Values). EntriesRight (record { terms = st'.tags; links = st2.bound; held = vs; formed = [] }) files st'.cache.entries) held
+    (right_with st'.tags st'.held st'.bound st2.bound files st'.cache.entries right)))
+
+pub right_emptied : (st st2 : State) (g : Gathered) (files : World) → IsEmptied st g st2 → EntriesRight (setting_of st2) files st2.cache.entries
+right_emptied st st2 g files is = subst (λ (es : List Entry). EntriesRight (setting_of st2) files es) (sym is.entries) tt
+
+-- of what the machine keeps
+pub sound_behind : (x : Fixed) (st st2 : State) (effects : List CallTree) → IsSoundState x st → AreLawfulCalls effects → st2.cache.budget ≡ st.cache.budget → kept_of st2 ≡ (executed x effects (kept_of st)).kept → EntriesRight (setting_of st2) (world x.answer x.file) st2.cache.entries → IsSoundState x st2
+sound_behind x st st2 effects sound lawful budget kept right = record {
+  budget = sound.budget ∙ sym budget;
+  links = subst (λ (k : Kept). LinksRight (around_of x k) k.links) (sym kept) (links_stay_right x (kept_of st) effects sound.links);
+  entries = right;
+  sound = subst (λ (k : Kept). IsSound (around_of x k) x.budget (begins k).state) (sym kept) (entries_stay_sound x (kept_of st) effects lawful sound.sound);
+}
+
+-- ---- all of it
+
+module _ (x : Fixed) (st st' st2 : State) (effects : List CallTree) (nodes : List Node) (base : Told) (before : Option (List ℕ)) (g : Gathered) (now : Told) (written : Option (List ℕ)) (are : EffectsAre x st effects nodes base before g st' now written) (fits : StateFits st) (on : GoesOn st.tags st'.tags) (sound : IsSoundState x st) (lawful : AreLawfulCalls effects) (budget : st2.cache.budget ≡ st.cache.budget) where
+  pub sound_carried : is_full (named_terms st'.tags) ≡ false → st'.held ≡ st.held → IsCarried st st' g st2 → IsSoundState x st2
+  sound_carried full held is =
+      sound_behind x st st2 effects sound lawful budget (kept_carried x st st' st2 effects nodes base before g now written are fits on full is)
+      (right_carried st st' st2 g (world x.answer x.file) held is are.right)
+
+  pub sound_emptied : is_full (named_terms st'.tags) ≡ true → IsEmptied st g st2 → IsSoundState x st2
+  sound_emptied full is =
+      sound_behind x st st2 effects sound lawful budget (kept_emptied x st st' st2 effects nodes base before g now written are fits on full is)
+      (right_emptied st st2 g (world x.answer x.file) is)
+
+-- ---- its events and runs
+
+module _ (x : Fixed) (st st' : State) (effects : List CallTree) (nodes : List Node) (base : Told) (before : Option (List ℕ)) (g : Gathered) (now : Told) (written : Option (List ℕ)) (are : EffectsAre x st effects nodes base before g st' now written) where
+  abbrev made : Kept
+  made = committed (kept_of st) (execution (world_of x (kept_of st)) effects) (course_of x st effects)
+
+  clearing_shown : (b : Bool) → is_full made.terms ≡ b → map shown_event (clearing made) ≡ (if b then shown.Clear ∷ [] else [])
+  clearing_shown b full = ap (λ (c : Bool). map shown_event (if c then Cleared ∷ [] else [])) full ∙ by b
+    where
+      by : (c : Bool) → map shown_event (if c then Cleared ∷ [] else []) ≡ (if c then shown.Clear ∷ [] else [])
+      by true = refl
+      by false = refl
+
+  pub events_behind : (full : Bool) → is_full (named_terms st'.tags) ≡ full → (items : List ShownEvent) → items ≡ st'.events.items ++ (if full then shown.Clear ∷ [] else []) → items ≡ map shown_event (executed x effects (kept_of st)).events
+  events_behind full full_is items is =
+      is
+      ∙ ap₂ (λ (a b : List ShownEvent). a ++ b) are.events (sym (clearing_shown full (ap is_full (sym are.terms) ∙ full_is)))
+      ∙ sym (map-append shown_event (course_of x st effects).state.events (clearing made))
+
+  no_tasks : tasks_of (clearing made) ≡ []
+  no_tasks = by (is_full made.terms)
+    where
+      by : (b : Bool) → tasks_of (if b then Cleared ∷ [] else []) ≡ []
+      by true = refl
+      by false = refl
+
+  pub told_behind : Adds base now (tasks_of (executed x effects (kept_of st)).events)
+  told_behind =
+      subst (Adds base now) (sym (tasks-append (course_of x st effects).state.events (clearing made) ∙ ap (λ ts. tasks_of (course_of x st effects).state.events ++ ts) no_tasks ∙ append-nil (tasks_of (course_of x st effects).state.events))) are.told
+
+-- ---- the links and files are as meant
+
+pub current_behind : (x : Fixed) (st st2 : State) (effects : List CallTree) → IsSoundState x st → kept_of st2 ≡ (executed x effects (kept_of st)).kept → current (kept_of st2) ≡ behind (execution (world_of x (kept_of st)) effects) (current (kept_of st))
+current_behind x st st2 effects sound kept = ap current kept ∙ leaves_what_is_meant x (kept_of st) effects sound.links
+
+-- ---- all of it, where it may end with an emptying: the links behind it, and what there is then
+
+module _ (st st' st2 : State) (g : Gathered) (links : LinkMap) (full : Bool)
+    (links_so : links ≡ links_behind st g)
+    (tags_are : st2.tags ≡ (if full then held_terms (length links) else st'.tags))
+    (links_are : st2.links.links ≡ (if full then all_held links else links))
+    (held_are : st2.held ≡ (if full then values_held links else st'.held))
+    (entries_are : st2.cache.entries ≡ (if full then [] else st'.cache.entries))
+    (written_is : st2.written.files ≡ files_behind st g)
+    (held_same : st'.held ≡ st.held) where
+  is_carried : full ≡ false → IsCarried st st' g st2
+  is_carried off = record {
+    tags = subst (λ (b : Bool). st2.tags ≡ (if b then held_terms (length links) else st'.tags)) off tags_are;
+    links = subst (λ (b : Bool). st2.links.links ≡ (if b then all_held links else links)) off links_are ∙ links_so;
+    held = subst (λ (b : Bool). st2.held ≡ (if b then values_held links else st'.held)) off held_are ∙ held_same;
+    entries = subst (λ (b : Bool). st2.cache.entries ≡ (if b then [] else st'.cache.entries)) off entries_are;
+    written = written_is;
+  }
+
+  is_emptied : full ≡ true → IsEmptied st g st2
+  is_emptied so = record {
+    tags = subst (λ (b : Bool). st2.tags ≡ (if b then held_terms (length links) else st'.tags)) so tags_are ∙ ap (λ (ls : LinkMap). held_terms (length ls)) links_so;
+    links = subst (λ (b : Bool). st2.links.links ≡ (if b then all_held links else links)) so links_are ∙ ap all_held links_so;
+    held = subst (λ (b : Bool). st2.held ≡ (if b then values_held links else st'.held)) so held_are ∙ ap values_held links_so;
+    entries = subst (λ (b : Bool). st2.cache.entries ≡ (if b then [] else st'.cache.entries)) so entries_are;
+    written = written_is;
+  }
+
+  pub fits_behind : StateFits st' → st'.links ≡ st.links → ChangesFit st'.tags g.changes → IsBound st2.links.links st2.bound → StateFits st2
+  fits_behind f same c bound = cases full
+      (λ so. emptied_fits st st2 g (is_emptied so) bound)
+      (λ off. carried_fits st st' st2 g f same c (is_carried off) bound)
+
+  module _ (x : Fixed) (effects : List CallTree) (nodes : List Node) (base : Told) (before : Option (List ℕ)) (now : Told) (written : Option (List ℕ)) (are : EffectsAre x st effects nodes base before g st' now written) (fits : StateFits st) (on : GoesOn st.tags st'.tags) (full_is : is_full (named_terms st'.tags) ≡ full) where
+    pub kept_there : kept_of st2 ≡ (executed x effects (kept_of st)).kept
+    kept_there = cases full
+        (λ so. kept_emptied x st st' st2 effects nodes base before g now written are fits on (full_is ∙ so) (is_emptied so))
+        (λ off. kept_carried x st st' st2 effects nodes base before g now written are fits on (full_is ∙ off) (is_carried off))
+
+    pub sound_there : IsSoundState x st → AreLawfulCalls effects → st2.cache.budget ≡ st.cache.budget → IsSoundState x st2
+    sound_there sound lawful budget = cases full
+        (λ so. sound_emptied x st st' st2 effects nodes base before g now written are fits on sound lawful budget (full_is ∙ so) (is_emptied so))
+        (λ off. sound_carried x st st' st2 effects nodes base before g now written are fits on sound lawful budget (full_is ∙ off) held_same (is_carried off))
