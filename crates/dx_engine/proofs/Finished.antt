@@ -1,0 +1,124 @@
+-- How an execution ends, and what is put in place then.
+use Rattle.std.proofs.Common.{◌≡◌, ℕ, List, [], ◌∷◌, ◌++◌, length, Bool, true, false, Option, Some, None, Result, Ok, Err, refl, sym, ap, ◌∙◌, subst}
+use Rattle.std.specs.Prelude.{if◌then◌else◌, is_some, IsErrAnd}
+use Rattle.dx_base.specs.declared.code.Code.{Code}
+use Rattle.dx_graph.specs.Graph.{Node}
+use Rattle.dx_io.specs.Devices.{Cause}
+use Rattle.dx_io.specs.declared.fails.ExportFail.{ExportFail}
+use Rattle.dx_io.specs.declared.fails.ExportFail.TheVariants as export
+use Rattle.dx_io.proofs.Growing.{grows_by_nothing}
+use Rattle.dx_tags.specs.declared.term.Term.{Term}
+use Rattle.dx_tags.specs.Files.{FileMap}
+use Rattle.dx_links.specs.LinkMap.{LinkMap}
+use Rattle.dx_links.specs.declared.held.Change.{Change}
+use Rattle.dx_getting.specs.Emptied.{held_terms, values_held, all_held}
+use Rattle.dx_getting.specs.declared.event.Event.{Event}
+use Rattle.dx_getting.specs.declared.event.Event.TheVariants as shown
+use Rattle.dx_cache.specs.declared.entry.Entry.{Entry}
+use Rattle.dx_objects.specs.Runs.{Values}
+use Rattle.dx_performing.specs.Execution.{Export}
+use Rattle.dx_ending.specs.Putting.{ArePut, ArePutBefore}
+use Rattle.dx_engine.specs.Leaving.{IsLeft, EmptySo, links_behind}
+use Rattle.dx_engine.specs.Ending.{OnEnd, OnCut, ErrorIs, SiteIs, SomePut, ended_so, export_error}
+use Rattle.dx_engine.specs.declared.exec_error.ExecError.{ExecError}
+use Rattle.dx_engine.specs.declared.exec_error.ExecError.TheVariants.{Module, ReadFault, WriteFault, ExportFault, Memory}
+use Rattle.dx_engine.specs.declared.prepared.NextEmpty.{NextEmpty}
+use Rattle.dx_engine.specs.declared.state.State.{State}
+
+-- ---- by how it ends
+
+pub on_end : (r : Result (Unit {0}) ExecError) (P : Type 0) → P → OnEnd r P
+on_end (Ok u) P p = p
+on_end (Err (Module site code)) P p = p
+on_end (Err ReadFault) P p = tt
+on_end (Err WriteFault) P p = tt
+on_end (Err ExportFault) P p = tt
+on_end (Err Memory) P p = tt
+
+pub on_cut : (r : Result (Unit {0}) ExecError) (P : Type 0) → P → OnCut r P
+on_cut (Ok u) P p = tt
+on_cut (Err (Module site code)) P p = tt
+on_cut (Err ReadFault) P p = p
+on_cut (Err WriteFault) P p = p
+on_cut (Err ExportFault) P p = p
+on_cut (Err Memory) P p = p
+
+no_end : (f : ExportFail) (P : Type 0) → OnEnd (Err (export_error f)) P
+no_end export.Fault P = tt
+no_end export.Memory P = tt
+
+no_error : (f : ExportFail) (nodes : List Node) (e : Option (ℕ × Code)) → ErrorIs nodes e (Err (export_error f))
+no_error export.Fault nodes e = tt
+no_error export.Memory nodes e = tt
+
+abbrev is_export : Result (Unit {0}) ExecError → Type 0
+is_export (Ok u) = ⊥
+is_export (Err (Module site code)) = ⊥
+is_export (Err ReadFault) = ⊥
+is_export (Err WriteFault) = ⊥
+is_export (Err ExportFault) = Unit {0}
+is_export (Err Memory) = ⊥
+
+abbrev is_memory : Result (Unit {0}) ExecError → Type 0
+is_memory (Ok u) = ⊥
+is_memory (Err (Module site code)) = ⊥
+is_memory (Err ReadFault) = ⊥
+is_memory (Err WriteFault) = ⊥
+is_memory (Err ExportFault) = ⊥
+is_memory (Err Memory) = Unit {0}
+
+pub unput_is : (f : ExportFail) (r : Result (Unit {0}) ExecError) → IsErrAnd r (λ e. e ≡ export_error f) → r ≡ Err (export_error f)
+unput_is f (Ok u) is = absurd is
+unput_is f (Err e) is = ap Err is
+
+pub unput_cause : (f : ExportFail) (before now : ℕ) (made : Result (Unit {0}) ExportFail) (r : Result (Unit {0}) ExecError) → made ≡ Err f → r ≡ Err (export_error f) → Cause export.Fault before now made → Cause ExportFault before now r
+unput_cause export.Fault before now made r m is cause = record { later = cause.later; failed = λ e. cause.failed m }
+unput_cause export.Memory before now made r m is cause = record { later = cause.later; failed = λ e. absurd (subst is_memory (sym is ∙ e) tt) }
+
+pub unput_is_no_read : (f : ExportFail) (r : Result (Unit {0}) ExecError) → r ≡ Err (export_error f) → ¬ (r ≡ Err ReadFault)
+unput_is_no_read export.Fault r is e = subst is_export (sym is ∙ e) tt
+unput_is_no_read export.Memory r is e = subst is_memory (sym is ∙ e) tt
+
+pub unput_is_no_write : (f : ExportFail) (r : Result (Unit {0}) ExecError) → r ≡ Err (export_error f) → ¬ (r ≡ Err WriteFault)
+unput_is_no_write export.Fault r is e = subst is_export (sym is ∙ e) tt
+unput_is_no_write export.Memory r is e = subst is_memory (sym is ∙ e) tt
+
+pub unput_end : (f : ExportFail) (r : Result (Unit {0}) ExecError) → r ≡ Err (export_error f) → (P : Type 0) → OnEnd r P
+unput_end f r e P = subst (λ y. OnEnd y P) (sym e) (no_end f P)
+
+pub unput_error : (f : ExportFail) (r : Result (Unit {0}) ExecError) → r ≡ Err (export_error f) → (nodes : List Node) (e : Option (ℕ × Code)) → ErrorIs nodes e r
+unput_error f r is nodes e = subst (ErrorIs nodes e) (sym is) (no_error f nodes e)
+
+pub ended_error : (nodes : List Node) (e : Option (ℕ × Code)) (site : Option (List ℕ × Code)) (r : Result (Unit {0}) ExecError) → SiteIs nodes e site → ended_so site r → ErrorIs nodes e r
+ended_error nodes e None r s is = subst (ErrorIs nodes e) (sym is) s
+ended_error nodes e (Some x) r s is = subst (ErrorIs nodes e) (sym is) s
+
+site_tells : (nodes : List Node) (e : Option (ℕ × Code)) (site : Option (List ℕ × Code)) → SiteIs nodes e site → is_some site ≡ is_some e
+site_tells nodes e None s = sym (ap is_some s)
+site_tells nodes e (Some x) s = sym (ap is_some s.1)
+
+-- ---- what was put
+
+pub none_put : (was : Option (List Export)) (before behind : FileMap) (all : List Export) → behind ≡ before → SomePut was was before behind all
+none_put was before behind all e = record { front = []; rest = all; split = refl; made = record { told = grows_by_nothing was; files = e } }
+
+pub front_put : (was now : Option (List Export)) (before before' behind : FileMap) (all : List Export) → before' ≡ before → ArePutBefore was now before' behind all → SomePut was now before behind all
+front_put was now before before' behind all e p = record { front = p.front; rest = p.failed ∷ p.rest; split = p.split; made = subst (λ y. ArePut was now y behind p.front) e p.made }
+
+-- ---- what is left
+
+left_so : (st st2 st3 : State) (links : LinkMap) (full : Bool) → st2.links.links ≡ links → st2.tags ≡ st.tags → st2.held ≡ st.held → st2.cache ≡ st.cache → st2.events.items ≡ st.events.items → IsLeft st2 st2.links.links full st3 → IsLeft st links full st3
+left_so st st2 st3 links full l t h c e left = record {
+  links_are = left.links_are ∙ ap (λ (y : LinkMap). if full then all_held y else y) l;
+  bound = left.bound;
+  tags = left.tags ∙ (ap (λ (y : LinkMap). if full then held_terms (length y) else st2.tags) l ∙ ap (λ (y : List Term). if full then held_terms (length links) else y) t);
+  held = left.held ∙ (ap (λ (y : LinkMap). if full then values_held y else st2.held) l ∙ ap (λ (y : Values). if full then values_held links else y) h);
+  entries = left.entries ∙ ap (λ y. if full then [] else y.entries) c;
+  budget = left.budget ∙ ap (λ y. y.budget) c;
+  events = left.events ∙ ap (λ (y : List Event). y ++ (if full then shown.Clear ∷ [] else [])) e;
+}
+
+pub left_behind : (st st2 st3 : State) (nodes : List Node) (e : Option (ℕ × Code)) (site : Option (List ℕ × Code)) (failed full : Bool) (changes : List Change) (empty : Option NextEmpty) → SiteIs nodes e site → failed ≡ is_some site → st2.links.links ≡ links_behind st.links.links failed changes → st2.tags ≡ st.tags → st2.held ≡ st.held → st2.cache ≡ st.cache → st2.events.items ≡ st.events.items → EmptySo (links_behind st.links.links failed changes) full empty → (EmptySo st2.links.links full empty → IsLeft st2 st2.links.links full st3) → IsLeft st (links_behind st.links.links (is_some e) changes) full st3
+left_behind st st2 st3 nodes e site failed full changes empty s f l t h c ev m left =
+    left_so st st2 st3 (links_behind st.links.links (is_some e) changes) full (l ∙ ap (λ (b : Bool). links_behind st.links.links b changes) (f ∙ site_tells nodes e site s)) t h c ev
+    (left (subst (λ (y : LinkMap). EmptySo y full empty) (sym l) m))

@@ -1,0 +1,63 @@
+use Rattle.std.proofs.Common.{◌≡◌, ◌∙◌, refl, sym, ap, subst}
+use Rattle.dx_graph.specs.GraphView.{graph_of}
+use Rattle.dx_demand.specs.Forming.{named_terms}
+use Rattle.dx_performing.specs.Kept.{is_full}
+use Rattle.dx_performing.specs.Execution.{after_exports}
+use Rattle.dx_ending.specs.Putting.{ArePut, exports_of}
+use Rattle.dx_engine.specs.Leaving.{EmptySo}
+use Rattle.dx_engine.proofs.Finished.{on_end, on_cut, unput_is, unput_cause, unput_is_no_read, unput_is_no_write, unput_end, unput_error, ended_error, none_put, front_put, left_behind}
+use Rattle.dx_engine.proofs.state.State.finish.Goals as goal
+
+pub returns-in_err-reserve-clause-some : goal.returns-in_err-reserve-clause-some
+returns-in_err-reserve-clause-some g c = on_cut c.from_residual-in_err-reserve.result _ (none_put _ _ _ _ c.reserve.ensures.files)
+
+pub returns-in_err-reserve-2-clause-some : goal.returns-in_err-reserve-2-clause-some
+returns-in_err-reserve-2-clause-some g c = on_cut c.from_residual-in_err-reserve-2.result _ (none_put _ _ _ _ c.reserve.ensures.files)
+
+pub returns-in_err-make_puts-clause-left : goal.returns-in_err-make_puts-clause-left
+returns-in_err-make_puts-clause-left g c = unput_end c.in_err-make_puts.field-0.0 c.from_residual-in_err-make_puts.result (unput_is _ _ c.from_residual-in_err-make_puts.ensures.1) _
+
+pub returns-in_err-make_puts-clause-put : goal.returns-in_err-make_puts-clause-put
+returns-in_err-make_puts-clause-put g c = unput_end c.in_err-make_puts.field-0.0 c.from_residual-in_err-make_puts.result (unput_is _ _ c.from_residual-in_err-make_puts.ensures.1) _
+
+pub returns-in_err-make_puts-clause-error : goal.returns-in_err-make_puts-clause-error
+returns-in_err-make_puts-clause-error g c = unput_error c.in_err-make_puts.field-0.0 c.from_residual-in_err-make_puts.result (unput_is _ _ c.from_residual-in_err-make_puts.ensures.1) _ _
+
+pub returns-in_err-make_puts-clause-some : goal.returns-in_err-make_puts-clause-some
+returns-in_err-make_puts-clause-some g c = on_cut c.from_residual-in_err-make_puts.result _ (front_put _ _ _ _ _ _ c.reserve.ensures.files c.in_err-make_puts.ensures.front)
+
+pub returns-in_err-make_puts-clause-links : goal.returns-in_err-make_puts-clause-links
+returns-in_err-make_puts-clause-links g c = on_cut c.from_residual-in_err-make_puts.result _ refl
+
+pub returns-in_err-make_puts-clause-bound : goal.returns-in_err-make_puts-clause-bound
+returns-in_err-make_puts-clause-bound g c = on_cut c.from_residual-in_err-make_puts.result _ refl
+
+pub returns-in_err-make_puts-clause-faults : goal.returns-in_err-make_puts-clause-faults
+returns-in_err-make_puts-clause-faults g c =
+    let is = unput_is c.in_err-make_puts.field-0.0 c.from_residual-in_err-make_puts.result c.from_residual-in_err-make_puts.ensures.1 in
+    (unput_is_no_read c.in_err-make_puts.field-0.0 c.from_residual-in_err-make_puts.result is, unput_is_no_write c.in_err-make_puts.field-0.0 c.from_residual-in_err-make_puts.result is)
+
+pub returns-in_err-make_puts-clause-cause : goal.returns-in_err-make_puts-clause-cause
+returns-in_err-make_puts-clause-cause g c = unput_cause c.in_err-make_puts.field-0.0 _ _ c.make_puts.result c.from_residual-in_err-make_puts.result c.in_err-make_puts.was (unput_is _ _ c.from_residual-in_err-make_puts.ensures.1) c.make_puts.ensures.cause
+
+pub returns-clause-left : goal.returns-clause-left
+returns-clause-left g c =
+    let full = is_full (named_terms c.args.self.now.tags) in
+    let changes = c.args.gathered.changes in
+    let p = c.in_ok-prepared.ensures in
+    let links = c.put_links.ensures.links c.is_some-failed.result changes c.requires.bound p.next in
+    let same = c.put_links.ensures.same in
+    on_end c.ended.result _
+    (left_behind c.args.self.now c.put_links.new.self c.put_empty.new.self (graph_of c.args.g.now).nodes c.args.gathered.error c.in_ok-site.site c.is_some-failed.result full changes c.in_ok-prepared.prepared.empty
+        c.in_ok-site.ensures c.is_some-failed.ensures links.0 same.0 same.1 same.2 (ap (λ y. y.items) same.3 ∙ c.reserve-2.ensures.items) p.empty (c.put_empty.ensures.left full links.1))
+
+pub returns-clause-put : goal.returns-clause-put
+returns-clause-put g c =
+    on_end c.ended.result _
+    (record {
+      told = c.in_ok-make_puts.ensures.all.told;
+      files = ap (λ y. y.files) (c.put_empty.ensures.written ∙ c.put_links.ensures.same.4) ∙ (c.in_ok-make_puts.ensures.all.files ∙ ap (λ y. after_exports y (exports_of c.args.gathered.puts.items)) c.reserve.ensures.files);
+    })
+
+pub returns-clause-error : goal.returns-clause-error
+returns-clause-error g c = ended_error _ _ c.in_ok-site.site c.ended.result c.in_ok-site.ensures c.ended.ensures
