@@ -6,7 +6,7 @@ ghost use Rattle.dx_graph.specs.GraphView.{graph_of};
 ghost use Rattle.dx_tags.specs.declared.term.Term.{Term};
 ghost use Rattle.dx_tags.specs.Closed.{GoesOn};
 ghost use Rattle.dx_meaning.specs.Scan.{Sight};
-ghost use Rattle.dx_demand.specs.Memo.{Answers, answers_of, input_at, formed_of, IsPort, input_scan, port_scan, shown, SettledFits, EmptyMemo};
+ghost use Rattle.dx_demand.specs.Memo.{Answers, answers_of, KeepsAnswers, input_at, formed_of, IsPort, input_scan, port_scan, shown, SettledFits, EmptyMemo};
 ghost use Rattle.dx_demand.specs.Picked.{LinksFit};
 ghost use Rattle.dx_meaning.specs.Forming.{after};
 ghost use Rattle.dx_demand.specs.Calling.{SeenMet, KnownValued, ResolvedValued};
@@ -110,6 +110,7 @@ pub fn resolve<G: Given>(
     ensures goes_on { OnOk result (GoesOn tags.old tags.new) }
     ensures seen { OnOk result (SeenFits (graph_of g.now).nodes tags.new seen.new) }
     ensures kept { OnOk result (KeepsSelectors seen.old.memo seen.new.memo) }
+    ensures answers { OnOk result (KeepsAnswers (answers_of seen.old.memo) (answers_of seen.new.memo)) }
     ensures fits { IfOk result (λ r. ResolvedFits (graph_of g.now).nodes tags.new (G.told given.now) seen.new.memo r) }
     ensures seen_right { (s : Sight) → Sees (G.told given.now) links.now.links written.now.files tags.new s → SeenRight s (graph_of g.now).nodes tags.old seen.old → OnOk result (SeenRight s (graph_of g.now).nodes tags.new seen.new) }
     ensures right { (s : Sight) → Sees (G.told given.now) links.now.links written.now.files tags.new s → SeenRight s (graph_of g.now).nodes tags.old seen.old → IfOk result (λ r. input_scan s (graph_of g.now).nodes i.now ≡ shown_resolved (graph_of g.now).nodes tags.new r) }
@@ -154,6 +155,7 @@ fn resolve_port<G: Given>(
     ensures goes_on { OnOk result (GoesOn tags.old tags.new) }
     ensures seen { OnOk result (SeenFits (graph_of g.now).nodes tags.new seen.new) }
     ensures kept { OnOk result (KeepsSelectors seen.old.memo seen.new.memo) }
+    ensures answers { OnOk result (KeepsAnswers (answers_of seen.old.memo) (answers_of seen.new.memo)) }
     ensures fits { IfOk result (λ r. ResolvedFits (graph_of g.now).nodes tags.new (G.told given.now) seen.new.memo r) }
     ensures seen_right { (s : Sight) → Sees (G.told given.now) links.now.links written.now.files tags.new s → SeenRight s (graph_of g.now).nodes tags.old seen.old → OnOk result (SeenRight s (graph_of g.now).nodes tags.new seen.new) }
     ensures right { (s : Sight) → Sees (G.told given.now) links.now.links written.now.files tags.new s → SeenRight s (graph_of g.now).nodes tags.old seen.old → IfOk result (λ r. port_scan s (graph_of g.now).nodes root ≡ shown_resolved (graph_of g.now).nodes tags.new r) }
@@ -191,6 +193,7 @@ fn settle_port<G: Given>(
     ensures goes_on { OnOk result (GoesOn tags.old tags.new) }
     ensures seen { OnOk result (SeenFits (graph_of g.now).nodes tags.new seen.new) }
     ensures kept { OnOk result (KeepsSelectors seen.old.memo seen.new.memo) }
+    ensures answers { OnOk result (KeepsAnswers (answers_of seen.old.memo) (answers_of seen.new.memo)) }
     ensures fits { IfOk result (λ r. ResolvedFits (graph_of g.now).nodes tags.new (G.told given.now) seen.new.memo r) }
     ensures seen_right { (s : Sight) → Sees (G.told given.now) links.now.links written.now.files tags.new s → SeenRight s (graph_of g.now).nodes tags.old seen.old → OnOk result (SeenRight s (graph_of g.now).nodes tags.new seen.new) }
     ensures right { (s : Sight) → Sees (G.told given.now) links.now.links written.now.files tags.new s → SeenRight s (graph_of g.now).nodes tags.old seen.old → IfOk result (λ r. port_scan s (graph_of g.now).nodes root ≡ shown_resolved (graph_of g.now).nodes tags.new r) }

@@ -22,7 +22,8 @@ use Rattle.dx_demand.specs.Memo.{formed_of, selector_of, site_of}
 use Rattle.dx_demand.specs.Picked.{LinksFit}
 use Rattle.dx_demand.specs.Found.{IsFound, IsClosed}
 use Rattle.dx_demand.specs.Forming.{SeenFormed, formings}
-use Rattle.dx_demand.specs.Calling.{SeenMet}
+use Rattle.dx_demand.specs.Calling.{SeenMet, IsValued}
+use Rattle.dx_demand.specs.Memo as memo
 use Rattle.dx_demand.specs.Steps.{SeenFits, SeenRight}
 use Rattle.dx_performing.specs.Alike.{SameCalls}
 use Rattle.dx_performing.specs.Course.{Fixed, sight_of, around_of, frame_with, formed_calls, as_terms}
@@ -134,6 +135,13 @@ LookedFits setup at (looked.Value t) = IsValue at.tags t × IsFound setup.links.
 LookedFits setup at looked.Off = Unit {0}
 LookedFits setup at (looked.Halt n code) = n < length (nodes_in setup)
 LookedFits setup at (looked.Refused n r) = (n < length (nodes_in setup)) × ((t : ValueTag) × (selector_of at.seen.memo n ≡ Some t))
+
+-- what comes to a value is settled
+abbrev pub LookedValued : memo.Answers → Input → Looked → Type 0
+LookedValued answers i (looked.Value t) = IsValued answers i
+LookedValued answers i looked.Off = Unit {0}
+LookedValued answers i (looked.Halt n code) = Unit {0}
+LookedValued answers i (looked.Refused n r) = Unit {0}
 
 -- ---- getting one selector
 

@@ -13,7 +13,7 @@ use Rattle.dx_demand.specs.Steps.{StepFits, StepRight, LeftRight}
 use Rattle.dx_demand.specs.declared.seen.Frame.{Frame}
 use Rattle.dx_demand.proofs.Growing.{links_fit_grows, sees_before}
 use Rattle.dx_demand.proofs.Memos.{settle_fits, settle_right, settle_keeps}
-use Rattle.dx_demand.proofs.Stacks.{stack_split, stack_join, right_join, left_right, bottom_push, opens_fits, opens_right, opens_bottom, open_ports}
+use Rattle.dx_demand.proofs.Stacks.{answer_kept, stack_split, stack_join, right_join, left_right, bottom_push, opens_fits, opens_right, opens_bottom, open_ports}
 use Rattle.dx_demand.proofs.PortSteps.{with_arguments, top_after, right_after, top_begins, awaits_fits, awaits_right, needs_right, below_fits, below_bottom, last_bottom, same_bottom, settled_less}
 use Rattle.dx_graph.specs.Graph.{node_at}
 use Rattle.dx_demand.specs.Memo.{input_at}
@@ -42,6 +42,7 @@ steps-init g c =
       stack = opens_fits nodes c.args.tags.now answers root before after top c.requires.port c.requires.unanswered c.requires.seen.stack c.top_of-top.ensures;
       bottom = opens_bottom root before after top c.top_of-top.ensures;
       kept = λ n t e. e;
+      answers = λ q b at. at;
       first = kept_itself (formed_of c.args.seen.now.memo);
       found = λ cl. (cl.memo, opens_found c.args.links.now.links c.args.tags.now (formed_of c.args.seen.now.memo) root before after top cl.stack c.top_of-top.ensures);
       met = λ s sees seen f. (f.memo, f.selectors, opens_valued nodes answers root before after top f.stack c.top_of-top.ensures);
@@ -155,6 +156,23 @@ returns-in-None-clause-kept g c =
     let fits : SettledFits nodes mid a.settled = subst (StepFits nodes mid told memo2 top.port) c.in-Settles.is c.in_ok-a.ensures.fits in
     let memo_fits = settle_fits nodes mid memo2 memo3 top.port a ok selectors first fits c.in_ok-a.ensures.memo in
     λ n t e. settle_keeps memo2 memo3 selectors n t (c.in_ok-a.ensures.kept n t (inv.kept n t e))
+
+pub returns-in-None-clause-answers : goal.returns-in-None-clause-answers
+returns-in-None-clause-answers g c =
+    let nodes = (graph_of c.args.g.now).nodes in
+    let old = c.steps.tags in
+    let fs = c.steps.seen.stack.items in
+    let top = c.steps.top in
+    let inv = c.steps.invariant in
+    let memo1 = c.steps.seen.memo in
+    let memo2 = c.next_step.new.memo in
+    let same : answers_of memo2 ≡ answers_of memo1 = c.in_ok-a.ensures.answers in
+    let a = c.in-Settles.a in
+    let memo3 = c.settle.new.self in
+    let ok : answers_of memo3 ≡ with_answer (answers_of memo2) top.port a = c.in_ok-settle-in-Settles.ensures.ok in
+    let open_ = (stack_split nodes old (answers_of memo1) fs top inv.stack).open_ in
+    let both : answers_of memo3 ≡ with_answer (answers_of memo1) top.port a = ok ∙ ap (λ (x : Answers). with_answer x top.port a) same in
+    λ q b at. ap (λ (x : Answers). x q) both ∙ answer_kept (answers_of memo1) top.port a open_ q b (inv.answers q b at)
 
 pub returns-in-None-clause-fits : goal.returns-in-None-clause-fits
 returns-in-None-clause-fits g c =
@@ -284,6 +302,10 @@ steps-preserved-in-Some g c =
       stack = subst (λ (x : Answers). StackFits nodes mid x (rest ++ below ∷ [])) (sym ok) (below_fits nodes mid (answers_of memo2) fs rest now below a e there);
       bottom = below_bottom fs rest top below root e inv.bottom;
       kept = λ n t e. settle_keeps memo2 memo3 selectors n t (c.in_ok-a.ensures.kept n t (inv.kept n t e));
+      answers = λ q b at.
+          let open_ = (stack_split nodes old (answers_of memo1) fs top inv.stack).open_ in
+          let both : answers_of memo3 ≡ with_answer (answers_of memo1) top.port a = ok ∙ ap (λ (x : Answers). with_answer x top.port a) same in
+          ap (λ (x : Answers). x q) both ∙ answer_kept (answers_of memo1) top.port a open_ q b (inv.answers q b at);
       first = λ t n at. kept_same memo2 memo3 first t n (c.in_ok-a.ensures.first t n (inv.first t n at));
       found = λ cl.
           let links = c.args.links.now.links in
@@ -397,6 +419,7 @@ steps-preserved g c =
       stack = subst (StackFits nodes mid (answers_of memo2)) chain (awaits_fits nodes mid (answers_of memo2) fs now q there fit.0 fit.1 fit.2);
       bottom = ap₂ bottom pushed fresh_next ∙ bottom_push fs now (fresh q) ∙ same_bottom fs top args ∙ inv.bottom;
       kept = λ n t e. c.in_ok-a.ensures.kept n t (inv.kept n t e);
+      answers = λ q b at. ap (λ (x : Answers). x q) same ∙ inv.answers q b at;
       first = λ t n at. c.in_ok-a.ensures.first t n (inv.first t n at);
       found = λ cl.
           let links = c.args.links.now.links in
@@ -469,6 +492,10 @@ returns-in-Needs-clause-seen g c =
 pub returns-in-Needs-clause-kept : goal.returns-in-Needs-clause-kept
 returns-in-Needs-clause-kept g c =
     λ n t e. c.in_ok-a.ensures.kept n t (c.steps.invariant.kept n t e)
+
+pub returns-in-Needs-clause-answers : goal.returns-in-Needs-clause-answers
+returns-in-Needs-clause-answers g c =
+    λ q b at. ap (λ (x : Answers). x q) c.in_ok-a.ensures.answers ∙ c.steps.invariant.answers q b at
 
 pub returns-in-Needs-clause-seen_right : goal.returns-in-Needs-clause-seen_right
 returns-in-Needs-clause-seen_right g c =

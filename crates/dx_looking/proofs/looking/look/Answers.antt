@@ -8,7 +8,8 @@ use Rattle.dx_tags.specs.contracts.term.ValueTagPartialEq.TheImpl as tags
 use Rattle.dx_tags.specs.Closed.{GoesOn}
 use Rattle.dx_tags.proofs.Growth.{goes_on_then}
 use Rattle.dx_getting.specs.Told.{told}
-use Rattle.dx_demand.specs.Memo.{formed_of}
+use Rattle.dx_demand.specs.Calling.{ResolvedValued}
+use Rattle.dx_demand.specs.Memo.{answers_of, formed_of}
 use Rattle.dx_demand.specs.Found.{ResolvedFound}
 use Rattle.dx_demand.specs.Forming.{formings}
 use Rattle.dx_demand.specs.Steps.{ResolvedFits, shown_resolved}
@@ -99,6 +100,21 @@ returns-in-Some-clause-looks g c = λ map ec k right base s f st.
     c.in-Some.refusal at2 now2 c.in_ok-refusal-in-Need.ensures.tags
     (subst (λ q. TellsHere setup c.in-Need.t at1 q at2 now2 x k base w.state w.formed) (c.in_ok-refusal-in-Need.was ∙ ap Ok c.in-Some.is) gets)
 
+pub returns-in-Value-clause-answers : goal.returns-in-Value-clause-answers
+returns-in-Value-clause-answers g c = λ p a e. c.in_ok-resolved.ensures.answers p a (c.look.invariant.answers p a e)
+
+pub returns-in-Off-clause-answers : goal.returns-in-Off-clause-answers
+returns-in-Off-clause-answers g c = λ p a e. c.in_ok-resolved.ensures.answers p a (c.look.invariant.answers p a e)
+
+pub returns-in-Halt-clause-answers : goal.returns-in-Halt-clause-answers
+returns-in-Halt-clause-answers g c = λ p a e. c.in_ok-resolved.ensures.answers p a (c.look.invariant.answers p a e)
+
+pub returns-in-Value-clause-valued : goal.returns-in-Value-clause-valued
+returns-in-Value-clause-valued g c = subst (ResolvedValued (answers_of c.resolve_told.new.at.seen.memo) c.args.i.now) c.in-Value.is c.in_ok-resolved.ensures.valued
+
+pub returns-in-Some-clause-answers : goal.returns-in-Some-clause-answers
+returns-in-Some-clause-answers g c = λ p a e. ap (λ (y : Seen). answers_of y.memo p) c.in_ok-refusal-in-Need.ensures.seen ∙ c.in_ok-resolved.ensures.answers p a (c.look.invariant.answers p a e)
+
 pub look-smaller : goal.look-smaller
 look-smaller g c =
     let at1 = c.resolve_told.new.at in
@@ -113,6 +129,7 @@ pub look-preserved : goal.look-preserved
 look-preserved g c = record {
   looking = c.in_ok-refusal-in-Need.ensures.looking;
   goes_on = subst (GoesOn c.args.at.now.tags) (sym c.in_ok-refusal-in-Need.ensures.tags) (goes_on_then c.args.at.now.tags c.look.at.tags c.resolve_told.new.at.tags c.look.invariant.goes_on c.in_ok-resolved.ensures.goes_on);
+  answers = λ p a e. ap (λ (y : Seen). answers_of y.memo p) c.in_ok-refusal-in-Need.ensures.seen ∙ c.in_ok-resolved.ensures.answers p a (c.look.invariant.answers p a e);
   budget = c.in_ok-refusal-in-Need.ensures.budget ∙ ap (λ y. y.cache.budget) c.in_ok-resolved.ensures.work ∙ c.look.invariant.budget;
   same = c.in_ok-refusal-in-Need.ensures.same ∙ c.look.invariant.same;
   later = (let a = c.look.invariant.later in let b = c.in_ok-refusal-in-Need.ensures.cause.later in omega (arith, a, b));
