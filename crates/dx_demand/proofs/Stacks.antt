@@ -105,10 +105,13 @@ stack_settle nodes terms answers p a (f ∷ fs) ab h =
 -- ---- what is right
 
 pub leads_itself : (s : Sight) (nodes : List Node) (p : Port) → Leads s nodes p p
-leads_itself s nodes p s' m e h = h
+leads_itself s nodes p s' m e h = (h, refl)
 
 pub leads_then : (s : Sight) (nodes : List Node) (p q r : Port) → Leads s nodes p q → Leads s nodes q r → Leads s nodes p r
-leads_then s nodes p q r f g s' m e h = f s' m e (g s' m e h)
+leads_then s nodes p q r f g s' m e h =
+    let below = g s' m e h in
+    let here = f s' m e below.0 in
+    (here.0, here.1 ∙ below.1)
 
 pub right_split : (s : Sight) (nodes : List Node) (terms : List Term) (root : Port) (fs : List Frame) (top : Frame) → StackRight s nodes terms root (fs ++ top ∷ []) → StackRight s nodes terms root fs × FrameRight s nodes terms root top
 right_split s nodes terms root [] top h = (tt, h.0)

@@ -15,7 +15,7 @@ use Rattle.dx_machine.specs.Sound.{IsSound}
 use Rattle.dx_getting.specs.Told.{Told, AddsSome}
 use Rattle.dx_getting.specs.Stands.{Answers, IsCall, Stands, call_at, world}
 use Rattle.dx_getting.specs.Steps.{AreCalls}
-use Rattle.dx_meaning.specs.Scan.{IsOff, Stops, Needs, Scanned, Forms, Ends, scan}
+use Rattle.dx_meaning.specs.Scan.{Sight, IsOff, Stops, Needs, Scanned, Forms, Ends, scan}
 use Rattle.dx_meaning.specs.Forming.{Formings, forms, after}
 use Rattle.dx_demand.specs.Terms.{AreExact, IsValue}
 use Rattle.dx_demand.specs.Memo.{formed_of, selector_of, site_of}
@@ -23,6 +23,7 @@ use Rattle.dx_demand.specs.Picked.{LinksFit}
 use Rattle.dx_demand.specs.Found.{IsFound, IsClosed}
 use Rattle.dx_demand.specs.Forming.{SeenFormed, formings}
 use Rattle.dx_demand.specs.Calling.{SeenMet, IsValued}
+use Rattle.dx_demand.specs.Halting.{input_halted, selector_calls}
 use Rattle.dx_demand.specs.Memo as memo
 use Rattle.dx_demand.specs.Steps.{SeenFits, SeenRight}
 use Rattle.dx_performing.specs.Alike.{SameCalls}
@@ -142,6 +143,13 @@ LookedValued answers i (looked.Value t) = IsValued answers i
 LookedValued answers i looked.Off = Unit {0}
 LookedValued answers i (looked.Halt n code) = Unit {0}
 LookedValued answers i (looked.Refused n r) = Unit {0}
+
+-- where a selector is refused, looking stops at that of this node
+abbrev pub LookedHalted : Sight → List Node → Input → Looked → Type 0
+LookedHalted s nodes i (looked.Value t) = Unit {0}
+LookedHalted s nodes i looked.Off = Unit {0}
+LookedHalted s nodes i (looked.Halt n code) = Unit {0}
+LookedHalted s nodes i (looked.Refused n r) = input_halted s nodes i ≡ selector_calls s nodes n
 
 -- ---- getting one selector
 

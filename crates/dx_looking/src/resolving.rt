@@ -10,6 +10,7 @@ ghost use Rattle.dx_demand.specs.Memo.{KeepsAnswers, answers_of, formed_of};
 ghost use Rattle.dx_demand.specs.Calling.{ResolvedValued};
 ghost use Rattle.dx_demand.specs.Found.{ResolvedFound};
 ghost use Rattle.dx_demand.specs.Forming.{formings};
+ghost use Rattle.dx_demand.specs.Halting.{HaltsAt};
 ghost use Rattle.dx_demand.specs.Steps.{KeepsSelectors, ResolvedFits, shown_resolved};
 ghost use Rattle.dx_looking.specs.Setting.{nodes_in, sight_in};
 ghost use Rattle.dx_looking.specs.Looking.{IsLooking, input_tree};
@@ -39,6 +40,7 @@ pub(crate) fn resolve_told(
     ensures found { IfOk result (λ r. ResolvedFound setup.now.links.now.links at.new.tags (formed_of at.new.seen.memo) r) }
     ensures sight { OnOk result (sight_in setup.now at.new ≡ sight_in setup.now at.old) }
     ensures right { IfOk result (λ r. scan (sight_in setup.now at.new) (input_tree setup.now i.now) ≡ shown_resolved (nodes_in setup.now) at.new.tags r) }
+    ensures halted { IfOk result (λ r. HaltsAt (sight_in setup.now at.new) (nodes_in setup.now) i.now r) }
     ensures forms { OnOk result (formings (nodes_in setup.now) at.new.tags at.new.seen.memo ≡ after (forms (sight_in setup.now at.new) (input_tree setup.now i.now)) (formings (nodes_in setup.now) at.old.tags at.old.seen.memo)) }
 {
     let resolved = resolve(

@@ -14,7 +14,7 @@ use Rattle.dx_demand.specs.declared.seen.Frame.{Frame}
 use Rattle.dx_demand.proofs.Growing.{links_fit_grows, sees_before}
 use Rattle.dx_demand.proofs.Memos.{settle_fits, settle_right, settle_keeps}
 use Rattle.dx_demand.proofs.Stacks.{answer_kept, stack_split, stack_join, right_join, left_right, bottom_push, opens_fits, opens_right, opens_bottom, open_ports}
-use Rattle.dx_demand.proofs.PortSteps.{with_arguments, top_after, right_after, top_begins, awaits_fits, awaits_right, needs_right, below_fits, below_bottom, last_bottom, same_bottom, settled_less}
+use Rattle.dx_demand.proofs.PortSteps.{with_arguments, top_after, right_after, top_begins, awaits_fits, awaits_right, needs_right, needs_halted, below_fits, below_bottom, last_bottom, same_bottom, settled_less}
 use Rattle.dx_graph.specs.Graph.{node_at}
 use Rattle.dx_demand.specs.Memo.{input_at}
 use Rattle.dx_demand.specs.declared.settled.Port.{Port}
@@ -549,7 +549,35 @@ returns-in-Needs-clause-right g c =
     let after = right_after s nodes old mid goes (answers_of memo1) root fs top args inv.stack (c.in_ok-a.ensures.begins s r.0 begins) r.1 in
     let stepped = c.in_ok-a.ensures.right s sees r.0 begins in
     let needs = Needs (site_of nodes top.port.node) (value_term (heads_of mid) c.in-Needs.t) in
-    needs_right s nodes mid root now needs after.1 (subst (StepRight s nodes mid top.port) c.in-Needs.is stepped)
+    needs_right s nodes mid root now needs after.1 (subst (StepRight s nodes mid top.port) c.in-Needs.is stepped).0
+
+pub returns-in-Needs-clause-halted : goal.returns-in-Needs-clause-halted
+returns-in-Needs-clause-halted g c =
+    let nodes = (graph_of c.args.g.now).nodes in
+    let told = g.G.Given.told c.args.given.now in
+    let root = c.args.root in
+    let old = c.steps.tags in
+    let fs = c.steps.seen.stack.items in
+    let top = c.steps.top in
+    let inv = c.steps.invariant in
+    let memo1 = c.steps.seen.memo in
+    let mid = c.next_step.new.tags in
+    let memo2 = c.next_step.new.memo in
+    let args = c.next_step.new.arguments in
+    let now = with_arguments top args in
+    let goes = c.in_ok-a.ensures.goes_on in
+    λ s sees seen.
+    let links = links_fit_grows c.args.tags.now old inv.goes_on c.args.links.now.links c.requires.links in
+    let r = inv.right s (sees_before told old mid goes c.args.links.now.links c.args.written.now.files links s sees) seen in
+    let begins = top_begins s nodes old root fs top r.1 in
+    let after = right_after s nodes old mid goes (answers_of memo1) root fs top args inv.stack (c.in_ok-a.ensures.begins s r.0 begins) r.1 in
+    let stepped = c.in_ok-a.ensures.right s sees r.0 begins in
+    let needs = Needs (site_of nodes top.port.node) (value_term (heads_of mid) c.in-Needs.t) in
+    let at_top = subst (StepRight s nodes mid top.port) c.in-Needs.is stepped in
+    needs_halted s nodes mid root now needs after.1 at_top.0 ∙ at_top.1
+
+pub returns-in-None-clause-halted : goal.returns-in-None-clause-halted
+returns-in-None-clause-halted g c = λ s sees seen. c.resolved.ensures.halts s (graph_of c.args.g.now).nodes (input_at c.args.root)
 
 pub returns-in-None-clause-closed : goal.returns-in-None-clause-closed
 returns-in-None-clause-closed g c = λ cl.
@@ -790,7 +818,7 @@ returns-in-Needs-clause-forms g c =
     let by = loop_step s nodes was old mid memo1 memo2 root fs top args at stepped.0 in
     let there = subst (StepForms s nodes (formings nodes mid memo2) top.port) c.in-Needs.is stepped.1 in
     let needs = Needs (site_of nodes top.port.node) (value_term (heads_of mid) c.in-Needs.t) in
-    loop_needs s nodes was mid memo2 root fs now needs by there (subst (StepRight s nodes mid top.port) c.in-Needs.is (c.in_ok-a.ensures.right s sees r.0 begins))
+    loop_needs s nodes was mid memo2 root fs now needs by there (subst (StepRight s nodes mid top.port) c.in-Needs.is (c.in_ok-a.ensures.right s sees r.0 begins)).0
 
 pub returns-in-None-clause-seen_met : goal.returns-in-None-clause-seen_met
 returns-in-None-clause-seen_met g c =

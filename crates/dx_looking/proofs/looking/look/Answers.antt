@@ -16,7 +16,9 @@ use Rattle.dx_demand.specs.Steps.{ResolvedFits, shown_resolved}
 use Rattle.dx_meaning.specs.Forming.{forms, after}
 use Rattle.dx_looking.specs.Setting.{nodes_in, fixed, sight_in}
 use Rattle.dx_looking.specs.Looking.{TellsMore, input_tree}
+use Rattle.dx_demand.specs.Halting.{HaltsAt, input_halted, selector_calls}
 use Rattle.dx_looking.proofs.Counting.{open_selectors, smaller}
+use Rattle.dx_looking.proofs.Resolved.{sight_stays}
 use Rattle.dx_looking.proofs.Ways.{resolved_way, use_here, formed_once, ends_with_value, ends_off, ends_halted, ends_cut_by, told_on, refused_at, cut_at_by, TellsHere}
 use Rattle.dx_looking.proofs.looking.look.Goals as goal
 
@@ -114,6 +116,15 @@ returns-in-Value-clause-valued g c = subst (ResolvedValued (answers_of c.resolve
 
 pub returns-in-Some-clause-answers : goal.returns-in-Some-clause-answers
 returns-in-Some-clause-answers g c = λ p a e. ap (λ (y : Seen). answers_of y.memo p) c.in_ok-refusal-in-Need.ensures.seen ∙ c.in_ok-resolved.ensures.answers p a (c.look.invariant.answers p a e)
+
+pub returns-in-Some-clause-halted : goal.returns-in-Some-clause-halted
+returns-in-Some-clause-halted g c =
+    let setup = c.args.setup.now in
+    let at1 = c.resolve_told.new.at in
+    let at2 = c.tell_selector.new.at in
+    let same = sight_stays setup at1 at2 c.in_ok-refusal-in-Need.ensures.tags (subst (λ o. TellsMore c.in-Need.t at1.told o at2.told) c.in-Some.is c.in_ok-refusal-in-Need.ensures.tells) in
+    subst (λ s. input_halted s (nodes_in setup) c.args.i.now ≡ selector_calls s (nodes_in setup) c.in-Need.n) (sym same)
+    (subst (HaltsAt (sight_in setup at1) (nodes_in setup) c.args.i.now) c.in-Need.is c.in_ok-resolved.ensures.halted)
 
 pub look-smaller : goal.look-smaller
 look-smaller g c =
