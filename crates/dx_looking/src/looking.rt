@@ -3,10 +3,11 @@ ghost use Rattle.std.specs.Prelude.{◌≡◌, length, OnOk, IfOk};
 ghost use Rattle.dx_io.specs.Devices.{Cause};
 ghost use Rattle.dx_graph.specs.Graph.{MayTake};
 ghost use Rattle.dx_tags.specs.Closed.{GoesOn};
+ghost use Rattle.dx_meaning.specs.Scan.{scan};
 ghost use Rattle.dx_demand.specs.Memo.{KeepsAnswers, answers_of};
 ghost use Rattle.dx_getting.specs.Told.{told};
 ghost use Rattle.dx_looking.specs.Setting.{nodes_in, sight_in};
-ghost use Rattle.dx_looking.specs.Looking.{IsLooking, FromHere, LookedFits, LookedValued, LookedHalted, LooksSo, input_tree};
+ghost use Rattle.dx_looking.specs.Looking.{IsLooking, FromHere, LookedFits, LookedValued, LookedHalted, LooksSo, ScansTo, input_tree};
 ghost use Rattle.dx_looking.specs.declared.cut.Cut.TheVariants.{ReadFault};
 
 use crate::cut::Cut;
@@ -25,8 +26,8 @@ use dx_objects::Library;
 /// For files that tell their content, links that are right and work that stands where the machine's state is: what is answered is
 /// what looking by all values comes to, the machine got the selectors, and the terms that looking forms are there; or the last
 /// selector is refused; or the work was cut short on the machine's way. A fault is answered only where the files' count of faults
-/// has risen. What is settled stays, and what comes to a value is settled. Where a selector is refused, looking by what is told
-/// stops at that of the node.
+/// has risen. Looking by what is told so far comes to the same. What is settled stays, and what comes to a value is settled. Where a
+/// selector is refused, looking by what is told stops at that of the node.
 pub fn look<F: Files, L: Library>(
     i: &Input,
     setup: &Setup,
@@ -44,6 +45,7 @@ pub fn look<F: Files, L: Library>(
     ensures fits { IfOk result (λ how. LookedFits setup.now at.new how) }
     ensures answers { OnOk result (KeepsAnswers (answers_of at.old.seen.memo) (answers_of at.new.seen.memo)) }
     ensures valued { IfOk result (λ how. LookedValued (answers_of at.new.seen.memo) i.now how) }
+    ensures sees { IfOk result (λ how. ScansTo (nodes_in setup.now) at.new.tags how (scan (sight_in setup.now at.new) (input_tree setup.now i.now))) }
     ensures halted { IfOk result (λ how. LookedHalted (sight_in setup.now at.new) (nodes_in setup.now) i.now how) }
     ensures looks { FromHere setup.now L.answer (F.content files.old) at.old (told (L.done lib.old) (F.asked files.old)) (λ x k base s f. LooksSo setup.now x k base (input_tree setup.now i.now) s f result at.new (told (L.done lib.new) (F.asked files.new))) }
 {

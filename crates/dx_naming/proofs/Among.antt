@@ -20,7 +20,7 @@ use Rattle.dx_looking.specs.declared.setup.Setup.{Setup}
 use Rattle.dx_looking.specs.declared.progress.Progress.{Progress}
 use Rattle.dx_naming.specs.Naming.{StandsWhere}
 
-pub call_tag : (terms : List Term) (t : ℕ) → IsCall terms t → IsCallTag terms t
+abbrev pub call_tag : (terms : List Term) (t : ℕ) → IsCall terms t → IsCallTag terms t
 call_tag terms t c = record { within = c.within; call = call_at (heads_of terms) t; head = c.head }
 
 abbrev pub first_among : Setup → Progress → ℕ → List Input → Option Place

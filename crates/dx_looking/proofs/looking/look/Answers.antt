@@ -5,11 +5,12 @@ use Rattle.std.specs.Result.{IsErr}
 use Rattle.dx_demand.specs.declared.seen.Seen.{Seen}
 use Rattle.dx_tags.specs.declared.term.ValueTag.{ValueTag}
 use Rattle.dx_tags.specs.contracts.term.ValueTagPartialEq.TheImpl as tags
-use Rattle.dx_tags.specs.Closed.{GoesOn}
+use Rattle.dx_tags.specs.Closed.{GoesOn, heads_of, value_term}
+use Rattle.dx_meaning.specs.Scan.{Needs, Ends, scan}
 use Rattle.dx_tags.proofs.Growth.{goes_on_then}
 use Rattle.dx_getting.specs.Told.{told}
 use Rattle.dx_demand.specs.Calling.{ResolvedValued}
-use Rattle.dx_demand.specs.Memo.{answers_of, formed_of}
+use Rattle.dx_demand.specs.Memo.{answers_of, formed_of, site_of}
 use Rattle.dx_demand.specs.Found.{ResolvedFound}
 use Rattle.dx_demand.specs.Forming.{formings}
 use Rattle.dx_demand.specs.Steps.{ResolvedFits, shown_resolved}
@@ -116,6 +117,24 @@ returns-in-Value-clause-valued g c = subst (ResolvedValued (answers_of c.resolve
 
 pub returns-in-Some-clause-answers : goal.returns-in-Some-clause-answers
 returns-in-Some-clause-answers g c = λ p a e. ap (λ (y : Seen). answers_of y.memo p) c.in_ok-refusal-in-Need.ensures.seen ∙ c.in_ok-resolved.ensures.answers p a (c.look.invariant.answers p a e)
+
+pub returns-in-Value-clause-sees : goal.returns-in-Value-clause-sees
+returns-in-Value-clause-sees g c = c.in_ok-resolved.ensures.right ∙ ap (shown_resolved (nodes_in c.args.setup.now) c.resolve_told.new.at.tags) c.in-Value.is
+
+pub returns-in-Off-clause-sees : goal.returns-in-Off-clause-sees
+returns-in-Off-clause-sees g c = c.in_ok-resolved.ensures.right ∙ ap (shown_resolved (nodes_in c.args.setup.now) c.resolve_told.new.at.tags) c.in-Off.is
+
+pub returns-in-Halt-clause-sees : goal.returns-in-Halt-clause-sees
+returns-in-Halt-clause-sees g c = c.in_ok-resolved.ensures.right ∙ ap (shown_resolved (nodes_in c.args.setup.now) c.resolve_told.new.at.tags) c.in-Halt.is
+
+pub returns-in-Some-clause-sees : goal.returns-in-Some-clause-sees
+returns-in-Some-clause-sees g c =
+    let setup = c.args.setup.now in
+    let at1 = c.resolve_told.new.at in
+    let at2 = c.tell_selector.new.at in
+    let same = sight_stays setup at1 at2 c.in_ok-refusal-in-Need.ensures.tags (subst (λ o. TellsMore c.in-Need.t at1.told o at2.told) c.in-Some.is c.in_ok-refusal-in-Need.ensures.tells) in
+    let term = value_term (heads_of at1.tags) c.in-Need.t in
+    (term, subst (λ s. scan s (input_tree setup c.args.i.now) ≡ Ends (Needs (site_of (nodes_in setup) c.in-Need.n) term)) (sym same) (c.in_ok-resolved.ensures.right ∙ ap (shown_resolved (nodes_in setup) at1.tags) c.in-Need.is))
 
 pub returns-in-Some-clause-halted : goal.returns-in-Some-clause-halted
 returns-in-Some-clause-halted g c =

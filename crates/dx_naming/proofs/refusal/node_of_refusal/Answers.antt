@@ -17,13 +17,13 @@ pub call_among-requires-clause-inputs : goal.call_among-requires-clause-inputs
 call_among-requires-clause-inputs c =
     let setup = c.args.setup.now in
     let nodes = nodes_in setup in
-    let same : c.as_slice.result.now ≡ (node_at nodes c.args.n).inputs = c.as_slice.ensures ∙ ap (λ (x : Node). x.inputs) c.node.ensures in
+    let same : c.as_slice.result.now ≡ (node_at nodes c.args.n).inputs = c.as_slice.ensures ∙ ap (λ (x : Node). x.inputs) c.node-node.ensures in
     subst (All (MayTake nodes (length nodes))) (sym same) (inputs_taken setup c.args.n c.requires.node)
 
 pub call_among-requires-clause-valued : goal.call_among-requires-clause-valued
 call_among-requires-clause-valued c =
     let nodes = nodes_in c.args.setup.now in
-    let same : c.as_slice.result.now ≡ (node_at nodes c.args.n).inputs = c.as_slice.ensures ∙ ap (λ (x : Node). x.inputs) c.node.ensures in
+    let same : c.as_slice.result.now ≡ (node_at nodes c.args.n).inputs = c.as_slice.ensures ∙ ap (λ (x : Node). x.inputs) c.node-node.ensures in
     subst (λ is. AreValued (answers_of c.args.at.now.seen.memo) is (length is)) (sym same) c.requires.valued
 
 pub returns-in-Some-clause-within : goal.returns-in-Some-clause-within
@@ -34,7 +34,7 @@ returns-in-Some-clause-names c = λ is.
     let setup = c.args.setup.now in
     let at = c.args.at.now in
     let nodes = nodes_in setup in
-    let same : c.as_slice.result.now ≡ (node_at nodes c.args.n).inputs = c.as_slice.ensures ∙ ap (λ (x : Node). x.inputs) c.node.ensures in
+    let same : c.as_slice.result.now ≡ (node_at nodes c.args.n).inputs = c.as_slice.ensures ∙ ap (λ (x : Node). x.inputs) c.node-node.ensures in
     let each = node_met (sight_in setup at) nodes c.args.n in
     let call = call_at (heads_of at.tags) c.args.refusal.tag in
     stands_found nodes (all_met each) call c.in-Some.m (ap (place_of nodes) (sym c.in-Some.is) ∙ c.in_ok-m.ensures.first is ∙ ap (first_among setup at c.args.refusal.tag) same ∙ first_is_of_all each call)
@@ -44,7 +44,7 @@ returns-in-None-clause-names c = λ is.
     let setup = c.args.setup.now in
     let at = c.args.at.now in
     let nodes = nodes_in setup in
-    let same : c.as_slice.result.now ≡ (node_at nodes c.args.n).inputs = c.as_slice.ensures ∙ ap (λ (x : Node). x.inputs) c.node.ensures in
+    let same : c.as_slice.result.now ≡ (node_at nodes c.args.n).inputs = c.as_slice.ensures ∙ ap (λ (x : Node). x.inputs) c.node-node.ensures in
     let each = node_met (sight_in setup at) nodes c.args.n in
     let call = call_at (heads_of at.tags) c.args.refusal.tag in
     none_found nodes (all_met each) call c.args.n (ap (place_of nodes) (sym c.in-None.is) ∙ c.in_ok-m.ensures.first is ∙ ap (first_among setup at c.args.refusal.tag) same ∙ first_is_of_all each call)
