@@ -121,11 +121,11 @@ may_get_at setup at l ts args found i t e =
     let early = earlier_at (heads_of at.tags) (length at.tags) ts i t args.earlier e in
     may_get setup at l t (record { within = early.0; result = early.1 }) (all_found_at setup.links.now.links at.tags (formed_of at.seen.memo) ts i t found e)
 
-pub fit_so : (setup : Setup) (at : Progress) (ts : List ValueTag) → AreArguments at.tags ts → AllFound setup.links.now.links at.tags (formed_of at.seen.memo) ts → (r : Result Values GetFail) → IfOk (came_so ts r) (λ how. ArgumentsFit setup at how)
-fit_so setup at ts args found (Ok values) = (args, found)
-fit_so setup at ts args found (Err (Refused tag code)) = tt
-fit_so setup at ts args found (Err ReadFault) = tt
-fit_so setup at ts args found (Err Memory) = tt
+pub fit_so : (setup : Setup) (at : Progress) (ts : List ValueTag) → AreArguments at.tags ts → AllFound setup.links.now.links at.tags (formed_of at.seen.memo) ts → (r : Result Values GetFail) → IfOk r (λ values. length values ≡ length ts) → IfOk (came_so ts r) (λ how. ArgumentsFit setup (length ts) at how)
+fit_so setup at ts args found (Ok values) n = (n, args, found)
+fit_so setup at ts args found (Err (Refused tag code)) n = tt
+fit_so setup at ts args found (Err ReadFault) n = tt
+fit_so setup at ts args found (Err Memory) n = tt
 
 pub on_any : {T E : Type 0} {A : Type 0} (r : Result T E) → A → OnOk r A
 on_any (Ok x) h = h

@@ -1,5 +1,5 @@
 -- What looking at all arguments of an effect comes to.
-use Rattle.std.specs.Prelude.{◌≡◌, ◌<◌, List, length, Some, Result, Ok, Err}
+use Rattle.std.specs.Prelude.{◌≡◌, ◌<◌, ℕ, List, length, Some, Result, Ok, Err}
 use Rattle.dx_graph.specs.Graph.{Node}
 use Rattle.dx_graph.specs.Unfolding.{calls_of, trees_of}
 use Rattle.dx_graph.specs.declared.node.Input.{Input}
@@ -27,12 +27,12 @@ use Rattle.dx_effects.specs.declared.looked.AllLooked.TheVariants as all
 abbrev pub input_trees : Setup → List Input → Trees
 input_trees setup inputs = trees_of (calls_of (nodes_in setup)) inputs
 
--- what is answered fits what is kept
-abbrev pub AllLookedFit : Setup → Progress → AllLooked → Type 0
-AllLookedFit setup at (all.Terms ts) = AreArguments at.tags ts × AllFound setup.links.now.links at.tags (formed_of at.seen.memo) ts
-AllLookedFit setup at all.Off = Unit {0}
-AllLookedFit setup at (all.Halt n code) = n < length (nodes_in setup)
-AllLookedFit setup at (all.Refused n r) = (n < length (nodes_in setup)) × ((t : ValueTag) × (selector_of at.seen.memo n ≡ Some t))
+-- what is answered of so many arguments fits what is kept
+abbrev pub AllLookedFit : Setup → ℕ → Progress → AllLooked → Type 0
+AllLookedFit setup count at (all.Terms ts) = (length ts ≡ count) × AreArguments at.tags ts × AllFound setup.links.now.links at.tags (formed_of at.seen.memo) ts
+AllLookedFit setup count at all.Off = Unit {0}
+AllLookedFit setup count at (all.Halt n code) = n < length (nodes_in setup)
+AllLookedFit setup count at (all.Refused n r) = (n < length (nodes_in setup)) × ((t : ValueTag) × (selector_of at.seen.memo n ≡ Some t))
 
 -- looking by all values ends so
 abbrev pub AllScanTo : List Node → List Term → AllLooked → Scanned ValueTerms → Type 0

@@ -32,13 +32,13 @@ use Rattle.dx_effects.specs.declared.came.Arguments.TheVariants as arguments
 abbrev pub node_trees : Setup → ℕ → Trees
 node_trees setup n = input_trees setup (node_at (nodes_in setup) n).inputs
 
--- what is answered fits what is kept
-abbrev pub ArgumentsFit : Setup → Progress → Arguments → Type 0
-ArgumentsFit setup at (arguments.Values ts vs) = AreArguments at.tags ts × AllFound setup.links.now.links at.tags (formed_of at.seen.memo) ts
-ArgumentsFit setup at arguments.Off = Unit {0}
-ArgumentsFit setup at (arguments.Halt n code) = n < length (nodes_in setup)
-ArgumentsFit setup at (arguments.SelectorRefused n r) = (n < length (nodes_in setup)) × ((t : ValueTag) × (selector_of at.seen.memo n ≡ Some t))
-ArgumentsFit setup at (arguments.Refused r) = Unit {0}
+-- what is answered of so many arguments fits what is kept
+abbrev pub ArgumentsFit : Setup → ℕ → Progress → Arguments → Type 0
+ArgumentsFit setup count at (arguments.Values ts vs) = (length vs ≡ count) × AreArguments at.tags ts × AllFound setup.links.now.links at.tags (formed_of at.seen.memo) ts
+ArgumentsFit setup count at arguments.Off = Unit {0}
+ArgumentsFit setup count at (arguments.Halt n code) = n < length (nodes_in setup)
+ArgumentsFit setup count at (arguments.SelectorRefused n r) = (n < length (nodes_in setup)) × ((t : ValueTag) × (selector_of at.seen.memo n ≡ Some t))
+ArgumentsFit setup count at (arguments.Refused r) = Unit {0}
 
 -- what looking by all values came to, and whether each term denotes a value
 abbrev pub MeanSo : Around → List Node → List Term → Arguments → Scanned ValueTerms → Type 0

@@ -1,6 +1,7 @@
 //! The arguments of an effect.
 ghost use Rattle.std.specs.Prelude.{◌≡◌, ◌<◌, length, OnOk, IfOk};
 ghost use Rattle.dx_io.specs.Devices.{Cause};
+ghost use Rattle.dx_graph.specs.Graph.{node_at};
 ghost use Rattle.dx_tags.specs.Closed.{GoesOn};
 ghost use Rattle.dx_getting.specs.Told.{told};
 ghost use Rattle.dx_looking.specs.Setting.{nodes_in};
@@ -35,7 +36,7 @@ pub fn arguments_of<F: Files, L: Library>(
     ensures budget { at.new.work.cache.budget ≡ at.old.work.cache.budget }
     ensures looking { OnOk result (IsLooking setup.now at.new) }
     ensures goes_on { OnOk result (GoesOn at.old.tags at.new.tags) }
-    ensures fits { IfOk result (λ how. ArgumentsFit setup.now at.new how) }
+    ensures fits { IfOk result (λ how. ArgumentsFit setup.now (length (node_at (nodes_in setup.now) n).inputs) at.new how) }
     ensures comes { FromHere setup.now L.answer (F.content files.old) at.old (told (L.done lib.old) (F.asked files.old)) (λ x k base s f. ArgumentsSo setup.now x k base (node_trees setup.now n) s f result at.new (told (L.done lib.new) (F.asked files.new))) }
 {
     let node = setup.graph.node(n);

@@ -32,7 +32,7 @@ pub fn look_all<F: Files, L: Library>(
     ensures budget { at.new.work.cache.budget ≡ at.old.work.cache.budget }
     ensures looking { OnOk result (IsLooking setup.now at.new) }
     ensures goes_on { OnOk result (GoesOn at.old.tags at.new.tags) }
-    ensures fits { IfOk result (λ how. AllLookedFit setup.now at.new how) }
+    ensures fits { IfOk result (λ how. AllLookedFit setup.now (length inputs.now) at.new how) }
     ensures looks { FromHere setup.now L.answer (F.content files.old) at.old (told (L.done lib.old) (F.asked files.old)) (λ x k base s f. AllLookSo setup.now x k base (input_trees setup.now inputs.now) s f result at.new (told (L.done lib.new) (F.asked files.new))) }
 {
     let mut terms = Items::new(setup.alloc);

@@ -1,5 +1,5 @@
 //! Getting the values of terms that were formed.
-ghost use Rattle.std.specs.Prelude.{◌≡◌, OnOk, IfOk};
+ghost use Rattle.std.specs.Prelude.{◌≡◌, length, OnOk, IfOk};
 ghost use Rattle.dx_io.specs.Devices.{Cause};
 ghost use Rattle.dx_tags.specs.Closed.{heads_of, value_terms};
 ghost use Rattle.dx_getting.specs.Told.{told};
@@ -34,7 +34,7 @@ pub(crate) fn got_values<F: Files, L: Library>(
     ensures tags { at.new.tags ≡ at.old.tags }
     ensures seen { at.new.seen ≡ at.old.seen }
     ensures looking { OnOk result (IsLooking setup.now at.new) }
-    ensures fits { IfOk result (λ how. ArgumentsFit setup.now at.new how) }
+    ensures fits { IfOk result (λ how. ArgumentsFit setup.now (length terms) at.new how) }
     ensures comes { FromHere setup.now L.answer (F.content files.old) at.old (told (L.done lib.old) (F.asked files.old)) (λ x k base s f. TermsSo setup.now x k base (value_terms (heads_of at.old.tags) terms) s f result at.new (told (L.done lib.new) (F.asked files.new))) }
 {
     let scene = Scene {

@@ -1,5 +1,5 @@
 use Rattle.std.proofs.Common.{length, All, sym, ap, ◌∙◌, subst}
-use Rattle.std.specs.Prelude.{Ok}
+use Rattle.std.specs.Prelude.{Ok, IfOk}
 use Rattle.dx_graph.specs.Graph.{MayTake}
 use Rattle.dx_graph.specs.declared.node.Node.{Node}
 use Rattle.dx_tags.specs.Closed.{heads_of, value_terms}
@@ -7,8 +7,8 @@ use Rattle.dx_getting.specs.Told.{told}
 use Rattle.dx_meaning.specs.Forming.{after}
 use Rattle.dx_performing.specs.Course.{sight_of, look_at}
 use Rattle.dx_looking.specs.Setting.{nodes_in, fixed}
-use Rattle.dx_effects.specs.AllLooking.{AllLookSo, input_trees}
-use Rattle.dx_effects.specs.Coming.{TermsSo, node_trees}
+use Rattle.dx_effects.specs.AllLooking.{AllLookedFit, AllLookSo, input_trees}
+use Rattle.dx_effects.specs.Coming.{ArgumentsFit, TermsSo, node_trees}
 use Rattle.dx_effects.proofs.NextInput.{by_budget}
 use Rattle.dx_effects.proofs.NodeInputs.{inputs_taken}
 use Rattle.dx_effects.proofs.WholeEffect.{cut_looking, off, halt, refused, taken}
@@ -87,3 +87,10 @@ returns-in-Ok-Terms-clause-comes g c =
     let ts = c.in-Ok-Terms.terms in
     taken setup x k base (look_at (sight_of x k) trees) s f at1 now1 ts looks c.got_values.result c.got_values.new.at now2
     (λ s1 st1. by_budget setup g.L.Library.answer (g.F.Files.content c.look_all.new.files) at1 now1 (λ x k base s f. TermsSo setup x k base (value_terms (heads_of at1.tags) ts) s f c.got_values.result c.got_values.new.at now2) c.got_values.ensures.comes map (c.look_all.ensures.same ∙ told_map) b c.look_all.ensures.budget k right base s1 (after (look_at (sight_of x k) trees).forms f) st1)
+
+pub returns-in-Ok-Terms-clause-fits : goal.returns-in-Ok-Terms-clause-fits
+returns-in-Ok-Terms-clause-fits g c =
+    let setup = c.args.setup.now in
+    let eq = c.as_slice.ensures ∙ ap (λ (y : Node). y.inputs) c.node-node.ensures in
+    let looked = subst (λ r. IfOk r (λ how. AllLookedFit setup (length c.as_slice.result.now) c.look_all.new.at how)) (c.in-Ok-Terms.is ∙ ap Ok c.in-Ok-Terms.field-0-is) c.look_all.ensures.fits in
+    subst (λ count. IfOk c.got_values.result (λ how. ArgumentsFit setup count c.got_values.new.at how)) (looked.0 ∙ ap length eq) c.got_values.ensures.fits

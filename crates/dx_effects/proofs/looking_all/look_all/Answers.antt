@@ -1,4 +1,4 @@
-use Rattle.std.proofs.Common.{◌∙◌, ◌≤◌, ◌+◌, length, drop, refl, sym, ap, subst, arith}
+use Rattle.std.proofs.Common.{◌≡◌, ◌∙◌, ◌<◌, ◌≤◌, ◌+◌, [], ◌∷◌, length, length-append, drop, refl, sym, ap, subst, arith}
 use Rattle.std.specs.Prelude.{Ok, Err}
 use Rattle.std.proofs.lemmas.Result.{err_from_is_err_and}
 use Rattle.dx_tags.proofs.Growth.{goes_on_same, goes_on_then}
@@ -24,6 +24,7 @@ loop-i-init g c = record {
   budget = refl;
   looking = c.requires.looking;
   goes_on = goes_on_same c.args.at.now.tags;
+  count = ap length c.new-terms.ensures;
   arguments = subst (AreArguments c.args.at.now.tags) (sym c.new-terms.ensures) (no_arguments c.args.at.now.tags);
   found = rw c.new-terms.ensures tt;
   so_far = λ map told_map k links base s f st.
@@ -124,6 +125,7 @@ loop-i-preserved g c =
       budget = c.look.ensures.budget ∙ c.loop-i.invariant.budget;
       looking = c.in_ok-t.ensures.looking;
       goes_on = goes_on_then c.args.at.now.tags c.loop-i.at.tags c.look.new.at.tags c.loop-i.invariant.goes_on on;
+      count = ap length c.in_ok-push-in-Value.ensures.ok ∙ length-append c.loop-i.terms (c.in-Value.t ∷ []) ∙ ap (λ n. n + 1) c.loop-i.invariant.count;
       arguments = subst (AreArguments c.look.new.at.tags) (sym c.in_ok-push-in-Value.ensures.ok) (arguments_push c.look.new.at.tags c.loop-i.terms c.in-Value.t (arguments_on c.loop-i.at.tags c.look.new.at.tags on c.loop-i.terms c.loop-i.invariant.arguments) fits.0);
       found = subst (AllFound c.args.setup.now.links.now.links c.look.new.at.tags (formed_of c.look.new.at.seen.memo)) (sym c.in_ok-push-in-Value.ensures.ok) (all_found_push c.args.setup.now.links.now.links c.look.new.at.tags (formed_of c.look.new.at.seen.memo) c.loop-i.terms c.in-Value.t
           (all_found_grows c.loop-i.at.tags c.look.new.at.tags on c.args.setup.now.links.now.links (formed_of c.loop-i.at.seen.memo) (formed_of c.look.new.at.seen.memo) c.in_ok-t.ensures.first c.loop-i.terms c.loop-i.invariant.arguments.earlier c.loop-i.invariant.found)
@@ -143,6 +145,13 @@ loop-i-preserved g c =
           subst (λ ts. SoFar setup x k base whole rest s f ts c.look.new.at now') (sym c.in_ok-push-in-Value.ensures.ok)
           (takes setup x k base whole rest (input_tree setup c.i-item.result) s f c.loop-i.terms c.loop-i.at now so c.look.new.at now' c.in-Value.t on c.loop-i.invariant.arguments.earlier (λ s1 st1. look_by setup g.L.Library.answer (g.F.Files.content c.loop-i.files) c.loop-i.at now (input_tree setup c.i-item.result) (Ok c.in_ok-t.field-0) (Ok (one.Value c.in-Value.t)) (ap Ok c.in-Value.is) c.look.new.at now' c.in_ok-t.ensures.looks map (c.loop-i.invariant.same ∙ told_map) b c.loop-i.invariant.budget k links base s1 so.formings st1));
     }
+
+pub returns-clause-fits : goal.returns-clause-fits
+returns-clause-fits g c =
+    let past = c.loop-i-test.false in
+    let end = c.loop-i.auto.i-index-end in
+    let count = c.loop-i.invariant.count in
+    (omega (arith, past, end, count), c.loop-i.invariant.arguments, c.loop-i.invariant.found)
 
 pub returns-clause-looks : goal.returns-clause-looks
 returns-clause-looks g c =

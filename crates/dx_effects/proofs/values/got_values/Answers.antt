@@ -1,4 +1,4 @@
-use Rattle.std.proofs.Common.{sym, ap, ◌∙◌, subst}
+use Rattle.std.proofs.Common.{◌≡◌, length, sym, ap, ◌∙◌, subst}
 use Rattle.std.specs.Prelude.{slice_get, IfOk}
 use Rattle.dx_tags.specs.Closed.{heads_of, value_terms}
 use Rattle.dx_tags.specs.Whole.{HaveNoFile}
@@ -23,8 +23,9 @@ returns-clause-looking g c = on_any c.came_of.result (looking_by c.args.setup.no
 
 pub returns-clause-fits : goal.returns-clause-fits
 returns-clause-fits g c =
-    subst (λ r. IfOk r (λ how. ArgumentsFit c.args.setup.now (with_work c.args.at.now c.get_all-got.new.work) how)) (sym c.came_of.ensures)
-    (fit_so c.args.setup.now (with_work c.args.at.now c.get_all-got.new.work) c.args.terms c.requires.arguments c.requires.found c.get_all-got.result)
+    subst (λ r. IfOk r (λ how. ArgumentsFit c.args.setup.now (length c.args.terms) (with_work c.args.at.now c.get_all-got.new.work) how)) (sym c.came_of.ensures)
+    (fit_so c.args.setup.now (with_work c.args.at.now c.get_all-got.new.work) c.args.terms c.requires.arguments c.requires.found c.get_all-got.result
+    (subst (λ xs. IfOk c.get_all-got.result (λ values. length values ≡ length xs)) c.as_slice.ensures c.get_all-got.ensures.count))
 
 pub returns-clause-comes : goal.returns-clause-comes
 returns-clause-comes g c =
