@@ -4,9 +4,10 @@ ghost use Rattle.dx_io.specs.Devices.{Cause};
 ghost use Rattle.dx_graph.specs.Graph.{MayTake};
 ghost use Rattle.dx_tags.specs.Closed.{GoesOn};
 ghost use Rattle.dx_meaning.specs.Scan.{scan};
-ghost use Rattle.dx_demand.specs.Memo.{KeepsAnswers, answers_of};
+ghost use Rattle.dx_demand.specs.Memo.{KeepsAnswers, answers_of, formed_of};
 ghost use Rattle.dx_getting.specs.Told.{told};
 ghost use Rattle.dx_looking.specs.Setting.{nodes_in, sight_in};
+ghost use Rattle.dx_demand.specs.Found.{Kept};
 ghost use Rattle.dx_looking.specs.Looking.{IsLooking, FromHere, LookedFits, LookedValued, LookedHalted, LooksSo, ScansTo, input_tree};
 ghost use Rattle.dx_looking.specs.declared.cut.Cut.TheVariants.{ReadFault};
 
@@ -42,6 +43,7 @@ pub fn look<F: Files, L: Library>(
     ensures budget { at.new.work.cache.budget ≡ at.old.work.cache.budget }
     ensures looking { OnOk result (IsLooking setup.now at.new) }
     ensures goes_on { OnOk result (GoesOn at.old.tags at.new.tags) }
+    ensures first { OnOk result (Kept (formed_of at.old.seen.memo) (formed_of at.new.seen.memo)) }
     ensures fits { IfOk result (λ how. LookedFits setup.now at.new how) }
     ensures answers { OnOk result (KeepsAnswers (answers_of at.old.seen.memo) (answers_of at.new.seen.memo)) }
     ensures valued { IfOk result (λ how. LookedValued (answers_of at.new.seen.memo) i.now how) }

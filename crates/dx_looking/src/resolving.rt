@@ -8,7 +8,7 @@ ghost use Rattle.dx_meaning.specs.Forming.{forms, after};
 ghost use Rattle.dx_meaning.specs.Scan.{scan};
 ghost use Rattle.dx_demand.specs.Memo.{KeepsAnswers, answers_of, formed_of};
 ghost use Rattle.dx_demand.specs.Calling.{ResolvedValued};
-ghost use Rattle.dx_demand.specs.Found.{ResolvedFound};
+ghost use Rattle.dx_demand.specs.Found.{Kept, ResolvedFound};
 ghost use Rattle.dx_demand.specs.Forming.{formings};
 ghost use Rattle.dx_demand.specs.Halting.{HaltsAt};
 ghost use Rattle.dx_demand.specs.Steps.{KeepsSelectors, ResolvedFits, shown_resolved};
@@ -36,6 +36,7 @@ pub(crate) fn resolve_told(
     ensures kept { OnOk result (KeepsSelectors at.old.seen.memo at.new.seen.memo) }
     ensures answers { OnOk result (KeepsAnswers (answers_of at.old.seen.memo) (answers_of at.new.seen.memo)) }
     ensures valued { IfOk result (λ r. ResolvedValued (answers_of at.new.seen.memo) i.now r) }
+    ensures first { OnOk result (Kept (formed_of at.old.seen.memo) (formed_of at.new.seen.memo)) }
     ensures fits { IfOk result (λ r. ResolvedFits (nodes_in setup.now) at.new.tags (λ t. lookup (tags.ghosts.eq t) at.new.told) at.new.seen.memo r) }
     ensures found { IfOk result (λ r. ResolvedFound setup.now.links.now.links at.new.tags (formed_of at.new.seen.memo) r) }
     ensures sight { OnOk result (sight_in setup.now at.new ≡ sight_in setup.now at.old) }

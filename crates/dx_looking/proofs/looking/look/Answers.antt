@@ -11,7 +11,7 @@ use Rattle.dx_tags.proofs.Growth.{goes_on_then}
 use Rattle.dx_getting.specs.Told.{told}
 use Rattle.dx_demand.specs.Calling.{ResolvedValued}
 use Rattle.dx_demand.specs.Memo.{answers_of, formed_of, site_of}
-use Rattle.dx_demand.specs.Found.{ResolvedFound}
+use Rattle.dx_demand.specs.Found.{Kept, ResolvedFound}
 use Rattle.dx_demand.specs.Forming.{formings}
 use Rattle.dx_demand.specs.Steps.{ResolvedFits, shown_resolved}
 use Rattle.dx_meaning.specs.Forming.{forms, after}
@@ -145,6 +145,18 @@ returns-in-Some-clause-halted g c =
     subst (λ s. input_halted s (nodes_in setup) c.args.i.now ≡ selector_calls s (nodes_in setup) c.in-Need.n) (sym same)
     (subst (HaltsAt (sight_in setup at1) (nodes_in setup) c.args.i.now) c.in-Need.is c.in_ok-resolved.ensures.halted)
 
+pub returns-in-Value-clause-first : goal.returns-in-Value-clause-first
+returns-in-Value-clause-first g c = λ t n e. c.in_ok-resolved.ensures.first t n (c.look.invariant.first t n e)
+
+pub returns-in-Off-clause-first : goal.returns-in-Off-clause-first
+returns-in-Off-clause-first g c = λ t n e. c.in_ok-resolved.ensures.first t n (c.look.invariant.first t n e)
+
+pub returns-in-Halt-clause-first : goal.returns-in-Halt-clause-first
+returns-in-Halt-clause-first g c = λ t n e. c.in_ok-resolved.ensures.first t n (c.look.invariant.first t n e)
+
+pub returns-in-Some-clause-first : goal.returns-in-Some-clause-first
+returns-in-Some-clause-first g c = subst (λ (y : Seen). Kept (formed_of c.args.at.now.seen.memo) (formed_of y.memo)) (sym c.in_ok-refusal-in-Need.ensures.seen) (λ t n e. c.in_ok-resolved.ensures.first t n (c.look.invariant.first t n e))
+
 pub look-smaller : goal.look-smaller
 look-smaller g c =
     let at1 = c.resolve_told.new.at in
@@ -160,6 +172,7 @@ look-preserved g c = record {
   looking = c.in_ok-refusal-in-Need.ensures.looking;
   goes_on = subst (GoesOn c.args.at.now.tags) (sym c.in_ok-refusal-in-Need.ensures.tags) (goes_on_then c.args.at.now.tags c.look.at.tags c.resolve_told.new.at.tags c.look.invariant.goes_on c.in_ok-resolved.ensures.goes_on);
   answers = λ p a e. ap (λ (y : Seen). answers_of y.memo p) c.in_ok-refusal-in-Need.ensures.seen ∙ c.in_ok-resolved.ensures.answers p a (c.look.invariant.answers p a e);
+  first = subst (λ (y : Seen). Kept (formed_of c.args.at.now.seen.memo) (formed_of y.memo)) (sym c.in_ok-refusal-in-Need.ensures.seen) (λ t n e. c.in_ok-resolved.ensures.first t n (c.look.invariant.first t n e));
   budget = c.in_ok-refusal-in-Need.ensures.budget ∙ ap (λ y. y.cache.budget) c.in_ok-resolved.ensures.work ∙ c.look.invariant.budget;
   same = c.in_ok-refusal-in-Need.ensures.same ∙ c.look.invariant.same;
   later = (let a = c.look.invariant.later in let b = c.in_ok-refusal-in-Need.ensures.cause.later in omega (arith, a, b));
