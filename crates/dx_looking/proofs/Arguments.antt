@@ -1,5 +1,5 @@
 -- Where looking at some inputs stops, by what is told, where the first of them are settled with values.
-use Rattle.std.proofs.Common.{◌≡◌, ℕ, zero, suc, ◌<◌, List, [], ◌∷◌, Some, refl, sym, ap, ◌∙◌, arith}
+use Rattle.std.proofs.Common.{◌≡◌, ℕ, zero, suc, ◌+◌, ◌<◌, List, [], ◌∷◌, Some, refl, sym, ap, ◌∙◌, arith}
 use Rattle.std.specs.Prelude.{slice_get}
 use Rattle.dx_macros.specs.Tree.{CallTree}
 use Rattle.dx_graph.specs.Graph.{Node}
@@ -10,9 +10,10 @@ use Rattle.dx_tags.specs.declared.term.Term.{Term}
 use Rattle.dx_tags.specs.Closed.{ValueTerm, ConstantTerm, heads_of, value_term}
 use Rattle.dx_meaning.specs.Scan.{Sight, Stop, Scanned, Forms, Ends, scanned_beside, all_scanned, scan, scan_each}
 use Rattle.dx_meaning.specs.Halted.{halted_beside, all_halted, halted_met, each_halted, halted_all}
-use Rattle.dx_demand.specs.Memo.{answers_of, shown, input_scan, MemoRight}
+use Rattle.dx_demand.specs.Memo.{Answers, KeepsAnswers, answers_of, shown, input_scan, MemoRight}
 use Rattle.dx_demand.specs.Calling.{IsValued, AreValued}
 use Rattle.dx_demand.specs.declared.seen.Memo.{Memo}
+use Rattle.dx_demand.proofs.Calls.{one_valued}
 
 -- an input that is settled with a value forms a term
 abbrev pub FormsSome : Sight → List CallTree → Input → Type 0
@@ -44,3 +45,14 @@ pub halts_behind : (s : Sight) (nodes : List Node) (terms : List Term) (m : Memo
     (all_scanned (scan_each s (trees_of (calls_of nodes) is)) ≡ Ends e) × (halted_all s (trees_of (calls_of nodes) is) ≡ halted_met s (tree_of (calls_of nodes) x))
 halts_behind s nodes terms m r is k v x e at ends =
     stops_behind s (calls_of nodes) is k x e (λ j y lt slot. valued_forms s nodes terms m r y (v j y lt slot)) at ends
+
+-- what is settled with values stays so, and the next is too
+valued_kept : (old new : Answers) → KeepsAnswers old new → (i : Input) → IsValued old i → IsValued new i
+valued_kept old new keeps (input.Constant c) v = tt
+valued_kept old new keeps (input.Result n result) v = record { answer = v.answer; tag = v.tag; at = keeps (record { node = n; result = result }) v.answer v.at; is = v.is }
+
+pub are_valued_kept : (old new : Answers) → KeepsAnswers old new → (is : List Input) (n : ℕ) → AreValued old is n → AreValued new is n
+are_valued_kept old new keeps is n v k x lt at = valued_kept old new keeps x (v k x lt at)
+
+pub next_valued : (old new : Answers) → KeepsAnswers old new → (is : List Input) (n : ℕ) (x : Input) → AreValued old is n → slice_get is n ≡ Some x → IsValued new x → AreValued new is (n + 1)
+next_valued old new keeps is n x v at here k y lt slot = one_valued new is n x (are_valued_kept old new keeps is n v) at here k y (omega (arith, lt)) slot
