@@ -16,12 +16,12 @@ use Rattle.dx_tags.specs.Closed.{ValueTerm, Head, heads_of, value_term}
 use Rattle.dx_links.specs.LinkMap.{LinkMap}
 use Rattle.dx_meaning.specs.Outcome.{Value}
 use Rattle.dx_meaning.specs.Picking.{Shelf, pick, selector_at, module_selector, IsSelecting}
-use Rattle.dx_meaning.specs.Scan.{Sight, Stop, Scanned, Forms, Ends, scanned_at, call_scanned, terms_in, scan, scan_each}
+use Rattle.dx_meaning.specs.Scan.{Sight, Stop, Scanned, Forms, Ends, call_scanned, terms_in, scan, scan_each}
 use Rattle.dx_meaning.specs.More.{More}
 use Rattle.dx_meaning.specs.Met.{Called, met_at, picked_met, effect_met}
 use Rattle.dx_meaning.specs.Halted.{halted_beside, all_halted, told_halted, selected_halted, selector_halted, module_halted, rule_halted, halted_met, each_halted}
 use Rattle.dx_meaning.proofs.Keeping.{forms_kept, at_keeps, each_keeps, same_terms}
-use Rattle.dx_demand.specs.Memo.{input_at, node_scans, port_scan, selector_scan}
+use Rattle.dx_demand.specs.Memo.{input_at, node_scans, selector_scan}
 use Rattle.dx_demand.specs.Calling.{node_met}
 use Rattle.dx_demand.specs.Halting.{node_halted, input_halted, port_halted, selector_calls}
 use Rattle.dx_demand.specs.Picked.{shelf_with, shown_pick}

@@ -22,7 +22,6 @@ use Rattle.dx_meaning.specs.Scan.{Sight, Stop, Needs, Scanned, Forms, Ends, scan
 use Rattle.dx_meaning.specs.More.{More}
 use Rattle.dx_demand.specs.Memo.{node_scans, input_scan, port_scan, selector_scan, site_of}
 use Rattle.dx_demand.specs.Stack.{Begins}
-use Rattle.dx_demand.specs.Memo.{input_at}
 use Rattle.dx_demand.specs.declared.settled.Port.{Port}
 use Rattle.dx_demand.specs.Steps.{IsPicking}
 use Rattle.dx_meaning.proofs.Keeping.{EachKeeps, forms_kept, at_keeps, each_keeps, same_file}

@@ -1,5 +1,5 @@
 -- Where looking at some inputs stops, by what is told, where the first of them are settled with values.
-use Rattle.std.proofs.Common.{◌≡◌, ℕ, zero, suc, ◌+◌, ◌<◌, List, [], ◌∷◌, Some, refl, sym, ap, ◌∙◌, arith}
+use Rattle.std.proofs.Common.{◌≡◌, ℕ, zero, suc, ◌+◌, ◌<◌, List, [], ◌∷◌, Some, refl, ap, ◌∙◌, arith}
 use Rattle.std.specs.Prelude.{slice_get}
 use Rattle.dx_macros.specs.Tree.{CallTree}
 use Rattle.dx_graph.specs.Graph.{Node}
@@ -8,9 +8,9 @@ use Rattle.dx_graph.specs.declared.node.Input.{Input}
 use Rattle.dx_graph.specs.declared.node.Input.TheVariants as input
 use Rattle.dx_tags.specs.declared.term.Term.{Term}
 use Rattle.dx_tags.specs.Closed.{ValueTerm, ConstantTerm, heads_of, value_term}
-use Rattle.dx_meaning.specs.Scan.{Sight, Stop, Scanned, Forms, Ends, scanned_beside, all_scanned, scan, scan_each}
-use Rattle.dx_meaning.specs.Halted.{halted_beside, all_halted, halted_met, each_halted, halted_all}
-use Rattle.dx_demand.specs.Memo.{Answers, KeepsAnswers, answers_of, shown, input_scan, MemoRight}
+use Rattle.dx_meaning.specs.Scan.{Sight, Stop, Forms, Ends, scanned_beside, all_scanned, scan, scan_each}
+use Rattle.dx_meaning.specs.Halted.{halted_beside, halted_met, halted_all}
+use Rattle.dx_demand.specs.Memo.{answers_of, shown, input_scan, MemoRight}
 use Rattle.dx_demand.specs.Calling.{IsValued, AreValued}
 use Rattle.dx_demand.specs.declared.seen.Memo.{Memo}
 use Rattle.dx_demand.proofs.Calls.{one_valued}

@@ -8,7 +8,7 @@ use Rattle.dx_macros.specs.Tree.{Place, Tree, ConstantTree, ResultTree, TreeCall
 use Rattle.dx_tags.specs.Closed.{ValueTerm}
 use Rattle.dx_meaning.specs.Outcome.{Value}
 use Rattle.dx_meaning.specs.Picking.{pick, selector_at}
-use Rattle.dx_meaning.specs.Scan.{Sight, Scanned, Forms, Ends, scanned_at, terms_in, scan, scan_each}
+use Rattle.dx_meaning.specs.Scan.{Sight, Scanned, Forms, Ends, scanned_at, terms_in, scan_each}
 use Rattle.dx_meaning.specs.Met.{Called, met_at, picked_met, effect_met, each_met}
 
 -- of the first input that forms no term

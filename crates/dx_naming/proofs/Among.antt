@@ -1,7 +1,6 @@
 -- The first call of a term among those that some inputs meet, in order.
-use Rattle.std.proofs.Common.{◌≡◌, ℕ, ◌+◌, ◌<◌, ◌≤◌, List, [], ◌∷◌, length, drop, get_or, Option, Some, None, refl, sym, ap, ◌∙◌}
+use Rattle.std.proofs.Common.{◌≡◌, ℕ, ◌+◌, ◌<◌, ◌≤◌, List, [], length, drop, get_or, Option, Some, None, sym, ap, ◌∙◌}
 use Rattle.std.proofs.lemmas.List.{at_drop_more, at_drop_all}
-use Rattle.dx_macros.specs.Site.{Step}
 use Rattle.dx_macros.specs.Tree.{Place}
 use Rattle.dx_graph.specs.Graph.{Node, node_at}
 use Rattle.dx_graph.specs.Unfolding.{calls_of, trees_of}
@@ -9,12 +8,11 @@ use Rattle.dx_graph.specs.declared.node.Input.{Input}
 use Rattle.dx_tags.specs.declared.term.Term.{Term}
 use Rattle.dx_tags.specs.Closed.{CallTerm, heads_of}
 use Rattle.dx_getting.specs.Stands.{IsCall, call_at}
-use Rattle.dx_meaning.specs.Met.{Called, each_met, all_met, first_place}
-use Rattle.dx_demand.specs.Memo.{site_of}
+use Rattle.dx_meaning.specs.Met.{Called, each_met, first_place}
 use Rattle.dx_demand.specs.Calling.{input_met}
 use Rattle.dx_demand.specs.Forming.{IsCallTag}
 use Rattle.dx_demand.specs.Searching.{place_of}
-use Rattle.dx_demanded.specs.Found.{StandsAt, or_else, first_in}
+use Rattle.dx_demanded.specs.Found.{or_else, first_in}
 use Rattle.dx_looking.specs.Setting.{nodes_in, sight_in}
 use Rattle.dx_looking.specs.declared.setup.Setup.{Setup}
 use Rattle.dx_looking.specs.declared.progress.Progress.{Progress}

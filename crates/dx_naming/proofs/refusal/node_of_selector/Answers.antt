@@ -1,11 +1,11 @@
-use Rattle.std.proofs.Common.{◌≡◌, ◌<◌, ◌∙◌, length, Some, refl, sym, ap, arith}
+use Rattle.std.proofs.Common.{◌≡◌, ◌∙◌, length, Some, sym, ap, arith}
 use Rattle.std.specs.Prelude.{slice_get}
 use Rattle.dx_graph.specs.declared.node.Node.{Node}
 use Rattle.dx_graph.specs.Graph.{node_at}
 use Rattle.dx_graph.specs.GraphView.{graph_of}
 use Rattle.dx_tags.specs.Closed.{heads_of}
 use Rattle.dx_getting.specs.Stands.{call_at}
-use Rattle.dx_meaning.specs.Met.{Called, first_place}
+use Rattle.dx_meaning.specs.Met.{first_place}
 use Rattle.dx_meaning.specs.Picking.{selector_at}
 use Rattle.dx_demand.specs.Halting.{selector_calls}
 use Rattle.dx_demand.specs.Searching.{place_of}
