@@ -10,7 +10,7 @@ use Rattle.dx_tags.specs.declared.term.Term.{Term}
 use Rattle.dx_tags.specs.Closed.{ValueTerm, ConstantTerm, heads_of, value_term}
 use Rattle.dx_meaning.specs.Scan.{Sight, Stop, Forms, Ends, scanned_beside, all_scanned, scan, scan_each}
 use Rattle.dx_meaning.specs.Halted.{halted_beside, halted_met, halted_all}
-use Rattle.dx_demand.specs.Memo.{answers_of, shown, input_scan, MemoRight}
+use Rattle.dx_demand.specs.Memo.{Answers, KeepsAnswers, answers_of, shown, input_scan, MemoRight}
 use Rattle.dx_demand.specs.Calling.{IsValued, AreValued}
 use Rattle.dx_demand.specs.declared.seen.Memo.{Memo}
 use Rattle.dx_demand.proofs.Calls.{one_valued}
