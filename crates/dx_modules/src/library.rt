@@ -11,6 +11,7 @@ use dx_select::{
     run_collect, run_collect_named, run_collect_series, run_extract, run_mark, run_replace,
     run_select, run_unmark,
 };
+use dx_slab::run_slab;
 use dx_stats::{run_histogram, run_statistics};
 use std::alloc::Global;
 
@@ -56,7 +57,7 @@ impl Library for Modules {
             Module::CollectNamed => run_collect_named(alloc, inputs),
             Module::CollectSeries => run_collect_series(alloc, inputs),
             Module::Inquire => run_inquire(alloc, inputs),
-            Module::Slab => Err(RunFail::Code(Code::Unsupported)),
+            Module::Slab => run_slab(alloc, inputs),
         }
     }
 }
