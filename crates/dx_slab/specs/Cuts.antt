@@ -41,7 +41,7 @@ joined_counts cs c = without_ones (cut_counts cs c)
 abbrev pub moved : List ℤ → List ℤ → Cut → List ℤ
 moved o ds c = map (λ k. number o k +ℤ pos c.first *ℤ number ds (c.dimension * length o + k)) (range_with_len 0 (length o))
 
-abbrev cut_class : Cut → Class → Class
+abbrev pub cut_class : Cut → Class → Class
 cut_class c (plain vs) = plain vs
 cut_class c (constant n v) = constant n v
 cut_class c (regular n o d) = regular n o d

@@ -100,10 +100,10 @@ fn cut_array(
     role: Role,
     counts: &[u32],
     cut: Cut,
-) -> Result<Array, AllocError> {
+) -> Result<Array, RunFail> {
     match role {
-        Role::Positions => cut_positions(alloc, array, counts, cut),
-        Role::Connections => cut_connections(alloc, array, counts, cut),
+        Role::Positions => Ok(cut_positions(alloc, array, counts, cut)?),
+        Role::Connections => Ok(cut_connections(alloc, array, counts, cut)?),
         Role::OnPoints => on_points(alloc, array, counts, cut),
         Role::OnCells | Role::Other => on_cells(alloc, array, counts, cut),
     }

@@ -1,15 +1,16 @@
 // What becomes of the arrays of a field: its points and cells, and what depends on them.
 ghost use Rattle.std.specs.Prelude.{◌≡◌, ◌<◌, ◌≤◌, length, None, Some, IfOk, IsTrue};
 ghost use Rattle.std.specs.List.{All};
-ghost use Rattle.dx_base.specs.Array.{items, product, origin_of, deltas_of};
+ghost use Rattle.dx_base.specs.Array.{items, product, origin_of, deltas_of, array_size};
 ghost use Rattle.dx_fields.specs.Grids.{point_counts, cell_counts, without_ones};
 ghost use Rattle.dx_slab.specs.Cuts as spec;
+ghost use Rattle.dx_slab.specs.Gives.{GivesArray};
 ghost use Rattle.dx_slab.specs.Lawful.{IsCutOf};
 ghost use Rattle.dx_slab.specs.Runs.{AreWithin, run_items};
 
 use crate::runs::{Runs, runs_of, values_of};
 use dx_arrays::point_count;
-use dx_objects::{Array, Shape};
+use dx_objects::{Array, Code, MAX_SIZE, RunFail, Shape};
 use std::alloc::{AllocError, Global};
 
 /// A slab: the dimension that it cuts, the first index that it keeps there, and how many further ones.
@@ -66,6 +67,8 @@ pub(crate) fn cut_positions(
     requires cut { IsCutOf counts.now cut }
     ensures { IfOk result (λ own. own ≡ spec.cut_positions cut array.now) }
 {
+    // Asked so that the proof knows that the array can be made.
+    let _items = array.items();
     let origin = first_point(alloc, array, counts, cut)?;
     let deltas = Vec::from_slice(alloc, array.deltas())?;
     let counts = cut_counts(alloc, counts, cut)?;
@@ -86,6 +89,8 @@ fn first_point(
     requires cut { IsCutOf counts.now cut }
     ensures { IfOk result (λ point. point.items ≡ spec.moved (origin_of array.now.class) (deltas_of array.now.class) cut) }
 {
+    // Asked so that the proof knows that the array can be made.
+    let _items = array.items();
     let mut point = Vec::new(alloc);
     let number = cut.first * point_count(&counts[cut.dimension + 1..]);
     array.push_items(number, number + 1, &mut point)?;
@@ -113,16 +118,16 @@ pub(crate) fn cut_connections(
     }
 }
 
-/// What depends on the points: the plain array of the kept points' items.
+/// What depends on the points: the plain array of the kept points' items. TooLarge where no object can hold it.
 pub(crate) fn on_points(
     alloc: Global,
     array: &Array,
     counts: &[u32],
     cut: Cut,
-) -> Result<Array, AllocError>
+) -> Result<Array, RunFail>
     requires items { items array.now ≡ product counts.now }
     requires cut { IsCutOf counts.now cut }
-    ensures { IfOk result (λ own. own ≡ spec.gathered array.now (spec.kept_points counts.now cut)) }
+    ensures { GivesArray (spec.gathered array.now (spec.kept_points counts.now cut)) result }
 {
     // Asked so that the proof knows how many there are.
     let _items = array.items();
@@ -130,16 +135,16 @@ pub(crate) fn on_points(
     gathered(alloc, array, runs)
 }
 
-/// What depends on the cells: the plain array of the kept cells' items.
+/// What depends on the cells: the plain array of the kept cells' items. TooLarge where no object can hold it.
 pub(crate) fn on_cells(
     alloc: Global,
     array: &Array,
     counts: &[u32],
     cut: Cut,
-) -> Result<Array, AllocError>
+) -> Result<Array, RunFail>
     requires items { items array.now ≡ product (spec.cell_extents counts.now) }
     requires cut { IsCutOf counts.now cut }
-    ensures { IfOk result (λ own. own ≡ spec.gathered array.now (spec.kept_cells counts.now cut)) }
+    ensures { GivesArray (spec.gathered array.now (spec.kept_cells counts.now cut)) result }
 {
     // Asked so that the proof knows how many there are.
     let _items = array.items();
@@ -191,8 +196,28 @@ fn cells_kept(cut: Cut) -> u64
     if cut.thickness == 0 { 1 } else { cut.thickness }
 }
 
-// The plain array of these items.
-fn gathered(alloc: Global, array: &Array, runs: Runs) -> Result<Array, AllocError>
+// The plain array of these items. TooLarge where no object can hold it, which is told before it is made.
+fn gathered(alloc: Global, array: &Array, runs: Runs) -> Result<Array, RunFail>
+    requires { AreWithin runs (items array.now) }
+    ensures { GivesArray (spec.gathered array.now (run_items runs)) result }
+{
+    if size_of(array, runs) > MAX_SIZE {
+        return Err(RunFail::Code(Code::TooLarge));
+    }
+    Ok(made(alloc, array, runs)?)
+}
+
+// The stated size of the plain array of these items.
+fn size_of(array: &Array, runs: Runs) -> u64
+    requires { AreWithin runs (items array.now) }
+    ensures { result ≡ array_size (spec.gathered array.now (run_items runs)) }
+{
+    // Asked so that the proof knows that the array can be made.
+    let _items = array.items();
+    64 + runs.count * runs.len * array.width() * array.elem().byte_count()
+}
+
+fn made(alloc: Global, array: &Array, runs: Runs) -> Result<Array, AllocError>
     requires { AreWithin runs (items array.now) }
     ensures { IfOk result (λ own. own ≡ spec.gathered array.now (run_items runs)) }
 {

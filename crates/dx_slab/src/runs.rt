@@ -3,7 +3,7 @@ ghost use Rattle.std.specs.Prelude.{◌≡◌, ◌<◌, ◌≤◌, ◌+◌, leng
 ghost use Rattle.std.specs.List.{All};
 ghost use Rattle.dx_base.specs.Array.{product, items};
 ghost use Rattle.dx_slab.specs.Kept.{kept};
-ghost use Rattle.dx_slab.specs.Runs.{AreRuns, AreWithin, run_items, run_values};
+ghost use Rattle.dx_slab.specs.Runs.{AreWithin, run_items, run_values};
 
 use dx_arrays::point_count;
 use dx_objects::Array;
@@ -25,7 +25,7 @@ pub(crate) fn runs_of(extents: &[u32], dimension: usize, first: u64, n: u64) -> 
     requires end { first + n ≤ slice_index extents.now dimension }
     requires some { All (λ e. 0 < e) extents.now }
     requires few { product extents.now ≤ 16777216 }
-    ensures items { AreRuns (kept extents.now dimension first n) result }
+    ensures items { kept extents.now dimension first n ≡ run_items result }
     ensures within { AreWithin result (product extents.now) }
 {
     let behind = point_count(&extents[dimension + 1..]);
@@ -42,7 +42,8 @@ pub(crate) fn values_of(alloc: Global, array: &Array, runs: Runs) -> Result<Vec<
     requires { AreWithin runs (items array.now) }
     ensures { IfOk result (λ values. values.items ≡ run_values array.now runs runs.count) }
 {
-    let len = runs.count * runs.len * array.width();
+    let width = array.width();
+    let len = runs.count * runs.len * width;
     let mut values = Vec::with_capacity(alloc, len as usize)?;
     for run in 0..runs.count {
         let from = run * runs.stride + runs.start;

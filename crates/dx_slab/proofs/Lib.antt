@@ -1,0 +1,4 @@
+pub mod Keeping
+pub mod Gathering
+pub mod Shifting
+pub mod Joining
