@@ -2,3 +2,5 @@ pub mod Keeping
 pub mod Gathering
 pub mod Shifting
 pub mod Joining
+pub mod Fitting
+pub mod Parting

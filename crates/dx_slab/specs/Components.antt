@@ -1,7 +1,7 @@
 -- The slab of a field: what becomes of each component.
 use Rattle.std.specs.Prelude.{ℕ, zero, suc, ◌+◌, ℤ, pos, List, length, Option, Some, None, Bool, true, false, ◌==◌, if◌then◌else◌, codes}
 use Rattle.dx_base.specs.Array.{ArrayData}
-use Rattle.dx_base.specs.Object.{Tree, PartList, array, text, field, group, composite, series, no_parts, part, parts, attributes}
+use Rattle.dx_base.specs.Object.{Tree, PartList, array, text, field, group, composite, series, no_parts, part, parts, attributes, append}
 use Rattle.dx_base.specs.ObjectNames.{same_name, find}
 use Rattle.dx_fields.specs.Grids.{positions_name, connections_name}
 use Rattle.dx_fields.specs.References.{dep_name}
@@ -59,11 +59,12 @@ has_no_cells cs c = length (joined_counts cs c) == 0
 abbrev pub is_dropped : List ℕ → Cut → Role → Bool
 is_dropped cs c r = if has_no_cells cs c then is_of_cells r else false
 
+abbrev pub cut_part : List ℕ → Cut → Option (List ℕ) → ℤ → Tree → PartList
+cut_part cs c n p t = if is_dropped cs c (role n t) then no_parts else part n p (cut_component cs c (role n t) t) no_parts
+
 abbrev pub cut_parts : List ℕ → Cut → PartList → PartList
 cut_parts cs c no_parts = no_parts
-cut_parts cs c (part n p t ps) =
-    if is_dropped cs c (role n t) then cut_parts cs c ps
-    else part n p (cut_component cs c (role n t) t) (cut_parts cs c ps)
+cut_parts cs c (part n p t ps) = append (cut_part cs c n p t) (cut_parts cs c ps)
 
 -- the slab of a field whose grid has these counts; the field keeps its attributes
 abbrev pub slab : List ℕ → Cut → Tree → Tree

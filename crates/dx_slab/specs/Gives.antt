@@ -5,7 +5,7 @@ use Rattle.std.specs.declared.alloc.Global.{Global}
 use Rattle.dx_base.specs.declared.code.Code.{Code}
 use Rattle.dx_base.specs.declared.code.Code.TheVariants.{TooLarge}
 use Rattle.dx_base.specs.Array.{ArrayData, array_size}
-use Rattle.dx_base.specs.Object.{Tree, PartList, no_parts, part}
+use Rattle.dx_base.specs.Object.{Tree, PartList, no_parts, part, append}
 use Rattle.dx_base.specs.ObjectLimits.{fits, max_size}
 use Rattle.dx_objects.specs.declared.run_fail.RunFail.{RunFail}
 use Rattle.dx_objects.specs.declared.run_fail.RunFail.TheVariants as fail
@@ -39,3 +39,9 @@ abbrev pub GivesParts : PartList → Result PartList RunFail → Type 0
 GivesParts ps (Ok made) = made ≡ ps
 GivesParts ps (Err (fail.Code code)) = (code ≡ TooLarge) × (all_fit ps ≡ false)
 GivesParts ps (Err fail.Memory) = Unit {0}
+
+-- the parts grew by these, or that one is too large, or memory ran out
+abbrev pub Grows : PartList → PartList → PartList → Result Unit RunFail → Type 0
+Grows ps old new (Ok done) = new ≡ append old ps
+Grows ps old new (Err (fail.Code code)) = (code ≡ TooLarge) × (all_fit ps ≡ false)
+Grows ps old new (Err fail.Memory) = Unit {0}

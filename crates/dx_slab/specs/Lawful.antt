@@ -9,6 +9,8 @@ use Rattle.dx_fields.specs.References.{item_count}
 use Rattle.dx_slab.specs.Components.{role}
 use Rattle.dx_slab.specs.Cuts.{cell_extents}
 use Rattle.dx_slab.specs.declared.cut.Cut.{Cut}
+use Rattle.dx_slab.specs.declared.inputs.Asked.{Asked}
+use Rattle.dx_slab.specs.declared.inputs.Asked.TheVariants.{One, Each}
 use Rattle.dx_slab.specs.declared.role.Role.{Role}
 use Rattle.dx_slab.specs.declared.role.Role.TheVariants.{Positions, Connections, OnPoints, OnCells, Other}
 
@@ -35,3 +37,8 @@ PlaysRole cs Other t = Unit {0}
 abbrev pub PlayRoles : List ℕ → PartList → Type 0
 PlayRoles cs no_parts = Unit {0}
 PlayRoles cs (part n p t ps) = PlaysRole cs (role n t) t × PlayRoles cs ps
+
+-- the slabs that are asked for are slabs of the grid
+abbrev pub IsAskedOf : List ℕ → Asked → Type 0
+IsAskedOf cs (One c) = IsCutOf cs c
+IsAskedOf cs (Each d t) = IsCutOf cs (record { dimension = d; first = 0; thickness = t })
