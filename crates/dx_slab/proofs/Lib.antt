@@ -4,3 +4,5 @@ pub mod Shifting
 pub mod Joining
 pub mod Fitting
 pub mod Parting
+pub mod Playing
+pub mod Entire

@@ -8,3 +8,4 @@ pub mod Shown
 pub mod Runs
 pub mod Lawful
 pub mod Gives
+pub mod Whole
