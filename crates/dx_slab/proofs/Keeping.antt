@@ -271,3 +271,13 @@ behind_all es k = take_all (length es - k) (drop k es) (let len = length-drop k 
 -- what a count of points is that stands for a product
 pub count_is : (es front : List ℕ) (n : ℕ) → n ≡ min (product es) 18446744073709551615 → front ≡ es → product es ≤ 16777216 → n ≡ product front
 count_is es front n e f few = rw f (omega (arith, e))
+
+-- a count is no more than all points
+pub count_few : (es : List ℕ) (d : ℕ) → d < length es → All (λ e. 0 < e) es → product es ≤ 16777216 → get_or es d 0 ≤ 16777216
+count_few es d h some few =
+    let small = are_small es d 0 (get_or es d 0) h (omega arith) some few in
+    let one : d + 1 ≡ suc d = omega arith in
+    let positive : 0 < product (drop (d + 1) es) = rw one (product-pos (drop (suc d) es) (all_drop es (suc d) some)) in
+    let next : 1 ≤ product (drop (d + 1) es) = omega (arith, positive) in
+    let rows : get_or es d 0 * 1 ≤ get_or es d 0 * product (drop (d + 1) es) = mul-le-mul_left (get_or es d 0) next in
+    omega (arith, rows, small.stride)

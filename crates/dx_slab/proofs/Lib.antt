@@ -6,3 +6,6 @@ pub mod Fitting
 pub mod Parting
 pub mod Playing
 pub mod Entire
+pub mod Measuring
+pub mod Serial
+pub mod Asking

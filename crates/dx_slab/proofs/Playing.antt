@@ -93,7 +93,7 @@ all_some (c ∷ cs) h =
     let hs = and_parts (nat_le 1 c) (list_all (λ c. nat_le 1 c) cs) h in
     All-cons (λ c. 0 < c) c cs (leb-true 1 c hs.0) (all_some cs hs.1)
 
-are_counts_of : (t : Tree) (cs : List ℕ) → IsLawful t → points_of t ≡ Some cs → AreCounts cs
+pub are_counts_of : (t : Tree) (cs : List ℕ) → IsLawful t → points_of t ≡ Some cs → AreCounts cs
 are_counts_of (array a xs) cs l e =
     let is = points_are a cs l.0 e in
     let both = counts_by a.class cs (and_parts (is_shape a.extents) (has_grid a.class) l.0.shape).1 e in
@@ -107,7 +107,7 @@ are_counts_of (series ps xs) cs l e = absurd (cc e)
 
 -- ---- what a name finds
 
-found_lawful : (n : List ℕ) (ps : PartList) (t : Tree) → AreLawful ps → find n ps ≡ Some t → IsLawful t
+pub found_lawful : (n : List ℕ) (ps : PartList) (t : Tree) → AreLawful ps → find n ps ≡ Some t → IsLawful t
 found_lawful n no_parts t l e = absurd (cc e)
 found_lawful n (part m p u ps) t l e =
     by_bool (same_name n m) _
@@ -115,7 +115,7 @@ found_lawful n (part m p u ps) t l e =
     (λ s. found_lawful n ps t l.3 (rw s at e))
 
 -- each part of this name is what the name finds
-abbrev IsFound : List ℕ → Option Tree → PartList → Type 0
+abbrev pub IsFound : List ℕ → Option Tree → PartList → Type 0
 IsFound n v no_parts = Unit {0}
 IsFound n v (part m p t ps) = (same_name n m ≡ true → v ≡ Some t) × IsFound n v ps
 
@@ -134,7 +134,7 @@ alone : (n : List ℕ) (m : Option (List ℕ)) (ps : PartList) → lacks m ps �
 alone n None ps l s = absurd (cc s)
 alone n (Some m) ps l s = let same : n ≡ m = (bytes_eq-Decides n m).0 s in ap (λ k. find k ps) same ∙ none_of (find m ps) l
 
-is_found : (n : List ℕ) (ps : PartList) → differ ps ≡ true → IsFound n (find n ps) ps
+pub is_found : (n : List ℕ) (ps : PartList) → differ ps ≡ true → IsFound n (find n ps) ps
 is_found n no_parts d = tt
 is_found n (part m p t ps) d =
     let ds = and_parts (lacks m ps) (differ ps) d in
@@ -159,12 +159,12 @@ depends_by a (Some t) e =
 -- ---- the roles
 
 -- what is known of a field that is a grid
-record IsGridOf (ps xs : PartList) (cs : List ℕ) : Type 0 where
-  points : Tree
-  found : find positions_name ps ≡ Some points
-  counts : points_of points ≡ Some cs
-  joined : are_joined (without_ones cs) (find connections_name ps) ≡ true
-  fits : has_data_for (find data_name ps) (find positions_name ps) ≡ true
+pub record IsGridOf (ps xs : PartList) (cs : List ℕ) : Type 0 where
+  pub points : Tree
+  pub found : find positions_name ps ≡ Some points
+  pub counts : points_of points ≡ Some cs
+  pub joined : are_joined (without_ones cs) (find connections_name ps) ≡ true
+  pub fits : has_data_for (find data_name ps) (find positions_name ps) ≡ true
 
 module _ (ps xs : PartList) (cs : List ℕ) (g : IsGridOf ps xs cs) where
   on_points : (t : Tree) → item_count t ≡ item_count g.points → item_count t ≡ product cs
@@ -229,7 +229,7 @@ module _ (ps xs : PartList) (cs : List ℕ) (g : IsGridOf ps xs cs) where
         let own = by_dep a zs n (find dep_name zs) refl r none.0 in
         rw (s, k) own))
 
-  plays : (qs : PartList) → all_arrays qs ≡ true → first_fault qs (field ps xs) ≡ None →
+  pub plays : (qs : PartList) → all_arrays qs ≡ true → first_fault qs (field ps xs) ≡ None →
       IsFound positions_name (find positions_name ps) qs → IsFound connections_name (find connections_name ps) qs → IsFound data_name (find data_name ps) qs → PlayRoles cs qs
   plays no_parts a f p q r = tt
   plays (part n at t qs) a f p q r =

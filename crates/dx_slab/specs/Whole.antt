@@ -12,4 +12,4 @@ pub record AreComponents (ps : PartList) : Type 0 where
 
 -- a series of n members as large as this one is within the limits
 abbrev pub many_fit : Tree → ℕ → Bool
-many_fit t n = nat_le (levels t + 1) max_levels && nat_le (1 + n * count t) max_count && nat_le (64 + n * (4 + size t)) max_size
+many_fit t n = nat_le (levels t + 1) max_levels && nat_le (1 + n * count t) max_count && nat_le (64 + 4 * n + n * size t) max_size

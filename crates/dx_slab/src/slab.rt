@@ -158,7 +158,7 @@ fn many_fit(first: &Object, number: u64) -> bool
 {
     first.levels() < MAX_LEVELS
         && 1 + number * first.count() <= MAX_COUNT
-        && 64 + number * (4 + first.size()) <= MAX_SIZE
+        && 64 + 4 * number + number * first.size() <= MAX_SIZE
 }
 
 // So many slabs from the first one on.
