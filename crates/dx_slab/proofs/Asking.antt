@@ -1,15 +1,14 @@
 -- What is known of a field, and of the slabs that are asked for, where the inputs aren't refused.
-use Rattle.std.proofs.Common.{◌≡◌, ℕ, suc, ◌+◌, ◌-◌, ◌<◌, ◌≤◌, ℤ, pos, negsuc, List, length, get_or, Bool, true, false, Option, Some, None, Ok, Err, refl, sym, ap, subst, ◌∙◌, arith}
+use Rattle.std.proofs.Common.{◌≡◌, ℕ, suc, ◌+◌, ◌-◌, ◌<◌, ◌≤◌, ℤ, pos, negsuc, List, length, get_or, Bool, true, false, Option, Some, None, Ok, Err, refl, ap, subst, ◌∙◌, arith}
 use Rattle.std.specs.Prelude.{nat_le, nat_lt, ◌&&◌}
 use Rattle.std.proofs.lemmas.Bool.{and_parts, leb-true}
-use Rattle.dx_base.specs.declared.code.Code.{Code}
 use Rattle.dx_base.specs.declared.code.Code.TheVariants.{BadField, NotRegular}
 use Rattle.dx_base.specs.Object.{Tree, PartList, array, text, field, group, composite, series, parts}
-use Rattle.dx_base.specs.ObjectLimits.{IsLawful, is_field, all_named, all_arrays, differ}
+use Rattle.dx_base.specs.ObjectLimits.{IsLawful, is_field, all_named, differ}
 use Rattle.dx_base.specs.ObjectNames.{find, component}
 use Rattle.dx_base.specs.ObjectNumbers.{as_number}
 use Rattle.dx_fields.specs.declared.check.FieldFault.{FieldFault}
-use Rattle.dx_fields.specs.Faults.{field_fault, first_fault}
+use Rattle.dx_fields.specs.Faults.{field_fault}
 use Rattle.dx_fields.specs.Grids.{positions_name, connections_name, points_of, without_ones, are_joined, grid_counts}
 use Rattle.dx_objects.specs.Kinds.{text_of}
 use Rattle.dx_objects.specs.Runs.{Values}
@@ -17,11 +16,10 @@ use Rattle.dx_objects.specs.Values.{value_at}
 use Rattle.dx_slab.specs.Answered.{Answered, ◌>>=◌, or_refused}
 use Rattle.dx_slab.specs.Components.{data_name}
 use Rattle.dx_slab.specs.Inputs.{counts_in, grid_in, with_data, unless_fault, none_refers, has_data_for, either_of, below, dimension_in, position_in, thickness_in, placed, asked_by, asked_in}
-use Rattle.dx_slab.specs.Lawful.{AreCounts, IsCutOf, IsAskedOf, PlayRoles}
-use Rattle.dx_slab.specs.declared.cut.Cut.{Cut}
+use Rattle.dx_slab.specs.Lawful.{AreCounts, IsAskedOf, PlayRoles}
 use Rattle.dx_slab.specs.declared.inputs.Asked.{Asked}
 use Rattle.dx_slab.specs.declared.inputs.Asked.TheVariants.{One, Each}
-use Rattle.dx_slab.proofs.Playing.{IsGridOf, IsFound, is_found, found_lawful, are_counts_of, plays}
+use Rattle.dx_slab.proofs.Playing.{IsGridOf, is_found, found_lawful, are_counts_of, plays}
 
 by_bool : (b : Bool) (P : Type 0) → (b ≡ true → P) → (b ≡ false → P) → P
 by_bool true P f g = f refl
@@ -43,16 +41,16 @@ placed_of cs d t None a h k e =
     let some : 0 < p = k.some d 0 h in
     by_bool (nat_le t (p - 1)) _
     (λ s. let is : Some (Each d t) ≡ Some a = rw s at e in let same : Each d t ≡ a = cc in
-      let low : t ≤ p - 1 = leb-true t (p - 1) s in
-      subst (IsAskedOf cs) same (record { counts = k; dimension = h; end = omega (arith, low, some) }))
+    let low : t ≤ p - 1 = leb-true t (p - 1) s in
+    subst (IsAskedOf cs) same (record { counts = k; dimension = h; end = omega (arith, low, some) }))
     (λ s. let is : None ≡ Some a = rw s at e in absurd (cc is))
 placed_of cs d t (Some (pos q)) a h k e =
     let p = get_or cs d 0 in
     let some : 0 < p = k.some d 0 h in
     by_bool (nat_le (q + t) (p - 1)) _
     (λ s. let is : Some (One (record { dimension = d; first = q; thickness = t })) ≡ Some a = rw s at e in let same : One (record { dimension = d; first = q; thickness = t }) ≡ a = cc in
-      let low : q + t ≤ p - 1 = leb-true (q + t) (p - 1) s in
-      subst (IsAskedOf cs) same (record { counts = k; dimension = h; end = omega (arith, low, some) }))
+    let low : q + t ≤ p - 1 = leb-true (q + t) (p - 1) s in
+    subst (IsAskedOf cs) same (record { counts = k; dimension = h; end = omega (arith, low, some) }))
     (λ s. let is : None ≡ Some a = rw s at e in absurd (cc is))
 placed_of cs d t (Some (negsuc q)) a h k e = absurd (cc e)
 
@@ -88,7 +86,7 @@ grid_facts ps xs cs h =
     (λ f. let is : None ≡ Some cs = rw (e, f) at h in absurd (cc is))
     (λ ks f. by_bool (are_joined (without_ones ks) (find connections_name ps)) _
     (λ j. let is : Some ks ≡ Some cs = rw (e, f, j) at h in let same : ks ≡ cs = cc in
-      (points, e, f ∙ ap (λ k. Some k) same, subst (λ k. are_joined (without_ones k) (find connections_name ps) ≡ true) same j))
+    (points, e, f ∙ ap (λ k. Some k) same, subst (λ k. are_joined (without_ones k) (find connections_name ps) ≡ true) same j))
     (λ j. let is : None ≡ Some cs = rw (e, f, j) at h in absurd (cc is))))
 
 refused_or : (o : Option (List ℕ)) (cs : List ℕ) → or_refused NotRegular o ≡ Ok cs → o ≡ Some cs
@@ -126,6 +124,7 @@ counts_of (field ps xs) cs f l e =
     let facts = grid_facts ps xs cs (regular ∙ ap (λ k. Some k) held.1) in
     let g : IsGridOf ps xs cs = record { points = facts.0; found = facts.1; counts = facts.2; joined = facts.3; fits = held.0 } in
     let names = and_parts (all_named ps && differ ps) (all_named xs && differ xs) l.0.names in
-    let own = (and_parts (all_named ps) (differ ps) names.0).1 in
-    (are_counts_of facts.0 cs (found_lawful positions_name ps facts.0 l.1 facts.1) facts.2,
-    plays ps xs cs g ps l.0.components sound.0 (is_found positions_name ps own) (is_found connections_name ps own) (is_found data_name ps own))
+    let own = (and_parts (all_named ps) (differ ps) names.0).1 in (
+      are_counts_of facts.0 cs (found_lawful positions_name ps facts.0 l.1 facts.1) facts.2,
+      plays ps xs cs g ps l.0.components sound.0 (is_found positions_name ps own) (is_found connections_name ps own) (is_found data_name ps own),
+    )

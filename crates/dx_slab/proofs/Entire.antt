@@ -1,24 +1,23 @@
 -- The field of a slab: its components are good, and what is said where one is too large.
-use Rattle.std.proofs.Common.{◌≡◌, ℕ, ℤ, pos, List, Bool, true, false, ◌&&◌, Option, Some, None, Ok, Err, refl, sym, ap, subst, ◌∙◌}
-use Rattle.std.specs.Prelude.{is_none, is_some, bytes_eq}
+use Rattle.std.proofs.Common.{◌≡◌, ℕ, ℤ, pos, List, Bool, true, false, ◌&&◌, Option, Some, None, Ok, Err, refl, sym, ap, ◌∙◌}
+use Rattle.std.specs.Prelude.{is_none, is_some}
 use Rattle.std.proofs.lemmas.Bool.{and_parts}
 use Rattle.std.specs.Cmp.Derive.{both_true}
 use Rattle.dx_base.specs.declared.code.Code.{Code}
 use Rattle.dx_base.specs.declared.code.Code.TheVariants.{TooLarge}
-use Rattle.dx_base.specs.Object.{Tree, PartList, array, text, field, group, composite, series, no_parts, part, parts, attributes, append}
-use Rattle.dx_base.specs.ObjectLimits.{fits, is_array, is_field, all_arrays, all_named, none_named, differ, lacks, unplaced, IsLawful}
+use Rattle.dx_base.specs.Object.{Tree, PartList, array, text, field, group, composite, series, no_parts, part, parts}
+use Rattle.dx_base.specs.ObjectLimits.{fits, is_array, is_field, all_arrays, all_named, differ, lacks, unplaced, IsLawful}
 use Rattle.dx_base.specs.ObjectNames.{same_name, find}
-use Rattle.dx_objects.specs.Shown.{parts_of}
 use Rattle.dx_objects.specs.Runs.{Gives}
 use Rattle.dx_objects.specs.declared.run_fail.RunFail.{RunFail}
 use Rattle.dx_objects.specs.declared.run_fail.RunFail.TheVariants as fail
 use Rattle.dx_slab.specs.Answered.{Answered, in_limits, one_result}
-use Rattle.dx_slab.specs.Components.{role, is_dropped, cut_component, cut_part, cut_parts, slab}
-use Rattle.dx_slab.specs.Gives.{GivesTree, GivesParts, Grows, all_fit}
+use Rattle.dx_slab.specs.Components.{role, is_dropped, cut_component, cut_parts}
+use Rattle.dx_slab.specs.Gives.{GivesTree, GivesParts, Grows}
 use Rattle.dx_slab.specs.Whole.{AreComponents}
 use Rattle.dx_slab.specs.declared.cut.Cut.{Cut}
 use Rattle.dx_slab.specs.declared.role.Role.{Role}
-use Rattle.dx_slab.proofs.Fitting.{field_large, series_large, not_fit}
+use Rattle.dx_slab.proofs.Fitting.{field_large, series_large}
 
 by_bool : (b : Bool) (P : Type 0) → (b ≡ true → P) → (b ≡ false → P) → P
 by_bool true P f g = f refl

@@ -1,18 +1,18 @@
 -- Objects beyond the limits: where a part is, so is the whole.
-use Rattle.std.proofs.Common.{◌≡◌, ℕ, ◌+◌, ◌<◌, ◌≤◌, Bool, true, false, ◌&&◌, Option, Some, None, Ok, Err, cond, refl, sym, ap, subst, ◌∙◌, arith}
+use Rattle.std.proofs.Common.{◌≡◌, ◌<◌, ◌≤◌, Bool, true, false, ◌&&◌, Some, None, Ok, Err, cond, refl, sym, ap, ◌∙◌, arith}
 use Rattle.std.specs.Prelude.{nat_le}
-use Rattle.std.proofs.lemmas.Bool.{and_parts, le-leb, lt-leb, leb-true}
+use Rattle.std.proofs.lemmas.Bool.{and_parts, le-leb, leb-true}
 use Rattle.std.specs.Cmp.Derive.{both_true}
 use Rattle.dx_base.specs.declared.code.Code.TheVariants.{TooLarge}
 use Rattle.dx_base.specs.Array.{ArrayData, array_size}
-use Rattle.dx_base.specs.Object.{Tree, PartList, array, text, field, group, composite, series, no_parts, part, attributes, append, levels, deepest, count, total_count, size, total_size, name_length, part_count}
-use Rattle.dx_base.specs.ObjectLimits.{fits, max_levels, max_count, max_size, all_named, none_named, differ, unplaced, IsLawful}
+use Rattle.dx_base.specs.Object.{Tree, PartList, array, text, field, group, composite, series, no_parts, part, attributes, append, levels, deepest, count, total_count, size, total_size}
+use Rattle.dx_base.specs.ObjectLimits.{fits, all_named, none_named, differ, unplaced, IsLawful}
 use Rattle.dx_objects.specs.Makes.{Makes, refusal}
 use Rattle.dx_objects.specs.declared.makers.ObjectError.{ObjectError}
 use Rattle.dx_objects.specs.declared.makers.ObjectError.TheVariants as refused
 use Rattle.dx_objects.specs.declared.run_fail.RunFail.{RunFail}
 use Rattle.dx_objects.specs.declared.run_fail.RunFail.TheVariants as fail
-use Rattle.dx_slab.specs.Answered.{Answered, in_limits}
+use Rattle.dx_slab.specs.Answered.{in_limits}
 use Rattle.dx_slab.specs.Gives.{GivesArray, GivesShared, all_fit}
 
 not_true : (b : Bool) → (b ≡ true → ⊥) → b ≡ false

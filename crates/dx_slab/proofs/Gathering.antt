@@ -1,18 +1,17 @@
 -- The plain array of the items of some runs: it can be made, and how large it is.
-use Rattle.std.proofs.Common.{◌≡◌, ℕ, zero, suc, ◌+◌, ◌-◌, ◌*◌, ◌/◌, ◌%◌, ◌<◌, ◌≤◌, ℤ, pos, List, [], ◌∷◌, ◌++◌, length, get_or, Bool, true, ◌&&◌, Option, None, refl, sym, ap, subst, ◌∙◌, arith}
+use Rattle.std.proofs.Common.{◌≡◌, ℕ, zero, suc, ◌+◌, ◌*◌, ◌/◌, ◌%◌, ◌<◌, ◌≤◌, ℤ, pos, List, [], ◌∷◌, ◌++◌, length, Bool, true, ◌&&◌, None, refl, sym, ap, ◌∙◌, arith}
 use Rattle.std.specs.Prelude.{nat_le, ◌==◌}
-use Rattle.std.specs.List.{list_all, flat_map}
+use Rattle.std.specs.List.{list_all}
 use Rattle.std.proofs.lemmas.Bool.{and_parts, le-leb, leb-true}
 use Rattle.std.specs.Cmp.Derive.{both_true}
 use Rattle.std.proofs.Math.Nat.{mul-le-mul_left, mul-le-mul_right, div-mul-le_self, le_of_mul-le-mul_right, mul-mod_left, mod-lt, div-lt_iff_lt-mul}
 use Rattle.dx_base.specs.declared.elem.ElemType.{ElemType}
 use Rattle.dx_base.specs.declared.elem.ElemType.TheVariants.{Byte, UByte, Short, UShort, Int, UInt}
 use Rattle.dx_base.specs.Elem.{in_range, byte_count}
-use Rattle.dx_base.specs.Array.{ArrayData, Class, plain, constant, regular, grid_positions, grid_connections, items, items_of, width, number, item, array_size}
+use Rattle.dx_base.specs.Array.{ArrayData, Class, plain, constant, regular, grid_positions, grid_connections, items, items_of, width, number, array_size}
 use Rattle.dx_base.specs.ArrayLimits.{IsLawfulArray, value_count_of, is_shape}
 use Rattle.dx_arrays.specs.Block.{values_from}
 use Rattle.dx_arrays.specs.Makes.{refusal}
-use Rattle.dx_arrays.specs.declared.array.ArrayError.{ArrayError}
 use Rattle.dx_arrays.proofs.Blocks as blocks
 use Rattle.dx_arrays.proofs.Blocks.{wide, few_values, values_at, at_place}
 use Rattle.dx_arrays.proofs.Fits.{value_in_type}

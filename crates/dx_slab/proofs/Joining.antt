@@ -1,10 +1,9 @@
 -- The cells of a slab: no more than those of the grid, and they can be made.
-use Rattle.std.proofs.Common.{◌≡◌, ℕ, zero, suc, ◌+◌, ◌-◌, ◌*◌, ◌^◌, ◌<◌, ◌≤◌, List, [], ◌∷◌, length, get_or, set, Bool, true, false, ◌&&◌, None, Some, refl, sym, ap, subst, ◌∙◌, arith}
-use Rattle.std.specs.Prelude.{map, nat_le, ◌==◌, if◌then◌else◌}
+use Rattle.std.proofs.Common.{◌≡◌, ℕ, zero, suc, ◌+◌, ◌-◌, ◌*◌, ◌^◌, ◌<◌, ◌≤◌, List, [], ◌∷◌, length, get_or, set, Bool, true, false, ◌&&◌, None, Some, refl, ap, ◌∙◌, arith}
+use Rattle.std.specs.Prelude.{nat_le, ◌==◌, if◌then◌else◌}
 use Rattle.std.specs.List.{All, list_all}
-use Rattle.std.proofs.lemmas.Bool.{and_parts, le-leb}
+use Rattle.std.proofs.lemmas.Bool.{le-leb}
 use Rattle.std.proofs.lemmas.Bool.Decides.{nat_tests}
-use Rattle.std.proofs.lemmas.List.{length-set}
 use Rattle.std.proofs.lemmas.List.Elements.{All-head, All-tail, All-cons}
 use Rattle.std.specs.Cmp.Derive.{both_true}
 use Rattle.std.proofs.Math.Nat.{mul-le-mul_left, mul-le-mul_right, pow-le-pow_right}
@@ -18,7 +17,7 @@ use Rattle.dx_arrays.proofs.Cells.{corners-le, pow_pos}
 use Rattle.dx_arrays.proofs.InType.{connections_in_type}
 use Rattle.dx_fields.specs.Grids.{cell_counts, without_ones}
 use Rattle.dx_slab.specs.Cuts.{cut_counts, cells_along, cell_extents, first_cell, cells_kept, joined_counts, cut_connections}
-use Rattle.dx_slab.specs.Lawful.{AreCounts, IsCutOf}
+use Rattle.dx_slab.specs.Lawful.{IsCutOf}
 use Rattle.dx_slab.specs.declared.cut.Cut.{Cut}
 use Rattle.dx_slab.proofs.Gathering.{itemed}
 use Rattle.dx_slab.proofs.Shifting.{all_set, list_all_some}
@@ -143,17 +142,17 @@ joined_refusal a cs c l e cut some =
     let all = list_all_some j (ones_some (cut_counts cs c) (all_set cs c.dimension (c.thickness + 1) one cut.counts.some)) in
     let shape_of : is_shape (2 ^ length j ∷ []) ≡ true = both_true (le-leb 1 2 (omega arith)) (both_true (both_true (le-leb 1 (2 ^ length j) (omega (arith, positive))) (le-leb (2 ^ length j) 256 (omega (arith, small)))) refl) in
     let shape : (is_shape (2 ^ length j ∷ []) && (nat_le 1 (length j) && nat_le (length j) 3 && list_all (λ n. nat_le 1 n) j)) ≡ true =
-      both_true shape_of (both_true (both_true (le-leb 1 (length j) (omega (arith, some))) (le-leb (length j) 3 short)) all) in
+    both_true shape_of (both_true (both_true (le-leb 1 (length j) (omega (arith, some))) (le-leb (length j) 3 short)) all) in
     let rows : product (cells j) * (2 ^ length j * 1) ≤ 16777216 * (2 ^ length j * 1) = mul-le-mul_right (2 ^ length j * 1) held in
     let values : product (cells j) * (2 ^ length j * 1) ≤ 134217728 =
-      (let old = roomy a l in
-      let whole : product (cells k) * (2 ^ length k * 1) ≤ 134217728 = rw (is.items, is.width) at old in
-      let wide : 2 ^ length j * 1 ≤ 2 ^ length k * 1 = omega (arith, thinner) in
-      let across = mul-le-mul_left (product (cells j)) wide in
-      let down = mul-le-mul_right (2 ^ length k * 1) fewer in
-      omega (arith, whole, across, down)) in
+    (let old = roomy a l in
+    let whole : product (cells k) * (2 ^ length k * 1) ≤ 134217728 = rw (is.items, is.width) at old in
+    let wide : 2 ^ length j * 1 ≤ 2 ^ length k * 1 = omega (arith, thinner) in
+    let across = mul-le-mul_left (product (cells j)) wide in
+    let down = mul-le-mul_right (2 ^ length k * 1) fewer in
+    omega (arith, whole, across, down)) in
     let room : (nat_le (product (cells j) * (2 ^ length j * 1)) (16777216 * (2 ^ length j * 1)) && nat_le (product (cells j) * (2 ^ length j * 1)) 134217728) ≡ true =
-      both_true (le-leb _ _ rows) (le-leb _ _ values) in
+    both_true (le-leb _ _ rows) (le-leb _ _ values) in
     let types = connections_in_type j short held in
     rw (shape, room, types) refl
   where

@@ -1,15 +1,14 @@
 -- The items that a slab keeps, as runs of items in a row.
-use Rattle.std.proofs.Common.{◌≡◌, ℕ, zero, suc, ◌+◌, ◌-◌, ◌*◌, ◌/◌, ◌%◌, ◌<◌, ◌≤◌, ℤ, List, [], ◌∷◌, ◌++◌, length, get_or, take, drop, Bool, true, false, ◌&&◌, cond, refl, sym, ap, ◌∙◌, append-nil, length-append, length-drop, arith}
-use Rattle.std.specs.Prelude.{nat_le, nat_lt, min}
+use Rattle.std.proofs.Common.{◌≡◌, ℕ, zero, suc, ◌+◌, ◌-◌, ◌*◌, ◌/◌, ◌%◌, ◌<◌, ◌≤◌, ℤ, List, [], ◌∷◌, ◌++◌, length, get_or, take, drop, Bool, true, false, refl, sym, ap, ◌∙◌, append-nil, length-append, length-drop, arith}
+use Rattle.std.specs.Prelude.{min}
 use Rattle.std.specs.List.{All, filter, range_with_len, flat_map}
 use Rattle.std.proofs.lemmas.Bool.{le-leb, lt-leb}
-use Rattle.std.proofs.lemmas.Bool.Decides.{nat_tests}
 use Rattle.std.proofs.lemmas.List.Elements.{All-head, All-tail, All-cons, filter-append}
 use Rattle.std.proofs.lemmas.List.{take_all}
 use Rattle.std.proofs.lemmas.List.Concat.{flat_map-append}
 use Rattle.std.proofs.lemmas.Nat.{le-div, div_below}
 use Rattle.std.proofs.Math.Nat.{mul_assoc, add-mul, suc-mul, mul-le-mul_left, mul-le-mul_right, mul-add-div_right, mul-add-mod_self_right, mod-eq_of_lt}
-use Rattle.dx_base.specs.Array.{ArrayData, product, indices_of, item, width}
+use Rattle.dx_base.specs.Array.{ArrayData, product, item, width}
 use Rattle.dx_arrays.specs.Block.{values_from}
 use Rattle.dx_arrays.proofs.Blocks as blocks
 use Rattle.dx_arrays.proofs.Products.{product-pos}
@@ -116,7 +115,7 @@ block_keeps w c first n k p some fit at =
     let rest : ℕ = c * w - (first * w + n * w) in
     let whole : c * w ≡ first * w + n * w + rest = omega (arith, rows, parts) in
     let here : (i : ℕ) → base ≤ i → i < base + c * w → p i ≡ is_among first n ((i - base) / w) =
-      (λ i h l. let same : base + (i - base) ≡ i = omega arith in ap p (sym same) ∙ at (i - base) (omega arith)) in
+    (λ i h l. let same : base + (i - base) ≡ i = omega arith in ap p (sym same) ∙ at (i - base) (omega arith)) in
     let cut = filter_middle p base (first * w) (n * w) rest
     (λ i h l. here i h (omega (arith, whole)) ∙ below_them first n ((i - base) / w) (div_below (i - base) w first some (omega arith)))
     (λ i h l. here i (omega arith) (omega (arith, whole)) ∙ among first n ((i - base) / w) (le-div first (i - base) w some (omega arith)) (div_below (i - base) w (first + n) some (omega (arith, parts))))
@@ -162,10 +161,10 @@ kept_runs es d first n r h fit some are =
     let positive : 0 < product (drop (suc d) es) = product-pos (drop (suc d) es) (all_drop es (suc d) some) in
     let split = here_split es d h in
     let own : kept es d first n ≡ kept (take d es ++ get_or es d 0 ∷ drop (suc d) es) (length (take d es)) first n =
-      ap (λ xs. kept xs d first n) split ∙ ap (λ k. kept (take d es ++ get_or es d 0 ∷ drop (suc d) es) k first n) (sym (length_front es d h)) in
+    ap (λ xs. kept xs d first n) split ∙ ap (λ k. kept (take d es ++ get_or es d 0 ∷ drop (suc d) es) k first n) (sym (length_front es d h)) in
     let same : r ≡ record { count = product (take d es); stride = get_or es d 0 * product (drop (suc d) es); start = first * product (drop (suc d) es); len = n * product (drop (suc d) es) } =
-      (let a = are.count in let b : r.stride ≡ get_or es d 0 * product (drop (suc d) es) = rw one at are.stride in let e : r.start ≡ first * product (drop (suc d) es) = rw one at are.start in let f : r.len ≡ n * product (drop (suc d) es) = rw one at are.len in
-      λ i. record { count = a i; stride = b i; start = e i; len = f i }) in
+    (let a = are.count in let b : r.stride ≡ get_or es d 0 * product (drop (suc d) es) = rw one at are.stride in let e : r.start ≡ first * product (drop (suc d) es) = rw one at are.start in let f : r.len ≡ n * product (drop (suc d) es) = rw one at are.len in
+    λ i. record { count = a i; stride = b i; start = e i; len = f i }) in
     own ∙ kept_split (take d es) (get_or es d 0) (drop (suc d) es) first n positive fit ∙ ap run_items (sym same)
 
 pub runs_within : (es : List ℕ) (d first n : ℕ) (r : Runs) → d < length es → first + n ≤ get_or es d 0 → AreRunsOf es d first n r → AreWithin r (product es)

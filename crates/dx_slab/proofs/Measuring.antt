@@ -1,25 +1,24 @@
 -- All slabs of a thickness are alike in size, so the first one tells whether their series is within the limits.
-use Rattle.std.proofs.Common.{◌≡◌, ℕ, zero, suc, ◌+◌, ◌-◌, ◌*◌, ◌<◌, ◌≤◌, ℤ, pos, List, [], ◌∷◌, length, get_or, take, drop, Bool, true, false, ◌&&◌, Option, Some, None, Ok, Err, refl, sym, ap, subst, ◌∙◌, arith}
+use Rattle.std.proofs.Common.{◌≡◌, ℕ, zero, suc, ◌+◌, ◌-◌, ◌*◌, ◌<◌, ◌≤◌, List, length, get_or, take, drop, Bool, true, false, ◌&&◌, Err, refl, sym, ap, subst, ◌∙◌, arith}
 use Rattle.std.specs.Prelude.{nat_le, max}
 use Rattle.std.specs.List.{All, flat_map}
 use Rattle.std.proofs.Math.Nat.{suc-mul}
 use Rattle.dx_base.specs.declared.code.Code.TheVariants.{TooLarge}
 use Rattle.dx_base.specs.Elem.{byte_count}
 use Rattle.dx_base.specs.Array.{ArrayData, Class, plain, constant, regular, grid_positions, grid_connections, product, item, width, array_size, stated_bytes}
-use Rattle.dx_base.specs.Object.{Tree, PartList, array, text, field, group, composite, series, no_parts, part, parts, attributes, append, levels, deepest, count, total_count, size, total_size, name_length, part_count}
+use Rattle.dx_base.specs.Object.{Tree, PartList, array, text, field, group, composite, series, no_parts, part, parts, attributes, levels, deepest, count, total_count, size, total_size, part_count}
 use Rattle.dx_base.specs.ObjectLimits.{fits, none_named}
 use Rattle.dx_slab.specs.Answer.{series_of}
 use Rattle.dx_slab.specs.Answered.{in_limits}
-use Rattle.dx_slab.specs.Components.{role, is_dropped, cut_array, cut_component, cut_part, cut_parts, slab, slabs}
-use Rattle.dx_slab.specs.Cuts.{cut_class, cut_positions, cell_extents, cells_along, first_cell, cells_kept, gathered}
+use Rattle.dx_slab.specs.Components.{role, is_dropped, cut_array, cut_component, cut_parts, slab, slabs}
+use Rattle.dx_slab.specs.Cuts.{cut_class, cell_extents, first_cell, cells_kept, gathered}
 use Rattle.dx_slab.specs.Kept.{kept}
-use Rattle.dx_slab.specs.Lawful.{AreCounts, IsCutOf}
+use Rattle.dx_slab.specs.Lawful.{IsCutOf}
 use Rattle.dx_slab.specs.Whole.{many_fit}
 use Rattle.dx_slab.specs.declared.cut.Cut.{Cut}
 use Rattle.dx_slab.specs.declared.role.Role.{Role}
 use Rattle.dx_slab.specs.declared.role.Role.TheVariants.{Positions, Connections, OnPoints, OnCells, Other}
 use Rattle.dx_slab.specs.declared.runs.Runs.{Runs}
-use Rattle.dx_slab.specs.Runs.{run_items}
 use Rattle.dx_slab.proofs.Keeping.{kept_runs, values_all, length_values}
 use Rattle.dx_slab.proofs.Joining.{extents_some, extent_at, length-extents, kept_end}
 

@@ -1,7 +1,7 @@
 -- The components of a slab, one after the other.
-use Rattle.std.proofs.Common.{◌≡◌, ℕ, ◌+◌, ◌<◌, ℤ, List, length, get_or, drop, Bool, true, false, Option, Some, Ok, Err, refl, sym, ap, subst, ◌∙◌}
+use Rattle.std.proofs.Common.{◌≡◌, ℕ, ◌+◌, ◌<◌, ℤ, List, length, get_or, drop, true, false, Option, Some, Err, sym, ap, subst, ◌∙◌}
 use Rattle.dx_base.specs.Array.{ArrayData}
-use Rattle.dx_base.specs.Object.{Tree, PartList, array, text, field, group, composite, series, no_parts, part, append}
+use Rattle.dx_base.specs.Object.{Tree, PartList, array, text, field, group, composite, series, part, append}
 use Rattle.dx_objects.specs.Kinds.{array_of}
 use Rattle.dx_objects.specs.Shown.{parts_of}
 use Rattle.dx_objects.specs.declared.object.Part.{Part}
@@ -47,6 +47,6 @@ pub cut_stops : (cs : List ℕ) (c : Cut) (ps : List Part) (i : ℕ) (p : Part) 
     Grows (cut_part cs c p.name p.position p.object.value) old new (Err e) → append old (cut_parts cs c (parts_of (drop i ps))) ≡ all → GivesParts all (Err e)
 cut_stops cs c ps i p old new all (fail.Code code) h is grown so_far =
     let rest : all_fit (cut_parts cs c (parts_of (drop i ps))) ≡ false =
-      ap (λ qs. all_fit (cut_parts cs c qs)) (here ps i p h is) ∙ all_fit-append_left (cut_part cs c p.name p.position p.object.value) (cut_parts cs c (parts_of (drop (i + 1) ps))) grown.1 in
+    ap (λ qs. all_fit (cut_parts cs c qs)) (here ps i p h is) ∙ all_fit-append_left (cut_part cs c p.name p.position p.object.value) (cut_parts cs c (parts_of (drop (i + 1) ps))) grown.1 in
     (grown.0, ap all_fit (sym so_far) ∙ all_fit-append_right old (cut_parts cs c (parts_of (drop i ps))) rest)
 cut_stops cs c ps i p old new all fail.Memory h is grown so_far = tt

@@ -1,28 +1,25 @@
 -- The components of a field that is a grid are what their roles say.
-use Rattle.std.proofs.Common.{◌≡◌, ℕ, ◌+◌, ◌<◌, ◌≤◌, List, [], ◌∷◌, length, Bool, true, false, ◌&&◌, Option, Some, None, Result, Ok, Err, refl, sym, ap, subst, ◌∙◌, arith}
-use Rattle.std.specs.Prelude.{is_none, is_some, nat_le, ◌==◌, ◌||◌, bytes_eq, IsTrue}
+use Rattle.std.proofs.Common.{◌≡◌, ℕ, ◌<◌, ◌≤◌, List, [], ◌∷◌, length, Bool, true, false, ◌&&◌, Option, Some, None, refl, sym, ap, subst, ◌∙◌, arith}
+use Rattle.std.specs.Prelude.{is_none, nat_le, ◌==◌, bytes_eq}
 use Rattle.std.specs.List.{All, list_all}
 use Rattle.std.proofs.lemmas.Bool.{and_parts, eqb-true, leb-true}
 use Rattle.std.proofs.lemmas.List.Elements.{All-cons}
 use Rattle.std.proofs.lemmas.Slice.Eq.{bytes_eq-Decides}
 use Rattle.dx_base.specs.Array.{ArrayData, Class, plain, constant, regular, grid_positions, grid_connections, items, items_of, product, cells}
-use Rattle.dx_base.specs.ArrayLimits.{IsLawfulArray, has_grid, is_shape}
-use Rattle.dx_base.specs.Object.{Tree, PartList, array, text, field, group, composite, series, no_parts, part, parts, attributes}
-use Rattle.dx_base.specs.ObjectLimits.{IsLawful, AreLawful, is_array, is_field, all_arrays, all_named, differ, lacks}
+use Rattle.dx_base.specs.ArrayLimits.{has_grid, is_shape}
+use Rattle.dx_base.specs.Object.{Tree, PartList, array, text, field, group, composite, series, no_parts, part}
+use Rattle.dx_base.specs.ObjectLimits.{IsLawful, AreLawful, is_array, all_arrays, differ, lacks}
 use Rattle.dx_base.specs.ObjectNames.{same_name, find}
 use Rattle.dx_fields.specs.declared.check.FieldFault.{FieldFault}
 use Rattle.dx_fields.specs.declared.check.FieldFault.TheVariants.{CountMismatch}
-use Rattle.dx_fields.specs.Faults.{field_fault, first_fault, component_fault, array_fault, dep_fault, ref_fault, earlier}
-use Rattle.dx_fields.specs.Grids.{positions_name, connections_name, point_counts, cell_counts, points_of, cells_of, without_ones, are_counts, are_joined, grid_counts}
+use Rattle.dx_fields.specs.Faults.{first_fault, component_fault, dep_fault, ref_fault, earlier}
+use Rattle.dx_fields.specs.Grids.{positions_name, connections_name, point_counts, cell_counts, points_of, cells_of, without_ones, are_counts, are_joined}
 use Rattle.dx_fields.specs.References.{dep_name, ref_name, target, item_count}
 use Rattle.dx_objects.specs.Kinds.{text_of}
-use Rattle.dx_slab.specs.Answered.{Answered, ◌>>=◌, or_refused}
 use Rattle.dx_slab.specs.Components.{data_name, dependence, role_by, role}
 use Rattle.dx_slab.specs.Cuts.{cell_extents}
-use Rattle.dx_slab.specs.Inputs.{counts_in, grid_in, with_data, unless_fault, none_refers, has_data_for}
+use Rattle.dx_slab.specs.Inputs.{has_data_for}
 use Rattle.dx_slab.specs.Lawful.{AreCounts, PlaysRole, PlayRoles}
-use Rattle.dx_slab.specs.declared.role.Role.{Role}
-use Rattle.dx_slab.specs.declared.role.Role.TheVariants.{Positions, Connections, OnPoints, OnCells, Other}
 use Rattle.dx_slab.proofs.Gathering.{itemed}
 use Rattle.dx_slab.proofs.Joining.{cells_product}
 use Rattle.dx_slab.proofs.Shifting.{points_are}
@@ -181,14 +178,14 @@ module _ (ps xs : PartList) (cs : List ℕ) (g : IsGridOf ps xs cs) where
       let at = depends_by a (find n ps) e in
       by_bool (bytes_eq positions_name n) _
       (λ s. let same : positions_name ≡ n = (bytes_eq-Decides positions_name n).0 s in
-        let there : Some g.points ≡ Some at.0 = sym g.found ∙ ap (λ k. find k ps) same ∙ at.1 in
-        let target_is : g.points ≡ at.0 = cc in
-        let own : item_count (array a zs) ≡ product cs = on_points (array a zs) (at.2 ∙ ap item_count (sym target_is)) in
-        rw s own)
+      let there : Some g.points ≡ Some at.0 = sym g.found ∙ ap (λ k. find k ps) same ∙ at.1 in
+      let target_is : g.points ≡ at.0 = cc in
+      let own : item_count (array a zs) ≡ product cs = on_points (array a zs) (at.2 ∙ ap item_count (sym target_is)) in
+      rw s own)
       (λ s. by_bool (bytes_eq connections_name n) _
       (λ r. let same : connections_name ≡ n = (bytes_eq-Decides connections_name n).0 r in
-        let own : item_count (array a zs) ≡ product (cell_extents cs) = at.2 ∙ on_cells at.0 (ap (λ k. find k ps) same ∙ at.1) in
-        rw (s, r) own)
+      let own : item_count (array a zs) ≡ product (cell_extents cs) = at.2 ∙ on_cells at.0 (ap (λ k. find k ps) same ∙ at.1) in
+      rw (s, r) own)
       (λ r. rw (s, r) tt))
 
   by_text : (a : ArrayData) (zs : PartList) (value : Tree) (b : Option (List ℕ)) → text_of value ≡ b → dep_fault a (target (Some value) (field ps xs)) ≡ None → PlaysRole cs (role_by b) (array a zs)
@@ -201,10 +198,10 @@ module _ (ps xs : PartList) (cs : List ℕ) (g : IsGridOf ps xs cs) where
   by_dep a zs n None is found h =
       by_bool (same_name data_name n) _
       (λ s.
-        let fits : has_data_for (Some (array a zs)) (Some g.points) ≡ true = rw (found s, g.found) at g.fits in
-        let alike : (items a == item_count g.points) ≡ true = rw is at fits in
-        let own : item_count (array a zs) ≡ product cs = on_points (array a zs) (eqb-true (items a) (item_count g.points) alike) in
-        rw s own)
+      let fits : has_data_for (Some (array a zs)) (Some g.points) ≡ true = rw (found s, g.found) at g.fits in
+      let alike : (items a == item_count g.points) ≡ true = rw is at fits in
+      let own : item_count (array a zs) ≡ product cs = on_points (array a zs) (eqb-true (items a) (item_count g.points) alike) in
+      rw s own)
       (λ s. rw s tt)
 
   plays_one : (n : Option (List ℕ)) (t : Tree) → is_array t ≡ true → component_fault t (field ps xs) ≡ None →
@@ -218,16 +215,16 @@ module _ (ps xs : PartList) (cs : List ℕ) (g : IsGridOf ps xs cs) where
   plays_one n (array a zs) h f p q r =
       by_bool (same_name positions_name n) _
       (λ s. let there : Some g.points ≡ Some (array a zs) = sym g.found ∙ p s in
-        let same : g.points ≡ array a zs = cc in
-        let own : points_of (array a zs) ≡ Some cs = ap points_of (sym same) ∙ g.counts in
-        rw s own)
+      let same : g.points ≡ array a zs = cc in
+      let own : points_of (array a zs) ≡ Some cs = ap points_of (sym same) ∙ g.counts in
+      rw s own)
       (λ s. by_bool (same_name connections_name n) _
       (λ k. let joined : are_joined (without_ones cs) (Some (array a zs)) ≡ true = subst (λ v. are_joined (without_ones cs) v ≡ true) (q k) g.joined in
-        let own : cells_of (array a zs) ≡ Some (without_ones cs) = joined_cells (without_ones cs) (array a zs) joined in
-        rw (s, k) own)
+      let own : cells_of (array a zs) ≡ Some (without_ones cs) = joined_cells (without_ones cs) (array a zs) joined in
+      rw (s, k) own)
       (λ k. let none = first_none (dep_fault a (target (find dep_name zs) (field ps xs))) (ref_fault a (target (find ref_name zs) (field ps xs))) f in
-        let own = by_dep a zs n (find dep_name zs) refl r none.0 in
-        rw (s, k) own))
+      let own = by_dep a zs n (find dep_name zs) refl r none.0 in
+      rw (s, k) own))
 
   pub plays : (qs : PartList) → all_arrays qs ≡ true → first_fault qs (field ps xs) ≡ None →
       IsFound positions_name (find positions_name ps) qs → IsFound connections_name (find connections_name ps) qs → IsFound data_name (find data_name ps) qs → PlayRoles cs qs

@@ -1,5 +1,5 @@
 -- The series of slabs, one after the other.
-use Rattle.std.proofs.Common.{◌≡◌, ℕ, zero, suc, ◌+◌, ◌-◌, ◌<◌, ◌≤◌, ℤ, pos, List, get_or, Bool, true, false, ◌&&◌, Some, None, Ok, Err, cond, refl, sym, ap, subst, ◌∙◌, arith}
+use Rattle.std.proofs.Common.{◌≡◌, ℕ, zero, suc, ◌+◌, ◌-◌, ◌<◌, ◌≤◌, pos, List, get_or, Bool, true, false, ◌&&◌, Some, None, Ok, Err, cond, refl, sym, ap, subst, ◌∙◌, arith}
 use Rattle.dx_base.specs.declared.code.Code.TheVariants.{TooLarge}
 use Rattle.dx_base.specs.Object.{Tree, PartList, series, no_parts, part, append}
 use Rattle.dx_base.specs.ObjectLimits.{fits, none_named, unplaced}

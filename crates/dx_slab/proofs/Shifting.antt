@@ -1,5 +1,5 @@
 -- The points of a slab are points of the grid: their indices are moved along one dimension.
-use Rattle.std.proofs.Common.{◌≡◌, ℕ, zero, suc, ◌+◌, ◌*◌, ◌/◌, ◌%◌, ◌<◌, ◌≤◌, ℤ, pos, ◌+ℤ◌, ◌*ℤ◌, List, [], ◌∷◌, length, get_or, drop, set, Bool, true, ◌&&◌, Some, None, refl, sym, ap, subst, ◌∙◌, arith}
+use Rattle.std.proofs.Common.{◌≡◌, ℕ, zero, suc, ◌+◌, ◌*◌, ◌/◌, ◌%◌, ◌<◌, ◌≤◌, ℤ, pos, ◌+ℤ◌, ◌*ℤ◌, List, [], ◌∷◌, length, get_or, drop, set, true, ◌&&◌, Some, None, refl, sym, ap, subst, ◌∙◌, arith}
 use Rattle.std.specs.Prelude.{map, nat_le, ◌==◌}
 use Rattle.std.specs.List.{All, list_all, range_with_len}
 use Rattle.std.proofs.lemmas.Bool.{and_parts, le-leb, eqb-true}
@@ -7,14 +7,14 @@ use Rattle.std.proofs.lemmas.Bool.Decides.{nat_tests}
 use Rattle.std.proofs.lemmas.Int.{ints}
 use Rattle.std.proofs.lemmas.List.{get_or-drop, length-set}
 use Rattle.std.proofs.lemmas.List.Elements.{All-head, All-tail, All-cons}
-use Rattle.std.proofs.lemmas.List.FromFn.{get_or-map-range_with_len, length-map-range_with_len, fill_by_all}
+use Rattle.std.proofs.lemmas.List.FromFn.{get_or-map-range_with_len, length-map-range_with_len}
 use Rattle.std.specs.Cmp.Derive.{both_true}
-use Rattle.std.proofs.Math.Nat.{mul-le-mul_left, mul-le-mul_right, mul-div_left, mul-mod_left, mod-eq_of_lt, div-eq_of_lt, zero-mul}
+use Rattle.std.proofs.Math.Nat.{mul-le-mul_left, mul-le-mul_right, mul-div_left, mod-eq_of_lt, div-eq_of_lt}
 use Rattle.dx_base.specs.declared.elem.ElemType.{ElemType}
 use Rattle.dx_base.specs.declared.elem.ElemType.TheVariants.{Int}
 use Rattle.dx_base.specs.Elem.{in_range}
 use Rattle.dx_base.specs.Array.{ArrayData, Class, plain, constant, regular, grid_positions, grid_connections, origin_of, deltas_of, product, indices_of, point_number, offset, number, value, value_of, items, item, width}
-use Rattle.dx_base.specs.ArrayLimits.{IsLawfulArray, IsOfGrid, is_shape, is_grid, has_lengths_of, has_shape, has_room}
+use Rattle.dx_base.specs.ArrayLimits.{IsLawfulArray, IsOfGrid, is_shape, has_lengths_of}
 use Rattle.dx_arrays.specs.Laws.{IsPoint}
 use Rattle.dx_arrays.specs.Makes.{refusal}
 use Rattle.dx_arrays.proofs.Corners.{indices_of-add, point-lt}
@@ -24,7 +24,7 @@ use Rattle.dx_arrays.proofs.PointLaws.{IsPoint-indices_of, point_number-lt, indi
 use Rattle.dx_arrays.proofs.Products.{product-pos}
 use Rattle.dx_fields.specs.Grids.{point_counts}
 use Rattle.dx_slab.specs.Cuts.{cut_counts, cut_class, moved, cut_positions}
-use Rattle.dx_slab.specs.Lawful.{AreCounts, IsCutOf}
+use Rattle.dx_slab.specs.Lawful.{IsCutOf}
 use Rattle.dx_slab.specs.declared.cut.Cut.{Cut}
 
 -- the indices with the one of dimension d moved by q
@@ -116,10 +116,10 @@ first_value a cs o ds c place is cut =
     let at : q < get_or cs d 0 = (let end = cut.end in omega (arith, end)) in
     let indices = first_indices cs d q cut.counts.some cut.dimension at in
     let own : value a (q * product (drop (suc d) cs)) place ≡ number o place +ℤ offset (length cs) (indices_of cs (q * product (drop (suc d) cs))) ds place =
-      ap (λ k. value_of (width a) k (q * product (drop (suc d) cs)) place) is.class in
+    ap (λ k. value_of (width a) k (q * product (drop (suc d) cs)) place) is.class in
     let long : d < length (zeros cs) = rw (length_zeros cs) cut.dimension in
     let moved_by : offset (length cs) (shift d q (zeros cs)) ds place ≡ pos q *ℤ number ds (d * length cs + place) =
-      offset_shift (length cs) d q (zeros cs) ds place long ∙ rw (offset_zeros (length cs) cs ds place) (omega (arith, ints)) in
+    offset_shift (length cs) d q (zeros cs) ds place long ∙ rw (offset_zeros (length cs) cs ds place) (omega (arith, ints)) in
     own ∙ rw (indices, moved_by, is.origin) refl
 
 points_by : (t : ElemType) (es : List ℕ) (c : Class) (cs : List ℕ) → has_lengths_of (product es) c ≡ true → IsOfGrid t es c → point_counts c ≡ Some cs → IsPoints (record { elem = t; extents = es; class = c }) cs (origin_of c) (deltas_of c)
@@ -223,17 +223,17 @@ module _ (a : ArrayData) (cs : List ℕ) (o ds : List ℤ) (c : Cut) (l : IsLawf
       let long : d < length js = (let len = IsPoint-length own js point in let own_len = own_length in let dim = cut.dimension in omega (arith, len, own_len, dim)) in
       let by = offset_shift n d c.first js ds p long in
       let origin : number (moved o ds c) p ≡ number o p +ℤ pos c.first *ℤ number ds (d * length o + p) =
-        get_or-map-range_with_len (λ k. number o k +ℤ pos c.first *ℤ number ds (d * length o + k)) 0 (length o) p p (pos 0) (let len = own_length in let or = is.origin in omega (arith, len, or)) (omega arith) in
+      get_or-map-range_with_len (λ k. number o k +ℤ pos c.first *ℤ number ds (d * length o + k)) 0 (length o) p p (pos 0) (let len = own_length in let or = is.origin in omega (arith, len, or)) (omega arith) in
       let same_origin : number ds (d * length o + p) ≡ number ds (d * n + p) = ap (λ k. number ds (d * k + p)) is.origin in
       let same : number (moved o ds c) p +ℤ offset (length own) js ds p ≡ value a j p =
-        (let len = own_length in rw (origin, len, of_class, indices, by, same_origin) (omega (arith, ints))) in
+      (let len = own_length in rw (origin, len, of_class, indices, by, same_origin) (omega (arith, ints))) in
       rw same typed_int
 
   pub positions_refusal : refusal (record { elem = Int; extents = length own ∷ []; class = grid_positions own (moved o ds c) ds }) ≡ None
   positions_refusal =
       let len = own_length in
       let shape_of : is_shape (length own ∷ []) ≡ true =
-        (let old : is_shape a.extents ≡ true = (and_parts (is_shape a.extents) _ l.shape).0 in let new : is_shape (length cs ∷ []) ≡ true = subst (λ es. is_shape es ≡ true) is.extents old in subst (λ k. is_shape (k ∷ []) ≡ true) (sym len) new) in
+      (let old : is_shape a.extents ≡ true = (and_parts (is_shape a.extents) _ l.shape).0 in let new : is_shape (length cs ∷ []) ≡ true = subst (λ es. is_shape es ≡ true) is.extents old in subst (λ k. is_shape (k ∷ []) ≡ true) (sym len) new) in
       let some : nat_le 1 (length own) ≡ true = le-leb 1 (length own) (let dim = cut.dimension in omega (arith, len, dim)) in
       let few : nat_le (length own) 3 ≡ true = le-leb (length own) 3 (let dim = cut.counts.dimensions in omega (arith, len, dim)) in
       let all = list_all_some own own_some in
@@ -241,11 +241,11 @@ module _ (a : ArrayData) (cs : List ℕ) (o ds : List ℤ) (c : Cut) (l : IsLawf
       let fewer : product own ≤ product cs = product_set-le cs c.dimension (c.thickness + 1) fit in
       let rows : product own * (length own * 1) ≤ 16777216 * (length own * 1) = mul-le-mul_right (length own * 1) (let most = cut.counts.few in let small : product own ≤ 16777216 = omega (arith, fewer, most) in small) in
       let values : product own * (length own * 1) ≤ 134217728 =
-        (let most = cut.counts.few in let dim = cut.counts.dimensions in let small : product own ≤ 16777216 = omega (arith, fewer, most) in
-        let thin : length own * 1 ≤ 3 = omega (arith, len, dim) in
-        let wide = mul-le-mul_left (product own) thin in omega (arith, wide, small)) in
+      (let most = cut.counts.few in let dim = cut.counts.dimensions in let small : product own ≤ 16777216 = omega (arith, fewer, most) in
+      let thin : length own * 1 ≤ 3 = omega (arith, len, dim) in
+      let wide = mul-le-mul_left (product own) thin in omega (arith, wide, small)) in
       let room : (nat_le (product own * (length own * 1)) (16777216 * (length own * 1)) && nat_le (product own * (length own * 1)) 134217728) ≡ true =
-        both_true (le-leb _ _ rows) (le-leb _ _ values) in
+      both_true (le-leb _ _ rows) (le-leb _ _ values) in
       let origin : length (moved o ds c) ≡ length own = length-map-range_with_len _ 0 (length o) ∙ is.origin ∙ sym len in
       let deltas : length ds ≡ length own * length own = rw len is.deltas in
       let lengths : (length (moved o ds c) == length own && length ds == length own * length own) ≡ true = both_true (eqb-of (length (moved o ds c)) (length own) origin) (eqb-of (length ds) (length own * length own) deltas) in

@@ -3,7 +3,7 @@ use Rattle.std.specs.Prelude.{ℕ, ◌-◌, List, slice_index}
 use Rattle.dx_base.specs.Object.{Tree, series, no_parts}
 use Rattle.dx_objects.specs.Runs.{Values, Answer}
 use Rattle.dx_objects.specs.Values.{value_at}
-use Rattle.dx_slab.specs.Answered.{Answered, ◌>>=◌, needed, in_limits, one_result}
+use Rattle.dx_slab.specs.Answered.{◌>>=◌, needed, in_limits, one_result}
 use Rattle.dx_slab.specs.Components.{slab, slabs}
 use Rattle.dx_slab.specs.Inputs.{field_in, counts_in, asked_in}
 use Rattle.dx_slab.specs.declared.inputs.Asked.{Asked}

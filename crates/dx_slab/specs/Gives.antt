@@ -1,8 +1,7 @@
 -- What the steps of Slab give: an object, a code, or that memory ran out.
-use Rattle.std.specs.Prelude.{◌≡◌, ◌<◌, ℕ, List, Bool, true, false, ◌&&◌, Result, Ok, Err}
+use Rattle.std.specs.Prelude.{◌≡◌, ◌<◌, Bool, true, false, ◌&&◌, Result, Ok, Err}
 use Rattle.std.specs.declared.rc.Rc.{Rc}
 use Rattle.std.specs.declared.alloc.Global.{Global}
-use Rattle.dx_base.specs.declared.code.Code.{Code}
 use Rattle.dx_base.specs.declared.code.Code.TheVariants.{TooLarge}
 use Rattle.dx_base.specs.Array.{ArrayData, array_size}
 use Rattle.dx_base.specs.Object.{Tree, PartList, no_parts, part, append}

@@ -1,5 +1,5 @@
 -- What the inputs of Slab need to be: a field that is a grid, and which slabs are asked for.
-use Rattle.std.specs.Prelude.{ℕ, ◌+◌, ◌-◌, ℤ, pos, negsuc, List, length, Option, Some, None, is_some, is_none, Bool, true, Result, Ok, Err, ◌&&◌, ◌||◌, ◌==◌, nat_le, nat_lt, if◌then◌else◌, codes, bytes_eq, slice_index}
+use Rattle.std.specs.Prelude.{ℕ, ◌+◌, ◌-◌, ℤ, pos, negsuc, List, length, Option, Some, None, is_some, is_none, Bool, true, Ok, Err, ◌&&◌, ◌||◌, ◌==◌, nat_le, nat_lt, if◌then◌else◌, codes, bytes_eq, slice_index}
 use Rattle.dx_base.specs.declared.code.Code.TheVariants.{BadField, NotRegular}
 use Rattle.dx_base.specs.Object.{Tree, PartList, no_parts, part, parts, attributes}
 use Rattle.dx_base.specs.ObjectLimits.{is_field}
@@ -14,7 +14,6 @@ use Rattle.dx_objects.specs.Runs.{Values}
 use Rattle.dx_objects.specs.Values.{value_at}
 use Rattle.dx_slab.specs.Answered.{Answered, ◌>>=◌, or_refused}
 use Rattle.dx_slab.specs.Components.{data_name}
-use Rattle.dx_slab.specs.declared.cut.Cut.{Cut}
 use Rattle.dx_slab.specs.declared.inputs.Asked.{Asked}
 use Rattle.dx_slab.specs.declared.inputs.Asked.TheVariants.{One, Each}
 

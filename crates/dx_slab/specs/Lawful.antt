@@ -1,9 +1,8 @@
 -- Slabs that a grid has, and fields that are that grid.
-use Rattle.std.specs.Prelude.{◌≡◌, ◌<◌, ◌≤◌, ℕ, ◌+◌, List, length, Option, Some, slice_index}
+use Rattle.std.specs.Prelude.{◌≡◌, ◌<◌, ◌≤◌, ℕ, ◌+◌, List, length, Some, slice_index}
 use Rattle.std.specs.List.{All}
 use Rattle.dx_base.specs.Array.{product}
 use Rattle.dx_base.specs.Object.{Tree, PartList, no_parts, part}
-use Rattle.dx_base.specs.ObjectLimits.{IsLawful, is_array}
 use Rattle.dx_fields.specs.Grids.{points_of, cells_of, without_ones}
 use Rattle.dx_fields.specs.References.{item_count}
 use Rattle.dx_slab.specs.Components.{role}

@@ -32,11 +32,7 @@ pub(crate) fn cut_counts(alloc: Global, counts: &[u32], cut: Cut) -> Result<Vec<
 }
 
 /// The counts by which the slab's cells are given.
-pub(crate) fn joined_counts(
-    alloc: Global,
-    counts: &[u32],
-    cut: Cut,
-) -> Result<Vec<u32>, AllocError>
+pub(crate) fn joined_counts(alloc: Global, counts: &[u32], cut: Cut) -> Result<Vec<u32>, AllocError>
     requires { IsCutOf counts.now cut }
     ensures { IfOk result (λ joined. joined.items ≡ spec.joined_counts counts.now cut) }
 {
@@ -150,12 +146,7 @@ pub(crate) fn on_cells(
     let _items = array.items();
     let extents = cell_extents(alloc, counts)?;
     let first = first_cell(counts[cut.dimension] as u64, cut);
-    let runs = runs_of(
-        extents.as_slice(),
-        cut.dimension,
-        first,
-        cells_kept(cut),
-    );
+    let runs = runs_of(extents.as_slice(), cut.dimension, first, cells_kept(cut));
     gathered(alloc, array, runs)
 }
 

@@ -213,12 +213,7 @@ fn push_slab(
 }
 
 #[tactic(auto, using(dx_objects::proofs::PartsLaws::appending))]
-fn push(
-    alloc: Global,
-    members: &mut Parts,
-    position: u64,
-    object: Object,
-) -> Result<(), AllocError>
+fn push(alloc: Global, members: &mut Parts, position: u64, object: Object) -> Result<(), AllocError>
     requires { position ≤ 16777216 }
     ensures { OnOk result (members.new ≡ append members.old (one_part None (pos position) object no_parts)) }
 {

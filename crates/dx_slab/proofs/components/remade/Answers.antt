@@ -1,4 +1,4 @@
-use Rattle.std.proofs.Common.{refl, sym, ap, ◌∙◌}
+use Rattle.std.proofs.Common.{refl, ◌∙◌}
 use Rattle.dx_base.specs.Object.{attributes}
 use Rattle.dx_slab.proofs.Fitting.{attributes_are, array_made, array_large}
 use Rattle.dx_slab.proofs.components.remade.Goals as goal

@@ -1,6 +1,5 @@
 use Rattle.std.proofs.Common.{◌≡◌, None, Some, sym, ap, ◌∙◌}
 use Rattle.dx_arrays.specs.Makes.{refusal}
-use Rattle.dx_slab.specs.Cuts.{joined_counts}
 use Rattle.dx_slab.proofs.Joining.{joined_refusal, connections_array}
 use Rattle.dx_slab.proofs.cut.cut_connections.Goals as goal
 

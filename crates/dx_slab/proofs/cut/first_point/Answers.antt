@@ -1,5 +1,5 @@
-use Rattle.std.proofs.Common.{◌≡◌, ◌≤◌, ◌+◌, ◌-◌, ◌*◌, ◌++◌, suc, drop, ap, sym, ◌∙◌, arith}
-use Rattle.dx_base.specs.Array.{product, item}
+use Rattle.std.proofs.Common.{◌≡◌, ◌≤◌, ◌+◌, ◌-◌, ◌*◌, ◌++◌, suc, drop, ap, ◌∙◌, arith}
+use Rattle.dx_base.specs.Array.{product}
 use Rattle.dx_arrays.specs.Block.{values_from}
 use Rattle.dx_arrays.proofs.Blocks.{values_one}
 use Rattle.dx_slab.proofs.Keeping.{are_small, behind_all}

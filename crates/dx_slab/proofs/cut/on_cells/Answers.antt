@@ -1,4 +1,4 @@
-use Rattle.std.proofs.Common.{◌≡◌, ◌<◌, ◌≤◌, sym, ap, subst, ◌∙◌}
+use Rattle.std.proofs.Common.{◌<◌, ◌≤◌, sym, ap, subst, ◌∙◌}
 use Rattle.std.specs.List.{All}
 use Rattle.dx_base.specs.Array.{product}
 use Rattle.dx_slab.proofs.Gathering.{itemed}

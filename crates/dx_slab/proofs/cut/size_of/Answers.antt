@@ -1,4 +1,4 @@
-use Rattle.std.proofs.Common.{◌≡◌, ◌≤◌, ◌+◌, ◌*◌, refl, ap, sym, ◌∙◌, arith}
+use Rattle.std.proofs.Common.{◌≡◌, ◌≤◌, ◌+◌, ◌*◌, refl, sym, ◌∙◌, arith}
 use Rattle.dx_base.specs.Array.{items, width}
 use Rattle.dx_base.specs.Elem.{byte_count}
 use Rattle.dx_arrays.proofs.Blocks.{few_items}
@@ -17,17 +17,17 @@ overflow_mul-result-2 c =
 pub overflow_mul-result-3 : goal.overflow_mul-result-3
 overflow_mul-result-3 c =
     let few : c.args.runs.count * c.args.runs.len * c.width.result * c.byte_count.result ≤ 536870912 =
-      rw (c.width.ensures.width, c.byte_count.ensures, c.elem.ensures) (few_stated c.args.array.now c.args.runs c.items-items.ensures.lawful c.requires) in
+    rw (c.width.ensures.width, c.byte_count.ensures, c.elem.ensures) (few_stated c.args.array.now c.args.runs c.items-items.ensures.lawful c.requires) in
     omega (arith, few)
 
 pub overflow_add-result : goal.overflow_add-result
 overflow_add-result c =
     let few : c.args.runs.count * c.args.runs.len * c.width.result * c.byte_count.result ≤ 536870912 =
-      rw (c.width.ensures.width, c.byte_count.ensures, c.elem.ensures) (few_stated c.args.array.now c.args.runs c.items-items.ensures.lawful c.requires) in
+    rw (c.width.ensures.width, c.byte_count.ensures, c.elem.ensures) (few_stated c.args.array.now c.args.runs c.items-items.ensures.lawful c.requires) in
     omega (arith, few)
 
 pub returns : goal.returns
 returns c =
     let own : 64 + c.args.runs.count * c.args.runs.len * c.width.result * c.byte_count.result ≡ 64 + c.args.runs.count * c.args.runs.len * width c.args.array.now * byte_count c.args.array.now.elem =
-      rw (c.width.ensures.width, c.byte_count.ensures, c.elem.ensures) refl in
+    rw (c.width.ensures.width, c.byte_count.ensures, c.elem.ensures) refl in
     own ∙ sym (gathered_size c.args.array.now c.args.runs)

@@ -1,6 +1,6 @@
-use Rattle.std.proofs.Common.{◌≡◌, ◌≤◌, ◌+◌, ◌*◌, get_or, take, drop, ap, sym, ◌∙◌, arith}
+use Rattle.std.proofs.Common.{◌≡◌, ◌≤◌, ◌+◌, ◌*◌, get_or, take, drop, ap, arith}
 use Rattle.dx_base.specs.Array.{product}
-use Rattle.dx_slab.proofs.Keeping.{AreRunsOf, kept_runs, runs_within, are_small, AreSmall, behind_all, count_is}
+use Rattle.dx_slab.proofs.Keeping.{kept_runs, runs_within, are_small, behind_all}
 use Rattle.dx_slab.proofs.runs.runs_of.Goals as goal
 
 pub overflow_mul-result : goal.overflow_mul-result

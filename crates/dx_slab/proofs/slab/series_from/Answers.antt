@@ -1,4 +1,4 @@
-use Rattle.std.proofs.Common.{◌≡◌, ◌≤◌, false, get_or, sym, ap, ◌∙◌, arith}
+use Rattle.std.proofs.Common.{sym, ◌∙◌, arith}
 use Rattle.dx_slab.proofs.Keeping.{count_few}
 use Rattle.dx_slab.proofs.Measuring.{many_large}
 use Rattle.dx_slab.proofs.Serial.{members_stop, series_err}

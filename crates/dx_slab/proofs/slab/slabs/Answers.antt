@@ -1,5 +1,4 @@
-use Rattle.std.proofs.Common.{rules, ◌≡◌, ◌<◌, ◌≤◌, Err, sym, ap, subst, ◌∙◌, arith}
-use Rattle.dx_base.specs.Object.{append, part, no_parts}
+use Rattle.std.proofs.Common.{rules, ◌≡◌, ◌<◌, ◌≤◌, Err, sym, subst, arith}
 use Rattle.dx_slab.specs.Components as spec
 use Rattle.dx_slab.specs.Gives.{GivesParts}
 use Rattle.dx_slab.proofs.Serial.{series_begin, series_step, series_end, series_stops, grown_from}
