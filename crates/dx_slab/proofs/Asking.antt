@@ -128,3 +128,13 @@ counts_of (field ps xs) cs f l e =
       are_counts_of facts.0 cs (found_lawful positions_name ps facts.0 l.1 facts.1) facts.2,
       plays ps xs cs g ps l.0.components sound.0 (is_found positions_name ps own) (is_found connections_name ps own) (is_found data_name ps own),
     )
+
+-- the points and the cells of a field whose counts are found
+pub grid_of : (ps xs : PartList) (cs : List ℕ) → counts_in (field ps xs) ≡ Ok cs →
+    (points : Tree) × (find positions_name ps ≡ Some points) × (points_of points ≡ Some cs) × (are_joined (without_ones cs) (find connections_name ps) ≡ true)
+grid_of ps xs cs e =
+    let whole : Tree = field ps xs in
+    let sound = fault_none (field_fault whole) (grid_in whole >>= with_data whole) cs e in
+    let grid = bound (grid_in whole) (with_data whole) cs sound.1 in
+    let held = data_is whole grid.0 cs grid.2 in
+    grid_facts ps xs cs (grid_is whole grid.0 grid.1 ∙ ap (λ k. Some k) held.1)

@@ -37,7 +37,7 @@ components_of (series ps xs) f h = cc
 -- ---- the components of the slab are some of those of the field, under their names
 
 -- a component of the slab stands at the head, or it is gone
-cut_head : (cs : List ℕ) (c : Cut) (n : Option (List ℕ)) (p : ℤ) (t : Tree) (ps : PartList) (P : PartList → Type 0) →
+pub cut_head : (cs : List ℕ) (c : Cut) (n : Option (List ℕ)) (p : ℤ) (t : Tree) (ps : PartList) (P : PartList → Type 0) →
     P (cut_parts cs c ps) → P (part n p (cut_component cs c (role n t) t) (cut_parts cs c ps)) → P (cut_parts cs c (part n p t ps))
 cut_head cs c n p t ps P gone stays =
     by_bool (is_dropped cs c (role n t)) _
@@ -78,7 +78,7 @@ none_of : {A : Type 0} (o : Option A) → is_none o ≡ true → o ≡ None
 none_of None h = refl
 none_of (Some a) h = absurd (cc h)
 
-missing : (cs : List ℕ) (c : Cut) (m : List ℕ) (ps : PartList) → find m ps ≡ None → find m (cut_parts cs c ps) ≡ None
+pub missing : (cs : List ℕ) (c : Cut) (m : List ℕ) (ps : PartList) → find m ps ≡ None → find m (cut_parts cs c ps) ≡ None
 missing cs c m no_parts h = refl
 missing cs c m (part n p t ps) h =
     by_bool (same_name m n) _

@@ -100,7 +100,7 @@ ones_length (c ∷ cs) =
     let below = ones_length cs in
     by_bool (c == 1) _ (λ e. rw e (omega (arith, below))) (λ e. rw e (omega (arith, below)))
 
-length_shrinks : (cs : List ℕ) (d n : ℕ) → 0 < n → n ≤ get_or cs d 0 → length (without_ones (set cs d n)) ≤ length (without_ones cs)
+pub length_shrinks : (cs : List ℕ) (d n : ℕ) → 0 < n → n ≤ get_or cs d 0 → length (without_ones (set cs d n)) ≤ length (without_ones cs)
 length_shrinks [] d n h k = omega arith
 length_shrinks (c ∷ cs) zero n h k =
     by_bool (n == 1) _

@@ -9,3 +9,5 @@ pub mod Entire
 pub mod Measuring
 pub mod Serial
 pub mod Asking
+pub mod StepLaws
+pub mod GridLaws

@@ -9,3 +9,4 @@ pub mod Runs
 pub mod Lawful
 pub mod Gives
 pub mod Whole
+pub mod Laws
