@@ -1,5 +1,5 @@
 -- What is known of a field, and of the slabs that are asked for, where the inputs aren't refused.
-use Rattle.std.proofs.Common.{◌≡◌, ℕ, suc, ◌+◌, ◌-◌, ◌<◌, ◌≤◌, ℤ, pos, negsuc, List, length, get_or, Bool, true, false, Option, Some, None, Ok, Err, refl, ap, subst, ◌∙◌, arith}
+use Rattle.std.proofs.Common.{◌≡◌, ℕ, suc, ◌+◌, ◌-◌, ◌<◌, ◌≤◌, ℤ, pos, negsuc, List, length, get_or, true, Option, Some, None, Ok, Err, refl, ap, subst, ◌∙◌, arith}
 use Rattle.std.specs.Prelude.{nat_le, nat_lt, ◌&&◌}
 use Rattle.std.proofs.lemmas.Bool.{and_parts, leb-true}
 use Rattle.dx_base.specs.declared.code.Code.TheVariants.{BadField, NotRegular}
@@ -13,23 +13,16 @@ use Rattle.dx_fields.specs.Grids.{positions_name, connections_name, points_of, w
 use Rattle.dx_objects.specs.Kinds.{text_of}
 use Rattle.dx_objects.specs.Runs.{Values}
 use Rattle.dx_objects.specs.Values.{value_at}
+use Rattle.dx_objects.proofs.PutLaws.{by_bool}
 use Rattle.dx_slab.specs.Answered.{Answered, ◌>>=◌, or_refused}
 use Rattle.dx_slab.specs.Components.{data_name}
 use Rattle.dx_slab.specs.Inputs.{counts_in, grid_in, with_data, unless_fault, none_refers, has_data_for, either_of, below, dimension_in, position_in, thickness_in, placed, asked_by, asked_in}
 use Rattle.dx_slab.specs.Lawful.{AreCounts, IsAskedOf, PlayRoles}
 use Rattle.dx_slab.specs.declared.inputs.Asked.{Asked}
 use Rattle.dx_slab.specs.declared.inputs.Asked.TheVariants.{One, Each}
-use Rattle.dx_slab.proofs.Playing.{IsGridOf, is_found, found_lawful, are_counts_of, plays}
+use Rattle.dx_slab.proofs.Playing.{by_option, IsGridOf, is_found, found_lawful, are_counts_of, plays}
 
-by_bool : (b : Bool) (P : Type 0) → (b ≡ true → P) → (b ≡ false → P) → P
-by_bool true P f g = f refl
-by_bool false P f g = g refl
-
-by_option : {A : Type 0} (o : Option A) (P : Type 0) → (o ≡ None → P) → ((a : A) → o ≡ Some a → P) → P
-by_option None P f g = f refl
-by_option (Some a) P f g = g a refl
-
-bound : {A B : Type 0} (there : Answered A) (f : A → Answered B) (b : B) → (there >>= f) ≡ Ok b → (a : A) × (there ≡ Ok a) × (f a ≡ Ok b)
+pub bound : {A B : Type 0} (there : Answered A) (f : A → Answered B) (b : B) → (there >>= f) ≡ Ok b → (a : A) × (there ≡ Ok a) × (f a ≡ Ok b)
 bound (Ok a) f b e = (a, refl, e)
 bound (Err code) f b e = absurd (cc e)
 

@@ -11,6 +11,7 @@ use Rattle.dx_base.specs.ObjectNames.{same_name, find}
 use Rattle.dx_objects.specs.Runs.{Gives}
 use Rattle.dx_objects.specs.declared.run_fail.RunFail.{RunFail}
 use Rattle.dx_objects.specs.declared.run_fail.RunFail.TheVariants as fail
+use Rattle.dx_objects.proofs.PutLaws.{by_bool}
 use Rattle.dx_slab.specs.Answered.{Answered, in_limits, one_result}
 use Rattle.dx_slab.specs.Components.{role, is_dropped, cut_component, cut_parts}
 use Rattle.dx_slab.specs.Gives.{GivesTree, GivesParts, Grows}
@@ -18,10 +19,6 @@ use Rattle.dx_slab.specs.Whole.{AreComponents}
 use Rattle.dx_slab.specs.declared.cut.Cut.{Cut}
 use Rattle.dx_slab.specs.declared.role.Role.{Role}
 use Rattle.dx_slab.proofs.Fitting.{field_large, series_large}
-
-by_bool : (b : Bool) (P : Type 0) → (b ≡ true → P) → (b ≡ false → P) → P
-by_bool true P f g = f refl
-by_bool false P f g = g refl
 
 pub components_of : (t : Tree) → is_field t ≡ true → IsLawful t → AreComponents (parts t)
 components_of (array a xs) f h = cc
@@ -74,7 +71,7 @@ unplaced_kept cs c (part n p t ps) h =
     let rest = unplaced_kept cs c ps below in
     cut_head cs c n p t ps (λ qs. unplaced qs ≡ qs) rest (λ i. part n (here i) (cut_component cs c (role n t) t) (rest i))
 
-none_of : {A : Type 0} (o : Option A) → is_none o ≡ true → o ≡ None
+pub none_of : {A : Type 0} (o : Option A) → is_none o ≡ true → o ≡ None
 none_of None h = refl
 none_of (Some a) h = absurd (cc h)
 

@@ -8,6 +8,7 @@ use Rattle.dx_base.specs.Object.{Tree, PartList, array, text, field, group, comp
 use Rattle.dx_base.specs.ObjectLimits.{is_array, all_arrays}
 use Rattle.dx_base.specs.ObjectNames.{same_name, find}
 use Rattle.dx_fields.specs.Grids.{positions_name, connections_name, point_counts, points_of, cells_of, without_ones, are_joined, grid_counts}
+use Rattle.dx_objects.proofs.PutLaws.{by_bool}
 use Rattle.dx_slab.specs.Components.{role, is_of_cells, has_no_cells, is_dropped, cut_component, cut_parts}
 use Rattle.dx_slab.specs.Cuts.{cut_counts, cut_class, joined_counts}
 use Rattle.dx_slab.specs.Laws.{GivesGrid}
@@ -17,14 +18,7 @@ use Rattle.dx_slab.specs.declared.role.Role.TheVariants.{Positions, Connections}
 use Rattle.dx_slab.proofs.Asking.{grid_of}
 use Rattle.dx_slab.proofs.Entire.{cut_head}
 use Rattle.dx_slab.proofs.Joining.{length_shrinks}
-
-by_bool : (b : Bool) (P : Type 0) → (b ≡ true → P) → (b ≡ false → P) → P
-by_bool true P f g = f refl
-by_bool false P f g = g refl
-
-by_option : {A : Type 0} (o : Option A) (P : Type 0) → (o ≡ None → P) → ((a : A) → o ≡ Some a → P) → P
-by_option None P f g = f refl
-by_option (Some a) P f g = g a refl
+use Rattle.dx_slab.proofs.Playing.{by_option}
 
 -- ---- the points
 

@@ -16,15 +16,12 @@ use Rattle.dx_arrays.proofs.Blocks.{roomy}
 use Rattle.dx_arrays.proofs.Cells.{corners-le, pow_pos}
 use Rattle.dx_arrays.proofs.InType.{connections_in_type}
 use Rattle.dx_fields.specs.Grids.{cell_counts, without_ones}
+use Rattle.dx_objects.proofs.PutLaws.{by_bool}
 use Rattle.dx_slab.specs.Cuts.{cut_counts, cells_along, cell_extents, first_cell, cells_kept, joined_counts, cut_connections}
 use Rattle.dx_slab.specs.Lawful.{IsCutOf}
 use Rattle.dx_slab.specs.declared.cut.Cut.{Cut}
 use Rattle.dx_slab.proofs.Gathering.{itemed}
 use Rattle.dx_slab.proofs.Shifting.{all_set, list_all_some}
-
-by_bool : (b : Bool) (P : Type 0) → (b ≡ true → P) → (b ≡ false → P) → P
-by_bool true P f g = f refl
-by_bool false P f g = g refl
 
 -- ---- the counts without ones, and the cells along each dimension
 

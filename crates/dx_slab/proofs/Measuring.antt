@@ -1,5 +1,5 @@
 -- All slabs of a thickness are alike in size, so the first one tells whether their series is within the limits.
-use Rattle.std.proofs.Common.{◌≡◌, ℕ, zero, suc, ◌+◌, ◌-◌, ◌*◌, ◌<◌, ◌≤◌, List, length, get_or, take, drop, Bool, true, false, ◌&&◌, Err, refl, sym, ap, subst, ◌∙◌, arith}
+use Rattle.std.proofs.Common.{◌≡◌, ℕ, zero, suc, ◌+◌, ◌-◌, ◌*◌, ◌<◌, ◌≤◌, List, length, get_or, take, drop, true, false, ◌&&◌, Err, refl, sym, ap, subst, ◌∙◌, arith}
 use Rattle.std.specs.Prelude.{nat_le, max}
 use Rattle.std.specs.List.{All, flat_map}
 use Rattle.std.proofs.Math.Nat.{suc-mul}
@@ -8,6 +8,7 @@ use Rattle.dx_base.specs.Elem.{byte_count}
 use Rattle.dx_base.specs.Array.{ArrayData, Class, plain, constant, regular, grid_positions, grid_connections, product, item, width, array_size, stated_bytes}
 use Rattle.dx_base.specs.Object.{Tree, PartList, array, text, field, group, composite, series, no_parts, part, parts, attributes, levels, deepest, count, total_count, size, total_size, part_count}
 use Rattle.dx_base.specs.ObjectLimits.{fits, none_named}
+use Rattle.dx_objects.proofs.PutLaws.{by_bool}
 use Rattle.dx_slab.specs.Answer.{series_of}
 use Rattle.dx_slab.specs.Answered.{in_limits}
 use Rattle.dx_slab.specs.Components.{role, is_dropped, cut_array, cut_component, cut_parts, slab, slabs}
@@ -21,10 +22,6 @@ use Rattle.dx_slab.specs.declared.role.Role.TheVariants.{Positions, Connections,
 use Rattle.dx_slab.specs.declared.runs.Runs.{Runs}
 use Rattle.dx_slab.proofs.Keeping.{kept_runs, values_all, length_values}
 use Rattle.dx_slab.proofs.Joining.{extents_some, extent_at, length-extents, kept_end}
-
-by_bool : (b : Bool) (P : Type 0) → (b ≡ true → P) → (b ≡ false → P) → P
-by_bool true P f g = f refl
-by_bool false P f g = g refl
 
 -- so many values are kept, whichever is the first index
 kept_length : (a : ArrayData) (es : List ℕ) (d first n : ℕ) → d < length es → first + n ≤ get_or es d 0 → All (λ e. 0 < e) es →

@@ -1,6 +1,6 @@
 -- The components of a field that is a grid are what their roles say.
-use Rattle.std.proofs.Common.{◌≡◌, ℕ, ◌<◌, ◌≤◌, List, [], ◌∷◌, length, Bool, true, false, ◌&&◌, Option, Some, None, refl, sym, ap, subst, ◌∙◌, arith}
-use Rattle.std.specs.Prelude.{is_none, nat_le, ◌==◌, bytes_eq}
+use Rattle.std.proofs.Common.{◌≡◌, ℕ, ◌<◌, ◌≤◌, List, [], ◌∷◌, length, true, false, ◌&&◌, Option, Some, None, refl, sym, ap, subst, ◌∙◌, arith}
+use Rattle.std.specs.Prelude.{nat_le, ◌==◌, bytes_eq}
 use Rattle.std.specs.List.{All, list_all}
 use Rattle.std.proofs.lemmas.Bool.{and_parts, eqb-true, leb-true}
 use Rattle.std.proofs.lemmas.List.Elements.{All-cons}
@@ -16,19 +16,17 @@ use Rattle.dx_fields.specs.Faults.{first_fault, component_fault, dep_fault, ref_
 use Rattle.dx_fields.specs.Grids.{positions_name, connections_name, point_counts, cell_counts, points_of, cells_of, without_ones, are_counts, are_joined}
 use Rattle.dx_fields.specs.References.{dep_name, ref_name, target, item_count}
 use Rattle.dx_objects.specs.Kinds.{text_of}
+use Rattle.dx_objects.proofs.PutLaws.{by_bool}
 use Rattle.dx_slab.specs.Components.{data_name, dependence, role_by, role}
 use Rattle.dx_slab.specs.Cuts.{cell_extents}
 use Rattle.dx_slab.specs.Inputs.{has_data_for}
 use Rattle.dx_slab.specs.Lawful.{AreCounts, PlaysRole, PlayRoles}
+use Rattle.dx_slab.proofs.Entire.{none_of}
 use Rattle.dx_slab.proofs.Gathering.{itemed}
 use Rattle.dx_slab.proofs.Joining.{cells_product}
 use Rattle.dx_slab.proofs.Shifting.{points_are}
 
-by_bool : (b : Bool) (P : Type 0) → (b ≡ true → P) → (b ≡ false → P) → P
-by_bool true P f g = f refl
-by_bool false P f g = g refl
-
-by_option : {A : Type 0} (o : Option A) (P : Type 0) → (o ≡ None → P) → ((a : A) → o ≡ Some a → P) → P
+pub by_option : {A : Type 0} (o : Option A) (P : Type 0) → (o ≡ None → P) → ((a : A) → o ≡ Some a → P) → P
 by_option None P f g = f refl
 by_option (Some a) P f g = g a refl
 
@@ -122,10 +120,6 @@ not_found n v (part m p t ps) e =
     by_bool (same_name n m) _
     (λ s. let is : Some t ≡ None = rw s at e in absurd (cc is))
     (λ s. (λ k. let clash : true ≡ false = sym k ∙ s in absurd (cc clash), not_found n v ps (rw s at e)))
-
-none_of : {A : Type 0} (o : Option A) → is_none o ≡ true → o ≡ None
-none_of None h = refl
-none_of (Some a) h = absurd (cc h)
 
 alone : (n : List ℕ) (m : Option (List ℕ)) (ps : PartList) → lacks m ps ≡ true → same_name n m ≡ true → find n ps ≡ None
 alone n None ps l s = absurd (cc s)

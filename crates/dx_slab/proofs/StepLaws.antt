@@ -1,5 +1,5 @@
 -- From inputs of which all origins and deltas are ints Slab makes such results.
-use Rattle.std.proofs.Common.{◌≡◌, ℕ, zero, suc, ◌+◌, ◌-◌, ◌*◌, ◌<◌, ◌≤◌, pos, List, [], ◌∷◌, get_or, length, drop, Bool, true, false, Option, Some, None, Ok, Err, refl, ap, subst, arith}
+use Rattle.std.proofs.Common.{◌≡◌, ℕ, zero, suc, ◌+◌, ◌-◌, ◌*◌, ◌<◌, ◌≤◌, pos, List, [], ◌∷◌, get_or, length, drop, true, Option, Some, None, Ok, Err, refl, ap, subst, arith}
 use Rattle.std.proofs.lemmas.Bool.{and_parts}
 use Rattle.std.specs.Cmp.Derive.{both_true}
 use Rattle.std.proofs.lemmas.List.FromFn.{length-map-range_with_len, get_or-map-range_with_len}
@@ -15,6 +15,7 @@ use Rattle.dx_arrays.proofs.InType.{all-of}
 use Rattle.dx_fields.specs.Grids.{point_counts}
 use Rattle.dx_objects.specs.Runs.{Values}
 use Rattle.dx_objects.specs.Values.{value_at}
+use Rattle.dx_objects.proofs.PutLaws.{by_bool}
 use Rattle.dx_slab.specs.Answer.{slab_answer, slab_asked}
 use Rattle.dx_slab.specs.Answered.{Answered, ◌>>=◌, needed, in_limits, one_result}
 use Rattle.dx_slab.specs.Components.{role, cut_array, cut_component, cut_parts, slab, slabs}
@@ -27,17 +28,9 @@ use Rattle.dx_slab.specs.declared.inputs.Asked.{Asked}
 use Rattle.dx_slab.specs.declared.inputs.Asked.TheVariants.{One, Each}
 use Rattle.dx_slab.specs.declared.role.Role.{Role}
 use Rattle.dx_slab.specs.declared.role.Role.TheVariants.{Positions, Connections, OnPoints, OnCells, Other}
-use Rattle.dx_slab.proofs.Asking.{asked_of, counts_of}
+use Rattle.dx_slab.proofs.Asking.{asked_of, bound, counts_of}
 use Rattle.dx_slab.proofs.Entire.{cut_head, limited}
 use Rattle.dx_slab.proofs.Shifting.{points_are, first_item, first_within}
-
-by_bool : (b : Bool) (P : Type 0) → (b ≡ true → P) → (b ≡ false → P) → P
-by_bool true P f g = f refl
-by_bool false P f g = g refl
-
-bound : {A B : Type 0} (there : Answered A) (f : A → Answered B) (b : B) → (there >>= f) ≡ Ok b → (a : A) × (there ≡ Ok a) × (f a ≡ Ok b)
-bound (Ok a) f b e = (a, refl, e)
-bound (Err code) f b e = absurd (cc e)
 
 given : {A : Type 0} (o : Option A) (a : A) → needed o ≡ Ok a → o ≡ Some a
 given None a e = absurd (cc e)
