@@ -1,3 +1,4 @@
+pub mod BoundValues
 pub mod EmptyLaws
 pub mod Getting
 pub mod LawfulConst

@@ -1,5 +1,5 @@
 //! The values of links by their terms.
-ghost use Rattle.std.specs.Prelude.{◌≡◌, [], Some, None, MatchOption};
+ghost use Rattle.std.specs.Prelude.{◌≡◌, ◌++◌, ◌∷◌, [], Some, None, MatchOption, OnOk};
 ghost use Rattle.std.specs.Map.{lookup};
 ghost use Rattle.dx_tags.specs.contracts.term.ValueTagPartialEq.TheImpl as tags;
 ghost use Rattle.dx_getting.specs.Terms.{bound_values};
@@ -7,7 +7,7 @@ ghost use Rattle.dx_getting.specs.Terms.{bound_values};
 use dx_objects::Object;
 use dx_tags::ValueTag;
 use indexmap::IndexMap;
-use std::alloc::Global;
+use std::alloc::{AllocError, Global};
 use std::marker::Model;
 use std::rc::Rc;
 
@@ -45,5 +45,14 @@ impl Bound {
         ensures { MatchOption result (lookup (tags.ghosts.eq tag) self.now ≡ None) (λ o. lookup (tags.ghosts.eq tag) self.now ≡ Some o.now.value) }
     {
         self.table.get(&tag)
+    }
+
+    /// One value more, under a tag that has none. Where memory runs out the others stay.
+    pub fn put(&mut self, tag: ValueTag, value: Rc<Object>) -> Result<(), AllocError>
+        requires absent { lookup (tags.ghosts.eq tag) self.old ≡ None }
+        ensures { OnOk result (self.new ≡ self.old ++ (tag, value.value) ∷ []) }
+    {
+        self.table.insert(tag, value)?;
+        Ok(())
     }
 }

@@ -6,17 +6,13 @@ use Rattle.std.specs.declared.rc.Rc.{Rc}
 use Rattle.std.specs.declared.alloc.Global.{Global}
 use denote.Bor.{Bor}
 use Rattle.dx_base.specs.Object.{Tree}
-use Rattle.dx_cache.proofs.Places.{cases}
 use Rattle.dx_tags.specs.declared.term.ValueTag.{ValueTag}
 use Rattle.dx_getting.specs.Terms.{BoundValues, bound_values}
+use Rattle.dx_getting.proofs.BoundValues.{value_found}
 use Rattle.dx_getting.proofs.bound.Bound.get.Goals as goal
 
 abbrev shown : Rc Tree Global → Tree
 shown o = o.value
-
-value_found : (test : ValueTag → Bool) (xs : List (ValueTag × Rc Tree Global)) → lookup test (bound_values xs) ≡ option_map shown (lookup test xs)
-value_found test [] = refl
-value_found test (x ∷ xs) = cases (test x.0) (λ q. rw q refl) (λ q. rw q (value_found test xs))
 
 found : (test : ValueTag → Bool) (xs : List (ValueTag × Rc Tree Global)) (self : BoundValues) (r : Option (Bor (Rc Tree Global))) → bound_values xs ≡ self → option_copied r ≡ lookup test xs → MatchOption r (lookup test self ≡ None) (λ o. lookup test self ≡ Some o.now.value)
 found test xs self None v e = ap (lookup test) (sym v) ∙ value_found test xs ∙ ap (option_map shown) (sym e)

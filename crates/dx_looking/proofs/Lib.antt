@@ -1,0 +1,12 @@
+pub mod Refused
+pub mod ToldLaws
+pub mod FormedLaws
+pub mod Cutting
+pub mod Nodes
+pub mod Bridge
+pub mod Telling
+pub mod SelectorGot
+pub mod Growth
+pub mod Ways
+pub mod Resolved
+pub mod Counting

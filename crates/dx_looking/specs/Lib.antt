@@ -1,0 +1,4 @@
+pub mod ToldTags
+pub mod Setting
+pub mod Looking
+pub mod Failing

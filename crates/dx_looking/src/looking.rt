@@ -1,0 +1,58 @@
+//! Looking at an argument.
+ghost use Rattle.std.specs.Prelude.{◌≡◌, length, OnOk, IfOk};
+ghost use Rattle.dx_io.specs.Devices.{Cause};
+ghost use Rattle.dx_graph.specs.Graph.{MayTake};
+ghost use Rattle.dx_tags.specs.Closed.{GoesOn};
+ghost use Rattle.dx_getting.specs.Told.{told};
+ghost use Rattle.dx_looking.specs.Setting.{nodes_in};
+ghost use Rattle.dx_looking.specs.Looking.{IsLooking, FromHere, LookedFits, LooksSo, input_tree};
+ghost use Rattle.dx_looking.specs.declared.cut.Cut.TheVariants.{ReadFault};
+
+use crate::cut::Cut;
+use crate::looked::Looked;
+use crate::progress::Progress;
+use crate::resolving::resolve_told;
+use crate::selector::tell_selector;
+use crate::setup::Setup;
+use dx_demand::Resolved;
+use dx_graph::Input;
+use dx_io::Files;
+use dx_objects::Library;
+
+/// Looks at an argument: its selectors are got as they are met.
+///
+/// For files that tell their content, links that are right and work that stands where the machine's state is: what is answered is
+/// what looking by all values comes to, the machine got the selectors, and the terms that looking forms are there; or the last
+/// selector is refused; or the work was cut short on the machine's way. A fault is answered only where the files' count of faults
+/// has risen.
+pub fn look<F: Files, L: Library>(
+    i: &Input,
+    setup: &Setup,
+    at: &mut Progress,
+    files: &mut F,
+    lib: &mut L,
+) -> Result<Looked, Cut>
+    requires input { MayTake (nodes_in setup.now) (length (nodes_in setup.now)) i.now }
+    requires looking { IsLooking setup.now at.old }
+    ensures same { F.content files.new ≡ F.content files.old }
+    ensures cause { Cause ReadFault (F.faults files.old) (F.faults files.new) result }
+    ensures budget { at.new.work.cache.budget ≡ at.old.work.cache.budget }
+    ensures looking { OnOk result (IsLooking setup.now at.new) }
+    ensures goes_on { OnOk result (GoesOn at.old.tags at.new.tags) }
+    ensures fits { IfOk result (λ how. LookedFits setup.now at.new how) }
+    ensures looks { FromHere setup.now L.answer (F.content files.old) at.old (told (L.done lib.old) (F.asked files.old)) (λ x k base s f. LooksSo setup.now x k base (input_tree setup.now i.now) s f result at.new (told (L.done lib.new) (F.asked files.new))) }
+{
+    'look: loop {
+        let resolved = resolve_told(i, setup, at)?;
+        match resolved {
+            Resolved::Value(t) => return Ok(Looked::Value(t)),
+            Resolved::Off => return Ok(Looked::Off),
+            Resolved::Halt(n, code) => return Ok(Looked::Halt(n, code)),
+            Resolved::Need(t, n) => {
+                if let Some(refusal) = tell_selector(t, setup, at, files, lib)? {
+                    return Ok(Looked::Refused(n, refusal));
+                }
+            }
+        }
+    }
+}

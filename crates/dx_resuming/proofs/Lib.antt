@@ -1,0 +1,5 @@
+pub mod Covers
+pub mod FormedFirst
+pub mod Halted
+pub mod LinkTerms
+pub mod Stayed

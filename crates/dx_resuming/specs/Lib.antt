@@ -1,0 +1,5 @@
+pub mod Covering
+pub mod Formed
+pub mod Halting
+pub mod Links
+pub mod Staying

@@ -1,0 +1,30 @@
+-- A getting asks links alone whether they have a term.
+use Rattle.std.specs.Prelude.{◌≡◌, List}
+use Rattle.dx_tags.specs.Closed.{ValueTerm, ValueTerms}
+use Rattle.dx_links.specs.Getting.{has_value}
+use Rattle.dx_machine.specs.Machine.{FormedCall, Frame, State, get, get_all}
+use Rattle.dx_machine.specs.Covered.{IsCovered, AreCovered}
+use Rattle.dx_performing.specs.Resuming.{is_ready}
+
+-- two frames whose links have the same terms, in whatever order and however often
+pub record SameLinks (k k' : Frame) : Type 0 where
+  pub around : k'.around ≡ k.around
+  pub links : (t : ValueTerm) → has_value k'.links t ≡ has_value k.links t
+  pub formed : k'.formed ≡ k.formed
+  pub budget : k'.budget ≡ k.budget
+
+abbrev pub LinksAlike : Type 0
+LinksAlike = (k k' : Frame) → SameLinks k k' → (t : ValueTerm) (s : State) → get k' t s ≡ get k t s
+
+abbrev pub AllLinksAlike : Type 0
+AllLinksAlike = (k k' : Frame) → SameLinks k k' → (ts : ValueTerms) (s : State) → get_all k' ts s ≡ get_all k ts s
+
+abbrev pub ReadyAlike : Type 0
+ReadyAlike = (k k' : Frame) → SameLinks k k' → (t : ValueTerm) (s : State) → is_ready k' s t ≡ is_ready k s t
+
+-- what getting can reach was formed, by whichever of two lists of links with the same terms
+abbrev pub CoveredAlike : Type 0
+CoveredAlike = (formed : List FormedCall) (links links' : List ValueTerm) → ((t : ValueTerm) → has_value links' t ≡ has_value links t) → (t : ValueTerm) → IsCovered formed links t → IsCovered formed links' t
+
+abbrev pub AllCoveredAlike : Type 0
+AllCoveredAlike = (formed : List FormedCall) (links links' : List ValueTerm) → ((t : ValueTerm) → has_value links' t ≡ has_value links t) → (ts : ValueTerms) → AreCovered formed links ts → AreCovered formed links' ts
