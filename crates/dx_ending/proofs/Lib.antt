@@ -1,0 +1,4 @@
+pub mod BindLaws
+pub mod EmptyLaws
+pub mod PutLaws
+pub mod SetLaws
