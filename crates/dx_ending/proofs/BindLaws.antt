@@ -1,7 +1,8 @@
 -- The values of links by their terms, one link more at a time.
-use Rattle.std.proofs.Common.{◌≡◌, ℕ, zero, suc, ◌+◌, List, [], ◌∷◌, ◌++◌, take, Bool, true, false, Option, Some, None, refl, sym, ap, ◌∙◌, subst, arith}
+use Rattle.std.proofs.Common.{◌≡◌, ℕ, zero, suc, ◌≤◌, length, [], ◌∷◌, ◌++◌, take, Bool, true, false, Option, Some, None, refl, sym, subst}
 use Rattle.std.specs.Prelude.{slice_get, is_some, if◌then◌else◌, cond}
 use Rattle.std.specs.Map.{lookup}
+use Rattle.std.proofs.lemmas.List.{take_all}
 use Rattle.dx_base.specs.Object.{Tree as Object}
 use Rattle.dx_tags.specs.declared.term.ValueTag.{ValueTag}
 use Rattle.dx_tags.specs.contracts.term.ValueTagPartialEq.TheImpl as tags
@@ -10,7 +11,7 @@ use Rattle.dx_links.specs.Holding.{Holding}
 use Rattle.dx_links.specs.LinkMap.{LinkMap, held_at}
 use Rattle.dx_getting.specs.Terms.{BoundValues}
 use Rattle.dx_getting.proofs.Names.{tag_decides}
-use Rattle.dx_looking.specs.Setting.{IsLink, AreLinks, AllBound}
+use Rattle.dx_looking.specs.Setting.{IsLink, IsBound, AreLinks, AllBound}
 use Rattle.dx_ending.specs.Binding.{with_link}
 
 abbrev pub IsFound : ValueTag → BoundValues → Type 0
@@ -53,6 +54,16 @@ front_more (x ∷ xs) (suc i) l bound e f a = (a.0, front_more xs i l bound e f 
 pub record Binds (links : LinkMap) (i : ℕ) (bound : BoundValues) : Type 0 where
   pub all : AllBound (take i links) bound
   pub only : AreLinks links bound
+
+pub links_none : (links : LinkMap) (bound : BoundValues) → bound ≡ [] → Binds links 0 bound
+links_none links bound e = subst (Binds links 0) (sym e) (record { all = none links; only = tt })
+  where
+    none : (ls : LinkMap) → AllBound (take 0 ls) []
+    none [] = tt
+    none (l ∷ ls) = tt
+
+pub links_all : (links : LinkMap) (i : ℕ) (bound : BoundValues) → length links ≤ i → Binds links i bound → IsBound links bound
+links_all links i bound h b = record { all = subst (λ ls. AllBound ls bound) (take_all i links h) b.all; only = b.only }
 
 pub link_more : (links : LinkMap) (i : ℕ) (key : Key) (held link : Holding) (old new : BoundValues) → slice_get links i ≡ Some (key, held) → held_at key links ≡ Some link → link.tag ≡ held.tag → new ≡ with_link old link → Binds links i old → Binds links (suc i) new
 link_more links i key held link old new at holds same is so = subst (Binds links (suc i)) (sym is) (by (lookup (tags.ghosts.eq link.tag) old) refl)

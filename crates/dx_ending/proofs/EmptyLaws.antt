@@ -5,14 +5,14 @@ use Rattle.dx_tags.specs.Closed.{Head, HeldHead, HeldTerm, head_at, heads_of, re
 use Rattle.dx_tags.proofs.ClosedTerms.{head_unfolds}
 use Rattle.dx_links.specs.declared.key.Key.{Key}
 use Rattle.dx_links.specs.LinkMap.{LinkMap}
-use Rattle.dx_getting.specs.Emptied.{held_terms, values_held, front_held, all_held}
+use Rattle.dx_getting.specs.Emptied.{held_terms, values_held, front_held}
 use Rattle.dx_getting.proofs.EmptyLaws.{held_at, held_exact}
 use Rattle.dx_demand.specs.Forming.{named_terms}
 use Rattle.dx_demand.proofs.FormedTerms.{named_more}
 use Rattle.dx_performing.specs.Kept as machine
 use Rattle.dx_performing.specs.Kept.{Kept, Link, LinkTerms, emptied}
 use Rattle.dx_looking.specs.Setting.{links_of}
-use Rattle.dx_ending.specs.Emptying.{EmptiesAlike, kept_empty}
+use Rattle.dx_ending.specs.Emptying.{EmptiesAlike}
 
 held_head : (n k : ℕ) → k < n → head_at (heads_of (held_terms n)) k ≡ HeldHead k
 held_head n k h = head_unfolds (held_terms n) (held_exact n).formed k (HeldBy k) (held_at n k h)

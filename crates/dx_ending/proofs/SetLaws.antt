@@ -8,9 +8,8 @@ use Rattle.std.specs.declared.cmp.Ordering.{Ordering}
 use Rattle.std.specs.declared.cmp.Ordering.TheVariants.{Less, Equal, Greater}
 use Rattle.dx_tags.specs.Closed.{Head}
 use Rattle.dx_links.specs.declared.key.Key.{Key}
-use Rattle.dx_links.specs.declared.held.Change.{Change}
 use Rattle.dx_links.specs.Holding.{Holding}
-use Rattle.dx_links.specs.LinkMap.{LinkMap, key_cmp, put_at, after}
+use Rattle.dx_links.specs.LinkMap.{LinkMap, key_cmp, put_at}
 use Rattle.dx_performing.specs.Kept.{put_term, after_set_terms}
 use Rattle.dx_looking.specs.Setting.{links_of}
 use Rattle.dx_ending.specs.Terms.{SetsAlike, link_of, set_terms_of}
