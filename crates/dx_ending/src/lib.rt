@@ -3,11 +3,13 @@
 #![tactic(auto)]
 
 mod binding;
+mod filling;
 mod laws;
 mod puts;
 mod setting;
 
 pub use binding::bound_of;
+pub use filling::is_full;
 pub use laws::{changes_set_terms, emptying_holds_links};
 pub use puts::{Put, make_puts, ready};
 pub use setting::links_after;
