@@ -1,5 +1,5 @@
 //! Getting the values of some terms in order, as those of an effect's arguments.
-ghost use Rattle.std.specs.Prelude.{◌≡◌, ℕ, Some, slice_get};
+ghost use Rattle.std.specs.Prelude.{◌≡◌, ℕ, Some, slice_get, length, IfOk};
 ghost use Rattle.dx_io.specs.Devices.{Cause};
 ghost use Rattle.dx_tags.specs.declared.term.ValueTag.{ValueTag};
 ghost use Rattle.dx_tags.specs.Closed.{heads_of, value_terms};
@@ -35,6 +35,7 @@ pub fn get_all<S: Sites, F: Files, L: Library>(
     ensures cause { Cause ReadFault (F.faults files.old) (F.faults files.new) result }
     ensures budget { work.new.cache.budget ≡ work.old.cache.budget }
     ensures calls { AreCalls scene.now.tags.now work.old.cache.entries → AreCalls scene.now.tags.now work.new.cache.entries }
+    ensures count { IfOk result (λ values. length values ≡ length args.now) }
     ensures gets { From (setting_of scene.now (S.formed sites.now)) L.answer (F.content files.old) work.old (told (L.done lib.old) (F.asked files.old)) (λ world base s. GetsAll (setting_of scene.now (S.formed sites.now)) world base args.now result (spec_get_all (frame_of (setting_of scene.now (S.formed sites.now)) world work.old.cache.budget) (value_terms (heads_of scene.now.tags.now) args.now) s) work.new (told (L.done lib.new) (F.asked files.new))) }
 {
     let mut values = Outs::new(scene.alloc);

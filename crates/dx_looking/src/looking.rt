@@ -4,6 +4,8 @@ ghost use Rattle.dx_io.specs.Devices.{Cause};
 ghost use Rattle.dx_graph.specs.Graph.{MayTake};
 ghost use Rattle.dx_tags.specs.Closed.{GoesOn};
 ghost use Rattle.dx_getting.specs.Told.{told};
+ghost use Rattle.dx_demand.specs.Memo.{formed_of};
+ghost use Rattle.dx_demand.specs.Found.{Kept};
 ghost use Rattle.dx_looking.specs.Setting.{nodes_in};
 ghost use Rattle.dx_looking.specs.Looking.{IsLooking, FromHere, LookedFits, LooksSo, input_tree};
 ghost use Rattle.dx_looking.specs.declared.cut.Cut.TheVariants.{ReadFault};
@@ -39,6 +41,7 @@ pub fn look<F: Files, L: Library>(
     ensures budget { at.new.work.cache.budget ≡ at.old.work.cache.budget }
     ensures looking { OnOk result (IsLooking setup.now at.new) }
     ensures goes_on { OnOk result (GoesOn at.old.tags at.new.tags) }
+    ensures first { OnOk result (Kept (formed_of at.old.seen.memo) (formed_of at.new.seen.memo)) }
     ensures fits { IfOk result (λ how. LookedFits setup.now at.new how) }
     ensures looks { FromHere setup.now L.answer (F.content files.old) at.old (told (L.done lib.old) (F.asked files.old)) (λ x k base s f. LooksSo setup.now x k base (input_tree setup.now i.now) s f result at.new (told (L.done lib.new) (F.asked files.new))) }
 {

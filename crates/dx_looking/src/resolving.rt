@@ -7,7 +7,7 @@ ghost use Rattle.dx_tags.specs.Closed.{GoesOn};
 ghost use Rattle.dx_meaning.specs.Forming.{forms, after};
 ghost use Rattle.dx_meaning.specs.Scan.{scan};
 ghost use Rattle.dx_demand.specs.Memo.{formed_of};
-ghost use Rattle.dx_demand.specs.Found.{ResolvedFound};
+ghost use Rattle.dx_demand.specs.Found.{Kept, ResolvedFound};
 ghost use Rattle.dx_demand.specs.Forming.{formings};
 ghost use Rattle.dx_demand.specs.Steps.{KeepsSelectors, ResolvedFits, shown_resolved};
 ghost use Rattle.dx_looking.specs.Setting.{nodes_in, sight_in};
@@ -32,6 +32,7 @@ pub(crate) fn resolve_told(
     ensures looking { OnOk result (IsLooking setup.now at.new) }
     ensures goes_on { OnOk result (GoesOn at.old.tags at.new.tags) }
     ensures kept { OnOk result (KeepsSelectors at.old.seen.memo at.new.seen.memo) }
+    ensures first { OnOk result (Kept (formed_of at.old.seen.memo) (formed_of at.new.seen.memo)) }
     ensures fits { IfOk result (λ r. ResolvedFits (nodes_in setup.now) at.new.tags (λ t. lookup (tags.ghosts.eq t) at.new.told) at.new.seen.memo r) }
     ensures found { IfOk result (λ r. ResolvedFound setup.now.links.now.links at.new.tags (formed_of at.new.seen.memo) r) }
     ensures sight { OnOk result (sight_in setup.now at.new ≡ sight_in setup.now at.old) }

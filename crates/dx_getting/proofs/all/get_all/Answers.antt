@@ -1,4 +1,4 @@
-use Rattle.std.proofs.Common.{◌≡◌, ◌∙◌, ◌<◌, ◌≤◌, ◌+◌, ℕ, zero, suc, List, [], ◌∷◌, ◌++◌, length, take, drop, get_or, sym, ap, ap₂, subst, Option, Some, None, refl, arith, true, false}
+use Rattle.std.proofs.Common.{◌≡◌, ◌∙◌, ◌<◌, ◌≤◌, ◌+◌, ℕ, zero, suc, List, [], ◌∷◌, ◌++◌, length, length-append, take, drop, get_or, sym, ap, ap₂, subst, Option, Some, None, refl, arith, true, false}
 use Rattle.std.specs.Prelude.{slice_get, Ok}
 use Rattle.std.proofs.lemmas.List.{take_all}
 use Rattle.std.proofs.lemmas.Option.{slice_get-get_or}
@@ -67,6 +67,7 @@ loop-arg-preserved g c =
       faults = omega (arith, later, before);
       budget = c.get_value.ensures.budget ∙ c.loop-arg.invariant.budget;
       calls = λ h. c.get_value.ensures.calls (c.loop-arg.invariant.calls h);
+      count = ap length c.in_ok-push.ensures.ok ∙ length-append c.loop-arg.values _ ∙ ap (λ n. n + 1) c.loop-arg.invariant.count;
       so_far = λ map told_map links base s h.
           let so = c.loop-arg.invariant.so_far map told_map links base s h in
           let st = went_state (setting_of c.args.scene.now (g.S.Sites.formed c.args.sites.now)) (world g.L.Library.answer map) base _ c.loop-arg.work (told (g.L.Library.done c.loop-arg.lib) (g.F.Files.asked c.loop-arg.files)) so.0 in
@@ -85,3 +86,10 @@ returns-clause-gets g c =
     let past : length c.args.args.now ≤ c.loop-arg.arg-index = (let b = c.loop-arg-test.false in omega (arith, b)) in
     let all = take_all c.loop-arg.arg-index c.args.args.now past in
     (subst (λ xs. WentTo (setting_of c.args.scene.now (g.S.Sites.formed c.args.sites.now)) (world g.L.Library.answer map) base (get_all (frame_of (setting_of c.args.scene.now (g.S.Sites.formed c.args.sites.now)) (world g.L.Library.answer map) c.args.work.now.cache.budget) (value_terms (heads_of c.args.scene.now.tags.now) xs) s) c.loop-arg.work (told (g.L.Library.done c.loop-arg.lib) (g.F.Files.asked c.loop-arg.files))) all so.0, ap (λ xs. all_denote (around_of (setting_of c.args.scene.now (g.S.Sites.formed c.args.sites.now)) (world g.L.Library.answer map)) (value_terms (heads_of c.args.scene.now.tags.now) xs)) (sym all) ∙ so.1)
+
+pub returns-clause-count : goal.returns-clause-count
+returns-clause-count g c =
+    let past = c.loop-arg-test.false in
+    let end = c.loop-arg.auto.arg-index-end in
+    let count = c.loop-arg.invariant.count in
+    omega (arith, past, end, count)

@@ -9,7 +9,7 @@ use Rattle.dx_tags.specs.Closed.{GoesOn}
 use Rattle.dx_tags.proofs.Growth.{goes_on_then}
 use Rattle.dx_getting.specs.Told.{told}
 use Rattle.dx_demand.specs.Memo.{formed_of}
-use Rattle.dx_demand.specs.Found.{ResolvedFound}
+use Rattle.dx_demand.specs.Found.{Kept, ResolvedFound}
 use Rattle.dx_demand.specs.Forming.{formings}
 use Rattle.dx_demand.specs.Steps.{ResolvedFits, shown_resolved}
 use Rattle.dx_meaning.specs.Forming.{forms, after}
@@ -99,6 +99,18 @@ returns-in-Some-clause-looks g c = λ map ec k right base s f st.
     c.in-Some.refusal at2 now2 c.in_ok-refusal-in-Need.ensures.tags
     (subst (λ q. TellsHere setup c.in-Need.t at1 q at2 now2 x k base w.state w.formed) (c.in_ok-refusal-in-Need.was ∙ ap Ok c.in-Some.is) gets)
 
+pub returns-in-Value-clause-first : goal.returns-in-Value-clause-first
+returns-in-Value-clause-first g c = λ t n e. c.in_ok-resolved.ensures.first t n (c.look.invariant.first t n e)
+
+pub returns-in-Off-clause-first : goal.returns-in-Off-clause-first
+returns-in-Off-clause-first g c = λ t n e. c.in_ok-resolved.ensures.first t n (c.look.invariant.first t n e)
+
+pub returns-in-Halt-clause-first : goal.returns-in-Halt-clause-first
+returns-in-Halt-clause-first g c = λ t n e. c.in_ok-resolved.ensures.first t n (c.look.invariant.first t n e)
+
+pub returns-in-Some-clause-first : goal.returns-in-Some-clause-first
+returns-in-Some-clause-first g c = subst (λ (y : Seen). Kept (formed_of c.args.at.now.seen.memo) (formed_of y.memo)) (sym c.in_ok-refusal-in-Need.ensures.seen) (λ t n e. c.in_ok-resolved.ensures.first t n (c.look.invariant.first t n e))
+
 pub look-smaller : goal.look-smaller
 look-smaller g c =
     let at1 = c.resolve_told.new.at in
@@ -113,6 +125,7 @@ pub look-preserved : goal.look-preserved
 look-preserved g c = record {
   looking = c.in_ok-refusal-in-Need.ensures.looking;
   goes_on = subst (GoesOn c.args.at.now.tags) (sym c.in_ok-refusal-in-Need.ensures.tags) (goes_on_then c.args.at.now.tags c.look.at.tags c.resolve_told.new.at.tags c.look.invariant.goes_on c.in_ok-resolved.ensures.goes_on);
+  first = subst (λ (y : Seen). Kept (formed_of c.args.at.now.seen.memo) (formed_of y.memo)) (sym c.in_ok-refusal-in-Need.ensures.seen) (λ t n e. c.in_ok-resolved.ensures.first t n (c.look.invariant.first t n e));
   budget = c.in_ok-refusal-in-Need.ensures.budget ∙ ap (λ y. y.cache.budget) c.in_ok-resolved.ensures.work ∙ c.look.invariant.budget;
   same = c.in_ok-refusal-in-Need.ensures.same ∙ c.look.invariant.same;
   later = (let a = c.look.invariant.later in let b = c.in_ok-refusal-in-Need.ensures.cause.later in omega (arith, a, b));

@@ -1,0 +1,2 @@
+pub mod AllLooking
+pub mod Coming
