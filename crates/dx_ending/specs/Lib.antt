@@ -1,0 +1,4 @@
+pub mod Binding
+pub mod Emptying
+pub mod Putting
+pub mod Terms
