@@ -1,0 +1,169 @@
+-- From what is kept to where the effects begin, and from where they end to what is kept.
+use Rattle.std.proofs.Common.{true≢false, ◌≡◌, ℕ, List, [], ◌∷◌, map, Option, Some, None, refl, sym, ap, ◌∙◌, subst}
+use Rattle.std.specs.Prelude.{Result, Ok, Err, OnOk, IfOk}
+use Rattle.dx_base.specs.declared.code.Code.{Code}
+use Rattle.dx_io.specs.Devices.{FileMap as InputFiles}
+use Rattle.dx_graph.specs.Graph.{Node}
+use Rattle.dx_graph.specs.GraphView.{graph_of}
+use Rattle.dx_macros.specs.Tree.{CallTree}
+use Rattle.dx_tags.specs.declared.term.Term.{Term}
+use Rattle.dx_tags.specs.Closed.{heads_of, GoesOn}
+use Rattle.dx_machine.specs.Machine.{State as Machine, tasks_of}
+use Rattle.dx_getting.specs.Told.{Told}
+use Rattle.dx_getting.proofs.TellLaws.{adds_none, grows_nothing, some_all}
+use Rattle.std.specs.Result.{IsErr}
+use Rattle.dx_performing.specs.Execution.{execution}
+use Rattle.dx_engine.proofs.Coursing.{course_more}
+use Rattle.dx_effects.proofs.NextInput.{by_budget}
+use Rattle.dx_getting.specs.Stands.{Answers, EntriesRight, KnownRight, FormedCalls, Setting, World, known_calls, shown_event, world}
+use Rattle.dx_cache.specs.declared.entry.Entry.{Entry}
+use Rattle.dx_demand.specs.Forming.{formings, called_at, named_terms, SeenFormed}
+use Rattle.dx_demand.specs.Calling.{SeenMet}
+use Rattle.dx_demand.specs.Found.{IsClosed}
+use Rattle.dx_demand.specs.Steps.{SeenFits, SeenRight}
+use Rattle.dx_demand.specs.Picked.{LinksFit}
+use Rattle.dx_demand.proofs.Growing.{links_fit_grows}
+use Rattle.dx_demand.specs.declared.seen.Seen.{Seen}
+use Rattle.dx_meaning.specs.Forming.{Formings}
+use Rattle.dx_performing.specs.Kept.{Kept}
+use Rattle.dx_performing.specs.Course.{Fixed, begins, course, world_of, around_of, frame_with}
+use Rattle.dx_looking.specs.ToldTags.{ToldTags}
+use Rattle.dx_looking.specs.Setting.{IsBound, links_of, nodes_in, told_terms, sight_in, setting_in, fixed}
+use Rattle.dx_looking.specs.Looking.{FromHere, AreValues, AllDenote, AllReady, IsLooking, StandsAt}
+use Rattle.dx_looking.specs.declared.setup.Setup.{Setup}
+use Rattle.dx_looking.specs.declared.progress.Progress.{Progress}
+use Rattle.dx_cache.specs.Cached.{Cached}
+use Rattle.dx_getting.specs.Terms.{BoundValues}
+use Rattle.dx_objects.specs.Runs.{Values}
+use Rattle.dx_engine.specs.Running.{AreRun, AreCutShort, RunsSo, ErrorFits, GatheredFits}
+use Rattle.dx_engine.specs.Keeping.{StateFits, kept_of, setting_of, IsSoundState}
+use Rattle.dx_engine.specs.Beginning.{FromState, EffectsAre, EffectsCut, EffectsSo, NodeFits, GathersFit, IsFresh, taken_back}
+use Rattle.dx_engine.specs.declared.gathered.Gathered.{Gathered}
+use Rattle.dx_engine.specs.declared.short.Short.{Short}
+use Rattle.dx_engine.specs.declared.state.State.{State}
+
+
+-- links and the calls that were formed make no difference to entries
+entries_by : (terms : List Term) (links links' : BoundValues) (held : Values) (formed formed' : FormedCalls) (files : World) (es : List Entry) → EntriesRight (record { terms = terms; links = links; held = held; formed = formed }) files es → EntriesRight (record { terms = terms; links = links'; held = held; formed = formed' }) files es
+entries_by terms links links' held formed formed' files [] r = tt
+entries_by terms links links' held formed formed' files (x ∷ xs) r = (r.0, entries_by terms links links' held formed formed' files xs r.1)
+
+pub entries_alike : (terms : List Term) (links links' : BoundValues) (held held' : Values) → held ≡ held' → (formed formed' : FormedCalls) (files : World) (es : List Entry) → EntriesRight (record { terms = terms; links = links; held = held; formed = formed }) files es → EntriesRight (record { terms = terms; links = links'; held = held'; formed = formed' }) files es
+entries_alike terms links links' held held' e formed formed' files es r = subst (λ h. EntriesRight (record { terms = terms; links = links'; held = h; formed = formed' }) files es) e (entries_by terms links links' held formed formed' files es r)
+
+-- ---- at the beginning
+
+-- the setup has what is kept
+pub record IsSetup (setup : Setup) (st : State) : Type 0 where
+  pub links : setup.links.now ≡ st.links
+  pub bound : setup.bound.now ≡ st.bound
+  pub held : setup.held.now ≡ st.held
+  pub written : setup.written.now ≡ st.written
+
+module _ (setup : Setup) (st : State) (is : IsSetup setup st) (seen : Seen) (at : Progress) (fresh : IsFresh seen st.tags st.cache at) where
+  -- what begins, in the words of what is kept
+  abbrev at_first : Progress
+  at_first = record { tags = st.tags; seen = seen; told = at.told; work = record { cache = st.cache; known = at.work.known; events = at.work.events } }
+
+  same : at ≡ at_first
+  same = λ i. record { tags = fresh.tags i; seen = fresh.seen i; told = at.told; work = record { cache = fresh.cache i; known = at.work.known; events = at.work.events } }
+
+  pub looking_begun : StateFits st → SeenFits (nodes_in setup) st.tags seen → IsClosed setup.links.now.links st.tags seen → SeenRight (sight_in setup at_first) (nodes_in setup) st.tags seen → SeenFormed (sight_in setup at_first) (nodes_in setup) st.tags seen → SeenMet (sight_in setup at_first) (nodes_in setup) seen → IsLooking setup at
+  looking_begun f fits closed right formed met = subst (IsLooking setup) (sym same) (record {
+    exact = f.exact;
+    links = subst (λ l. LinksFit st.tags l.links) (sym is.links) f.links;
+    bound = subst (λ b. IsBound setup.links.now.links b) (sym is.bound) (subst (λ l. IsBound l.links st.bound) (sym is.links) f.bound);
+    entries = f.entries;
+    told = subst (AreValues st.tags) (sym fresh.told) tt;
+    fits = fits;
+    closed = closed;
+    right = right;
+    formed = formed;
+    met = met;
+  })
+
+  -- the machine's state at the beginning
+  pub stands_begun : (x : Fixed) → IsSoundState x st → seen.memo.formed.entries ≡ [] → (base : Told) → StandsAt setup x (kept_of st) base at base (begins (kept_of st)).state (begins (kept_of st)).formings
+  stands_begun x sound uncalled base = subst (λ y. StandsAt setup x (kept_of st) base y base (begins (kept_of st)).state (begins (kept_of st)).formings) (sym same) (record {
+    kept = record { links = ap (λ l. links_of (heads_of st.tags) l.links) (sym is.links); held = sym is.held; written = ap (λ w. w.files) (sym is.written) };
+    work = record {
+      sound = record { entries = entries_first x sound; known = subst (KnownRight (setting_in setup at_first) (world x.answer x.file)) (sym fresh.known) tt };
+      entries = refl;
+      known = ap (known_calls (heads_of st.tags)) (sym fresh.known);
+      events = sym fresh.events;
+      told = adds_none base;
+    };
+    formings = ap (λ es. record { terms = named_terms st.tags; calls = map (called_at (nodes_in setup) (heads_of st.tags)) es }) uncalled;
+    sound = sound.sound;
+    told = subst (λ ts. AllDenote (around_of x (kept_of st)) (told_terms (heads_of st.tags) ts)) (sym fresh.told) tt;
+    ready = subst (λ ts. AllReady (frame_with x (kept_of st) []) (begins (kept_of st)).state (told_terms (heads_of st.tags) ts)) (sym fresh.told) tt;
+  })
+    where
+      entries_first : (x : Fixed) → IsSoundState x st → EntriesRight (setting_in setup at_first) (world x.answer x.file) st.cache.entries
+      entries_first x sound = entries_alike st.tags st.bound setup.bound.now st.held setup.held.now (sym is.held) [] (setting_in setup at_first).formed (world x.answer x.file) st.cache.entries sound.entries
+
+-- ---- at the end
+
+-- what the effects come to, in the words of what is kept
+pub effects_so : (setup : Setup) (st : State) (is : IsSetup setup st) (x : Fixed) (base : Told) (all : List CallTree) (before : Option (List ℕ)) (r : Result Gathered Short) (at : Progress) (now : Told) (written : Option (List ℕ)) →
+    RunsSo setup x (kept_of st) base all (begins (kept_of st)).state (begins (kept_of st)).formings before r at now written → EffectsSo x st all (nodes_in setup) base before r (taken_back st at) now written
+effects_so setup st is x base all before (Ok g) at now written h = record {
+  printed = h.printed;
+  exports = h.exports;
+  error = h.error;
+  sets = h.sets;
+  terms = ap (λ (f : Formings). f.terms) h.stands.formings;
+  entries = sym h.stands.work.entries;
+  events = sym h.stands.work.events;
+  told = h.stands.work.told;
+  right = entries_alike at.tags setup.bound.now st.bound setup.held.now st.held is.held (setting_in setup at).formed [] (world x.answer x.file) at.work.cache.entries h.stands.work.sound.entries;
+  sound = h.stands.sound;
+}
+effects_so setup st is x base all before (Err short) at now written h = record { printed = h.printed; told = h.told }
+
+-- it was cut short before anything was done
+pub nothing_done : (x : Fixed) (st : State) (all : List CallTree) (nodes : List Node) (base : Told) (before : Option (List ℕ)) (r : Result Gathered Short) → IsErr r → (st' : State) → EffectsSo x st all nodes base before r st' base before
+nothing_done x st all nodes base before (Ok g) e st' = absurd (true≢false (sym e))
+nothing_done x st all nodes base before (Err short) e st' =
+    let m = course_more x (kept_of st) all (begins (kept_of st)) in
+    record {
+      printed = ([], (execution (world_of x (kept_of st)) all).printed, refl, grows_nothing before);
+      told = some_all base base [] m.more (tasks_of (course x (kept_of st) all (begins (kept_of st))).state.events) (adds_none base) m.runs;
+    }
+
+-- ---- what fits
+
+pub state_fits : (setup : Setup) (st : State) (is : IsSetup setup st) (r : Result Gathered Short) (at : Progress) → OnOk r (IsLooking setup at) → OnOk r (StateFits (taken_back st at))
+state_fits setup st is (Ok g) at l = record {
+  exact = l.exact;
+  links = subst (λ y. LinksFit at.tags y.links) is.links l.links;
+  bound = subst (λ b. IsBound st.links.links b) is.bound (subst (λ y. IsBound y.links setup.bound.now) is.links l.bound);
+  entries = l.entries;
+}
+state_fits setup st is (Err short) at l = tt
+
+error_fits : (setup : Setup) (e : Option (ℕ × Code)) → ErrorFits setup e → NodeFits (nodes_in setup) e
+error_fits setup None h = tt
+error_fits setup (Some e) h = h
+
+pub gathers_fit : (setup : Setup) (st : State) (r : Result Gathered Short) (at : Progress) → IfOk r (λ g. GatheredFits setup at g) → IfOk r (λ g. GathersFit (nodes_in setup) (taken_back st at) g)
+gathers_fit setup st (Ok g) at h = record { error = error_fits setup g.error h.error; changes = h.changes }
+gathers_fit setup st (Err short) at h = tt
+
+pub goes_on_from : (st : State) (r : Result Gathered Short) (old new : List Term) → old ≡ st.tags → OnOk r (GoesOn old new) → OnOk r (GoesOn st.tags new)
+goes_on_from st (Ok g) old new e h = subst (λ y. GoesOn y new) e h
+goes_on_from st (Err short) old new e h = tt
+
+-- what the effects come to from here
+abbrev pub RunsHere : Setup → List CallTree → Option (List ℕ) → Result Gathered Short → Progress → Told → Option (List ℕ) → Fixed → Kept → Told → Machine → Formings → Type 0
+RunsHere setup all before r at now written x k base s f = RunsSo setup x k base all s f before r at now written
+
+-- from what is kept to what the effects come to
+pub effects_from : (setup : Setup) (st : State) (is : IsSetup setup st) (seen : Seen) (at : Progress) → IsFresh seen st.tags st.cache at → seen.memo.formed.entries ≡ [] → (answer : Answers) (content : Option InputFiles) (base : Told) (all : List CallTree) (before : Option (List ℕ)) (r : Result Gathered Short) (at' : Progress) (now : Told) (written : Option (List ℕ)) →
+    FromHere setup answer content at base (RunsHere setup all before r at' now written) → (st' : State) → st' ≡ taken_back st at' → FromState answer content st (λ x. EffectsSo x st all (nodes_in setup) base before r st' now written)
+effects_from setup st is seen at fresh uncalled answer content base all before r at' now written h st' e = λ map ec sound.
+    let x = fixed answer map st.cache.budget in
+    subst (λ y. EffectsSo x st all (nodes_in setup) base before r y now written) (sym e)
+    (effects_so setup st is x base all before r at' now written
+    (by_budget setup answer content at base (RunsHere setup all before r at' now written) h map ec st.cache.budget (ap (λ y. y.budget) fresh.cache) (kept_of st) sound.links base (begins (kept_of st)).state (begins (kept_of st)).formings
+    (stands_begun setup st is seen at fresh x sound uncalled base)))

@@ -1,0 +1,3 @@
+pub mod Coursing
+pub mod NextEffect
+pub mod Begun

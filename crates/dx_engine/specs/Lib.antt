@@ -1,0 +1,6 @@
+pub mod Shortened
+pub mod Gathering
+pub mod Doing
+pub mod Running
+pub mod Keeping
+pub mod Beginning

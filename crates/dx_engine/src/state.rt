@@ -1,0 +1,44 @@
+//! What is kept between executions.
+ghost use Rattle.std.specs.Prelude.{◌≡◌, []};
+ghost use Rattle.dx_engine.specs.Keeping.{StateFits, kept_of};
+ghost use Rattle.dx_performing.specs.Kept.{new as none_kept};
+
+use dx_cache::Cache;
+use dx_getting::{Bound, Event};
+use dx_links::Links;
+use dx_objects::Outs;
+use dx_tags::{Tags, Written};
+use std::alloc::Global;
+
+/// The terms that were formed, the links and their values by their terms, the values held since the last emptying, the cache, the
+/// files that were written, and the events of the last execution.
+#[derive(Drop)]
+pub struct State {
+    pub(crate) tags: Tags,
+    pub(crate) links: Links,
+    pub(crate) bound: Bound,
+    pub(crate) held: Outs,
+    pub(crate) cache: Cache,
+    pub(crate) written: Written,
+    pub(crate) events: Vec<Event>,
+}
+
+impl State {
+    /// Nothing is kept, and the cache has this budget. This takes no memory.
+    pub fn new(alloc: Global, budget: u64) -> State
+        ensures fits { StateFits result }
+        ensures kept { kept_of result ≡ none_kept }
+        ensures budget { result.cache.budget ≡ budget }
+        ensures events { result.events.items ≡ [] }
+    {
+        State {
+            tags: Tags::new(alloc),
+            links: Links::new(alloc),
+            bound: Bound::new(alloc),
+            held: Outs::new(alloc),
+            cache: Cache::new(alloc, budget),
+            written: Written::new(alloc),
+            events: Vec::new(alloc),
+        }
+    }
+}
