@@ -19,7 +19,7 @@ use Rattle.dx_demand.specs.Halting.{selector_calls}
 use Rattle.dx_demand.specs.Found.{AllFound}
 use Rattle.dx_performing.specs.Course.{Fixed, Looked, sight_of, as_terms, look_at}
 use Rattle.dx_performing.specs.Kept.{Kept}
-use Rattle.dx_looking.specs.Setting.{nodes_in}
+use Rattle.dx_looking.specs.Setting.{nodes_in, sight_in}
 use Rattle.dx_looking.specs.Looking.{StandsAt, HoweverFormed, GoesTo, StopsAt, IsCutIn}
 use Rattle.dx_looking.specs.declared.cut.Cut.{Cut}
 use Rattle.dx_looking.specs.declared.setup.Setup.{Setup}
@@ -76,3 +76,11 @@ LookedSo setup x k base looked s f (Err cut) at now =
 -- at trees, in order, by all values
 abbrev pub AllLookSo : Setup → Fixed → Kept → Told → Trees → State → Formings → Result AllLooked Cut → Progress → Told → Type 0
 AllLookSo setup x k base ts s f r at now = LookedSo setup x k base (look_at (sight_of x k) ts) s f r at now
+
+-- a selector that is refused is needed by all values as it is by what is told
+abbrev pub AllNeedAlike : Setup → Fixed → Kept → Trees → Result AllLooked Cut → Progress → Type 0
+AllNeedAlike setup x k ts (Ok (all.Refused n r)) at = all_scanned (scan_each (sight_of x k) ts) ≡ all_scanned (scan_each (sight_in setup at) ts)
+AllNeedAlike setup x k ts (Ok (all.Terms us)) at = Unit {0}
+AllNeedAlike setup x k ts (Ok all.Off) at = Unit {0}
+AllNeedAlike setup x k ts (Ok (all.Halt n code)) at = Unit {0}
+AllNeedAlike setup x k ts (Err cut) at = Unit {0}

@@ -22,7 +22,7 @@ use Rattle.dx_demand.specs.Halting.{selector_calls}
 use Rattle.dx_demand.specs.Found.{AllFound}
 use Rattle.dx_performing.specs.Course.{Fixed, HasValues, IsRefused, around_of, sight_of, look_at, effect_got, came}
 use Rattle.dx_performing.specs.Kept.{Kept}
-use Rattle.dx_looking.specs.Setting.{nodes_in}
+use Rattle.dx_looking.specs.Setting.{nodes_in, sight_in}
 use Rattle.dx_looking.specs.Looking.{StandsAt, HoweverFormed, GoesTo, StopsAt, IsCutIn}
 use Rattle.dx_looking.specs.declared.cut.Cut.{Cut}
 use Rattle.dx_looking.specs.declared.cut.Cut.TheVariants.{ReadFault, Memory}
@@ -88,6 +88,15 @@ abbrev pub ArgumentsSo : Setup → Fixed → Kept → Told → Trees → State �
 ArgumentsSo setup x k base ts s f r at now =
     let looked = look_at (sight_of x k) ts in
     ComeSo setup x k base looked.terms (after looked.forms f) (λ frame. effect_got frame looked s) r at now
+
+-- a selector that is refused is needed by all values as it is by what is told
+abbrev pub ArgumentsAlike : Setup → Fixed → Kept → Trees → Result Arguments Cut → Progress → Type 0
+ArgumentsAlike setup x k ts (Ok (arguments.SelectorRefused m r)) at = all_scanned (scan_each (sight_of x k) ts) ≡ all_scanned (scan_each (sight_in setup at) ts)
+ArgumentsAlike setup x k ts (Ok (arguments.Values us vs)) at = Unit {0}
+ArgumentsAlike setup x k ts (Ok arguments.Off) at = Unit {0}
+ArgumentsAlike setup x k ts (Ok (arguments.Halt m code)) at = Unit {0}
+ArgumentsAlike setup x k ts (Ok (arguments.Refused r)) at = Unit {0}
+ArgumentsAlike setup x k ts (Err cut) at = Unit {0}
 
 -- some terms that were formed
 abbrev pub TermsSo : Setup → Fixed → Kept → Told → ValueTerms → State → Formings → Result Arguments Cut → Progress → Told → Type 0

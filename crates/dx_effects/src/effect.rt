@@ -8,7 +8,7 @@ ghost use Rattle.dx_demand.specs.Memo.{answers_of};
 ghost use Rattle.dx_looking.specs.Setting.{nodes_in, sight_in};
 ghost use Rattle.dx_looking.specs.Looking.{IsLooking, FromHere};
 ghost use Rattle.dx_looking.specs.declared.cut.Cut.TheVariants.{ReadFault};
-ghost use Rattle.dx_effects.specs.Coming.{ArgumentsFit, ArgumentsValued, ArgumentsHalted, ArgumentsSo, node_trees};
+ghost use Rattle.dx_effects.specs.Coming.{ArgumentsAlike, ArgumentsFit, ArgumentsValued, ArgumentsHalted, ArgumentsSo, node_trees};
 
 use crate::came::Arguments;
 use crate::looked::AllLooked;
@@ -24,7 +24,7 @@ use dx_objects::Library;
 /// what the inputs come to by all values, the machine got the selectors and then the values, or stopped at the call that is
 /// refused; or the work was cut short on the machine's way. A fault is answered only where the files' count of faults has risen.
 /// Where the value of an input is refused, or all have values, the inputs are settled with values; where a selector is refused, looking
-/// by what is told stops at that of the node.
+/// by what is told stops at that of the node, and looking by all values at the same.
 pub fn arguments_of<F: Files, L: Library>(
     n: u32,
     setup: &Setup,
@@ -43,6 +43,7 @@ pub fn arguments_of<F: Files, L: Library>(
     ensures valued { IfOk result (λ how. ArgumentsValued (answers_of at.new.seen.memo) (node_at (nodes_in setup.now) n).inputs how) }
     ensures halted { IfOk result (λ how. ArgumentsHalted (sight_in setup.now at.new) (nodes_in setup.now) (node_trees setup.now n) how) }
     ensures comes { FromHere setup.now L.answer (F.content files.old) at.old (told (L.done lib.old) (F.asked files.old)) (λ x k base s f. ArgumentsSo setup.now x k base (node_trees setup.now n) s f result at.new (told (L.done lib.new) (F.asked files.new))) }
+    ensures alike { FromHere setup.now L.answer (F.content files.old) at.old (told (L.done lib.old) (F.asked files.old)) (λ x k base s f. ArgumentsAlike setup.now x k (node_trees setup.now n) result at.new) }
 {
     let node = setup.graph.node(n);
     match look_all(node.inputs.as_slice(), setup, at, files, lib) {

@@ -8,7 +8,7 @@ ghost use Rattle.dx_demand.specs.Memo.{answers_of};
 ghost use Rattle.dx_looking.specs.Setting.{nodes_in, sight_in};
 ghost use Rattle.dx_looking.specs.Looking.{IsLooking, FromHere};
 ghost use Rattle.dx_looking.specs.declared.cut.Cut.TheVariants.{ReadFault};
-ghost use Rattle.dx_effects.specs.AllLooking.{AllLookedFit, AllValued, AllHalted, AllLookSo, input_trees};
+ghost use Rattle.dx_effects.specs.AllLooking.{AllLookedFit, AllValued, AllHalted, AllLookSo, AllNeedAlike, input_trees};
 
 use crate::looked::AllLooked;
 use dx_base::Items;
@@ -19,7 +19,7 @@ use dx_objects::Library;
 
 /// Looks at some arguments in order, up to the first that forms no term. What is true of looking at one is true of them
 /// together. Where all have terms, they are settled with values; where a selector is refused, looking by what is told stops at that of
-/// the node.
+/// the node, and looking by all values at the same.
 pub fn look_all<F: Files, L: Library>(
     inputs: &[Input],
     setup: &Setup,
@@ -38,6 +38,7 @@ pub fn look_all<F: Files, L: Library>(
     ensures valued { IfOk result (λ how. AllValued (answers_of at.new.seen.memo) inputs.now how) }
     ensures halted { IfOk result (λ how. AllHalted (sight_in setup.now at.new) (nodes_in setup.now) (input_trees setup.now inputs.now) how) }
     ensures looks { FromHere setup.now L.answer (F.content files.old) at.old (told (L.done lib.old) (F.asked files.old)) (λ x k base s f. AllLookSo setup.now x k base (input_trees setup.now inputs.now) s f result at.new (told (L.done lib.new) (F.asked files.new))) }
+    ensures alike { FromHere setup.now L.answer (F.content files.old) at.old (told (L.done lib.old) (F.asked files.old)) (λ x k base s f. AllNeedAlike setup.now x k (input_trees setup.now inputs.now) result at.new) }
 {
     let mut terms = Items::new(setup.alloc);
     for i in inputs {

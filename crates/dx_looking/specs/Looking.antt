@@ -151,6 +151,14 @@ LookedHalted s nodes i looked.Off = Unit {0}
 LookedHalted s nodes i (looked.Halt n code) = Unit {0}
 LookedHalted s nodes i (looked.Refused n r) = input_halted s nodes i ≡ selector_calls s nodes n
 
+-- a selector that is refused is needed by all values as it is by what is told
+abbrev pub NeedsAlike : Setup → Fixed → Kept → Tree → Result Looked Cut → Progress → Type 0
+NeedsAlike setup x k t (Ok (looked.Refused n r)) at = scan (sight_of x k) t ≡ scan (sight_in setup at) t
+NeedsAlike setup x k t (Ok (looked.Value u)) at = Unit {0}
+NeedsAlike setup x k t (Ok looked.Off) at = Unit {0}
+NeedsAlike setup x k t (Ok (looked.Halt n code)) at = Unit {0}
+NeedsAlike setup x k t (Err cut) at = Unit {0}
+
 -- ---- getting one selector
 
 -- the value of a selector is told from now on, or it is refused

@@ -20,7 +20,7 @@ use Rattle.dx_looking.specs.Looking.{TellsMore, input_tree}
 use Rattle.dx_demand.specs.Halting.{HaltsAt, input_halted, selector_calls}
 use Rattle.dx_looking.proofs.Counting.{open_selectors, smaller}
 use Rattle.dx_looking.proofs.Resolved.{sight_stays}
-use Rattle.dx_looking.proofs.Ways.{resolved_way, use_here, formed_once, ends_with_value, ends_off, ends_halted, ends_cut_by, told_on, refused_at, cut_at_by, TellsHere}
+use Rattle.dx_looking.proofs.Ways.{resolved_way, use_here, formed_once, ends_with_value, ends_off, ends_halted, ends_cut_by, told_on, refused_at, refused_alike, cut_alike, cut_at_by, TellsHere}
 use Rattle.dx_looking.proofs.looking.look.Goals as goal
 
 pub returns-in_err-resolved-clause-looks : goal.returns-in_err-resolved-clause-looks
@@ -192,3 +192,39 @@ look-preserved g c = record {
       told_on setup x k base t s f at1 now e.looking w c.in-Need.t fits.1 found c.in-Need.n (e.right ∙ ap (shown_resolved (nodes_in setup) at1.tags) c.in-Need.is) at2 now2
       (subst (λ q. TellsHere setup c.in-Need.t at1 q at2 now2 x k base w.state w.formed) (c.in_ok-refusal-in-Need.was ∙ ap Ok c.in_default.is) gets);
 }
+
+pub returns-in-Some-clause-alike : goal.returns-in-Some-clause-alike
+returns-in-Some-clause-alike g c = λ map ec k right base s f st.
+    let setup = c.args.setup.now in
+    let at1 = c.resolve_told.new.at in
+    let at2 = c.tell_selector.new.at in
+    let e = c.in_ok-resolved.ensures in
+    let t = input_tree setup c.args.i.now in
+    let x = fixed g.L.Library.answer map c.args.at.now.work.cache.budget in
+    let now = told (g.L.Library.done c.look.lib) (g.F.Files.asked c.look.files) in
+    let now2 = told (g.L.Library.done c.tell_selector.new.lib) (g.F.Files.asked c.tell_selector.new.files) in
+    let w = resolved_way setup x k base t s f c.look.at at1 now c.look.invariant.looking e.told e.work e.goes_on e.sight e.forms (c.look.invariant.way map ec k right base s f st) in
+    let fits = subst (ResolvedFits (nodes_in setup) at1.tags (λ (u : ValueTag). lookup (tags.ghosts.eq u) at1.told) at1.seen.memo) c.in-Need.is e.fits in
+    let found = subst (ResolvedFound setup.links.now.links at1.tags (formed_of at1.seen.memo)) c.in-Need.is e.found in
+    let gets = use_here setup g.L.Library.answer (g.F.Files.content c.look.files) at1 now (TellsHere setup c.in-Need.t at1 c.tell_selector.result at2 now2) c.tell_selector.ensures.gets c.args.at.now.work.cache.budget (ap (λ y. y.cache.budget) e.work ∙ c.look.invariant.budget) map (c.look.invariant.same ∙ ec) k right base w.state w.formed w.stands in
+    let same = sight_stays setup at1 at2 c.in_ok-refusal-in-Need.ensures.tags (subst (λ o. TellsMore c.in-Need.t at1.told o at2.told) c.in-Some.is c.in_ok-refusal-in-Need.ensures.tells) in
+    refused_alike setup x k base t s f at1 now e.looking w c.in-Need.t fits.1 found c.in-Need.n (e.right ∙ ap (shown_resolved (nodes_in setup) at1.tags) c.in-Need.is)
+    c.in-Some.refusal at2 now2 c.in_ok-refusal-in-Need.ensures.tags same
+    (subst (λ q. TellsHere setup c.in-Need.t at1 q at2 now2 x k base w.state w.formed) (c.in_ok-refusal-in-Need.was ∙ ap Ok c.in-Some.is) gets)
+
+pub returns-in-Value-clause-alike : goal.returns-in-Value-clause-alike
+returns-in-Value-clause-alike g c = λ map ec k right base s f st. tt
+
+pub returns-in-Off-clause-alike : goal.returns-in-Off-clause-alike
+returns-in-Off-clause-alike g c = λ map ec k right base s f st. tt
+
+pub returns-in-Halt-clause-alike : goal.returns-in-Halt-clause-alike
+returns-in-Halt-clause-alike g c = λ map ec k right base s f st. tt
+
+pub returns-in_err-resolved-clause-alike : goal.returns-in_err-resolved-clause-alike
+returns-in_err-resolved-clause-alike g c = λ map ec k right base s f st.
+    cut_alike c.args.setup.now (fixed g.L.Library.answer map c.args.at.now.work.cache.budget) k (input_tree c.args.setup.now c.args.i.now) c.from_residual.result c.from_residual.ensures.0 c.resolve_told.new.at
+
+pub returns-in_err-refusal-in-Need-clause-alike : goal.returns-in_err-refusal-in-Need-clause-alike
+returns-in_err-refusal-in-Need-clause-alike g c = λ map ec k right base s f st.
+    cut_alike c.args.setup.now (fixed g.L.Library.answer map c.args.at.now.work.cache.budget) k (input_tree c.args.setup.now c.args.i.now) c.from_residual-in_err-refusal-in-Need.result c.from_residual-in_err-refusal-in-Need.ensures.0 c.tell_selector.new.at
