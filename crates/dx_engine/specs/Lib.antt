@@ -4,3 +4,4 @@ pub mod Doing
 pub mod Running
 pub mod Keeping
 pub mod Beginning
+pub mod Answering
