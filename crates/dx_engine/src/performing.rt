@@ -6,7 +6,6 @@ ghost use Rattle.dx_graph.specs.Graph.{node_at};
 ghost use Rattle.dx_tags.specs.Closed.{GoesOn};
 ghost use Rattle.dx_getting.specs.Told.{told};
 ghost use Rattle.dx_demand.specs.Memo.{answers_of};
-ghost use Rattle.dx_demand.specs.Terms.{AreArguments};
 ghost use Rattle.dx_performing.specs.Acts.{act};
 ghost use Rattle.dx_acts.specs.Answers.{AreValues};
 ghost use Rattle.dx_looking.specs.Setting.{nodes_in};
@@ -61,13 +60,10 @@ fn acted(
     terms: &ValueTags,
     values: &Outs,
     setup: &Setup,
-    at: &Progress,
 ) -> Result<Done, Cut>
     requires node { n < length (nodes_in setup.now) }
     requires values { AreValues effect values.now }
-    requires arguments { AreArguments at.now.tags terms.now }
     ensures short { IfErr result (λ cut. IsShort cut) }
-    ensures fits { IfOk result (λ done. DoneFits setup.now at.now done) }
     ensures does { IfOk result (λ done. Does (act effect (place_of_node setup.now n) values.now) terms.now n done) }
 {
     match act_of(setup.alloc, setup.graph, n, effect, values) {
@@ -95,11 +91,11 @@ fn done_by(
     ensures does { IfOk result (λ done. DoneBy setup.now at.now n effect how done) }
 {
     match how {
-        Arguments::Values(terms, values) => acted(n, effect, &terms, &values, setup, at),
+        Arguments::Values(terms, values) => acted(n, effect, &terms, &values, setup),
         Arguments::Off => Ok(Done::PassedOver),
         Arguments::Halt(m, code) => Ok(Done::Ends(m, code)),
         Arguments::SelectorRefused(m, refusal) => match node_of_selector(m, refusal, setup, at) {
-            Ok(caller) => Ok(Done::Ends(caller, refusal.code)),
+            Ok(halted) => Ok(Done::Ends(halted, refusal.code)),
             Err(_) => Err(Cut::Memory),
         },
         Arguments::Refused(refusal) => match node_of_refusal(n, refusal, setup, at) {
