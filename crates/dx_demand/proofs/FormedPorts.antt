@@ -160,7 +160,7 @@ part_then was x y whole part small ends a b = record {
 
 pub reaches_then : (s : Sight) (nodes : List Node) (was : Formings) (root p q : Port) → Reaches s nodes was root p → Leads s nodes p q → Reaches s nodes was p q → Reaches s nodes was root q
 reaches_then s nodes was root p q a l b s' m =
-    part_then was (port_scan s' nodes p) (port_scan s' nodes q) (port_forms s' nodes root) (port_forms s' nodes p) (port_forms s' nodes q) (l s' m) (a s' m) (b s' m)
+    part_then was (port_scan s' nodes p) (port_scan s' nodes q) (port_forms s' nodes root) (port_forms s' nodes p) (port_forms s' nodes q) (λ e h. (l s' m e h).0) (a s' m) (b s' m)
 
 -- ---- a call of a module
 

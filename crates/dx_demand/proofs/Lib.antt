@@ -16,3 +16,4 @@ pub mod FormedLoop
 pub mod Calls
 pub mod Searched
 pub mod CallsStaying
+pub mod Leading

@@ -22,6 +22,7 @@ use Rattle.dx_tags.specs.Closed.{heads_of, GoesOn}
 use Rattle.dx_meaning.specs.Scan.{Sight, Stop, Ends}
 use Rattle.dx_meaning.specs.More.{More}
 use Rattle.dx_demand.specs.Memo.{Answers, with_answer, IsPort, node_scans, port_scan}
+use Rattle.dx_demand.specs.Halting.{port_halted}
 use Rattle.dx_demand.specs.Stack.{fresh, bottom, StackFits, Leads, Begins, FrameRight, StackRight}
 use Rattle.dx_demand.specs.declared.settled.Port.{Port}
 use Rattle.dx_demand.specs.declared.settled.Answer.{Answer}
@@ -128,7 +129,10 @@ awaits_right s nodes terms root fs top q r leads = right_join s nodes terms root
 
 -- the top needs a value that isn't told
 pub needs_right : (s : Sight) (nodes : List Node) (terms : List Term) (root : Port) (top : Frame) (e : Stop) → FrameRight s nodes terms root top → port_scan s nodes top.port ≡ Ends e → port_scan s nodes root ≡ Ends e
-needs_right s nodes terms root top e r h = r.leads s (more_itself s) e h
+needs_right s nodes terms root top e r h = (r.leads s (more_itself s) e h).0
+
+pub needs_halted : (s : Sight) (nodes : List Node) (terms : List Term) (root : Port) (top : Frame) (e : Stop) → FrameRight s nodes terms root top → port_scan s nodes top.port ≡ Ends e → port_halted s nodes root ≡ port_halted s nodes top.port
+needs_halted s nodes terms root top e r h = (r.leads s (more_itself s) e h).1
 
 -- the port under a top that is settled comes next
 pub below_fits : (nodes : List Node) (terms : List Term) (answers : Answers) (fs rest : List Frame) (top below : Frame) (a : Answer) → fs ≡ rest ++ below ∷ [] → Top nodes terms answers fs top →

@@ -21,8 +21,7 @@ use Rattle.dx_meaning.specs.Picking.{pick, or_first, selector_place, selector_at
 use Rattle.dx_meaning.specs.Scan.{Sight, Stop, Needs, Scanned, Forms, Ends, scanned_beside, all_scanned, null_term, scanned_at, call_scanned, picked_scanned, written_for, terms_in, told_scanned, selected, valued, selector_scanned, effect_scanned, module_scanned, rule_scanned, scan, scan_each}
 use Rattle.dx_meaning.specs.More.{More}
 use Rattle.dx_demand.specs.Memo.{node_scans, input_scan, port_scan, selector_scan, site_of}
-use Rattle.dx_demand.specs.Stack.{Leads, Begins}
-use Rattle.dx_demand.specs.Memo.{input_at}
+use Rattle.dx_demand.specs.Stack.{Begins}
 use Rattle.dx_demand.specs.declared.settled.Port.{Port}
 use Rattle.dx_demand.specs.Steps.{IsPicking}
 use Rattle.dx_meaning.proofs.Keeping.{EachKeeps, forms_kept, at_keeps, each_keeps, same_file}
@@ -122,17 +121,6 @@ unnamed_rule s nodes a p h m w e =
     port_rule s nodes a p h ∙ rule_as s _ (function.Module m) (node_at nodes p.node).place p.result (node_scans s nodes p.node) w
     ∙ unnamed_call s m (node_at nodes p.node).place p.result (node_scans s nodes p.node) e
 
--- it waits for the argument behind those that are taken
-pub module_leads : (s : Sight) (nodes : List Node) (p : Port) (m : Module) (file : Option (List ℕ)) → ((s' : Sight) → More s s' → port_scan s' nodes p ≡ call_scanned m file p.result (all_scanned (node_scans s' nodes p.node))) →
-    (hs : List Head) (ts : List ValueTag) → Begins hs (node_scans s nodes p.node) ts → (q : Port) → slice_get (node_at nodes p.node).inputs (length ts) ≡ Some (input_at q) → Leads s nodes p q
-module_leads s nodes p m file h hs ts b q at s' more e ends =
-    let inputs = (node_at nodes p.node).inputs in
-    h s' more
-    ∙ ap (call_scanned m file p.result)
-    (begins_stop hs (node_scans s' nodes p.node) ts e
-    (begins_keeps hs (node_scans s nodes p.node) (node_scans s' nodes p.node) ts (each_keeps s s' more (trees_of (calls_of nodes) inputs)) b)
-    (each_at s' (calls_of nodes) inputs (length ts) (input_at q) at ∙ ap Some ends))
-
 -- ---- a call with a selector
 
 selecting_module : (s : Sight) (m : Module) (p : Place) (result : ℕ) (ss : List (Scanned ValueTerm)) → IsSelecting (function.Module m) → module_scanned s m p result ss ≡ selector_scanned s (function.Module m) p result ss
@@ -168,12 +156,6 @@ selector_rule s nodes a p h i x e =
 
 pub selector_ends : (s : Sight) (nodes : List Node) → AreNodes nodes → (p : Port) → p.node < length nodes → IsSelecting (node_at nodes p.node).what → (e : Stop) → selector_scan s nodes p.node ≡ Ends e → port_scan s nodes p ≡ Ends e
 selector_ends s nodes a p h i x e = selector_rule s nodes a p h i (Ends x) e
-
-pub selector_leads : (s : Sight) (nodes : List Node) → AreNodes nodes → (p : Port) → p.node < length nodes → IsSelecting (node_at nodes p.node).what → (q : Port) →
-    slice_get (node_at nodes p.node).inputs (selector_at (node_at nodes p.node).what) ≡ Some (input_at q) → Leads s nodes p q
-selector_leads s nodes a p h i q at s' more e ends =
-    let node = node_at nodes p.node in
-    selector_ends s' nodes a p h i e (at_some (node_scans s' nodes p.node) (selector_at node.what) (Ends e) (each_at s' (calls_of nodes) node.inputs (selector_at node.what) (input_at q) at ∙ ap Some ends))
 
 pub selector_needs : (s : Sight) (nodes : List Node) → AreNodes nodes → (p : Port) → p.node < length nodes → IsSelecting (node_at nodes p.node).what → (t : ValueTerm) → selector_scan s nodes p.node ≡ Forms t → s.told t ≡ None →
     port_scan s nodes p ≡ Ends (Needs (site_of nodes p.node) t)
@@ -290,9 +272,6 @@ chosen_is s nodes p k h x at =
 pub chosen_past : (s : Sight) (nodes : List Node) (p : Port) (k : ℕ) → port_scan s nodes p ≡ scanned_at (node_scans s nodes p.node) k → length (node_at nodes p.node).inputs ≤ k → port_scan s nodes p ≡ Forms null_term
 chosen_past s nodes p k h le =
     h ∙ at_past (node_scans s nodes p.node) k (omega (arith, le, each_length s (calls_of nodes) (node_at nodes p.node).inputs))
-
-pub chosen_leads : (s : Sight) (nodes : List Node) (p : Port) (k : ℕ) → ((s' : Sight) → More s s' → port_scan s' nodes p ≡ scanned_at (node_scans s' nodes p.node) k) → (q : Port) → slice_get (node_at nodes p.node).inputs k ≡ Some (input_at q) → Leads s nodes p q
-chosen_leads s nodes p k h q at s' more e ends = chosen_is s' nodes p k (h s' more) (input_at q) at ∙ ends
 
 -- ---- the result of an effect
 

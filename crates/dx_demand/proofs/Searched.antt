@@ -24,7 +24,7 @@ use Rattle.dx_meaning.proofs.SameTerms.{same_test}
 use Rattle.dx_demand.specs.Memo.{Answers, answers_of, same_port, port_scan, node_scans, shown, SettledFits}
 use Rattle.dx_demand.specs.Forming.{IsCallTag, call_in}
 use Rattle.dx_demand.specs.Calling.{node_met, input_met, port_met, HasValue, IsValued, AreValued, PassedMet, ValueMet, AnswerMet}
-use Rattle.dx_demand.specs.Searching.{Calls, under, or_else, first_of, values_of, own_node, under_slot, passed_from, first_in, met_from, met_by, with_call, place_of, Ground, MetRight, AllMet}
+use Rattle.dx_demand.specs.Searching.{Calls, under, or_else, first_of, values_of, own_node, under_slot, passed_from, first_in, met_from, met_by, with_call, place_of, Ground, MetRight, AllMet, AllWithin}
 use Rattle.dx_demand.specs.declared.settled.Port.{Port}
 use Rattle.dx_demand.specs.declared.settled.Answer.{Answer}
 use Rattle.dx_demand.specs.declared.settled.Settled.{Settled}
@@ -287,3 +287,57 @@ rows_met s nodes answers c n r f e all row q lt port v = ⊎_elim
     (λ l. all q l port v)
     (λ same. row q same (let within : q.result < (row_of (node_at nodes n).what).results = subst (λ (k : ℕ). q.result < (row_of (node_at nodes k).what).results) same port.1 in omega (arith, within, e)) port v)
     (less_case q.node n (omega (arith, lt)))
+
+-- ---- each is one of the nodes
+
+pub under_within : (count : ℕ) (f : Calls) → AllWithin count f → (i : Input) (n : ℕ) → under f i ≡ Some n → n < count
+under_within count f h (input.Constant c) n e = cc
+under_within count f h (input.Result k result) n e = h (record { node = k; result = result }) n e
+
+or_within : (count : ℕ) (a b : Option ℕ) → ((n : ℕ) → a ≡ Some n → n < count) → ((n : ℕ) → b ≡ Some n → n < count) → (n : ℕ) → or_else a b ≡ Some n → n < count
+or_within count (Some k) b f g n e = f n e
+or_within count None b f g n e = g n e
+
+first_within : (count : ℕ) (f : Calls) → AllWithin count f → (is : List Input) (n : ℕ) → first_of f is ≡ Some n → n < count
+first_within count f h [] n e = cc
+first_within count f h (i ∷ is) n e = or_within count (under f i) (first_of f is) (under_within count f h i) (first_within count f h is) n e
+
+own_within : (count k t : ℕ) (x : Settled) → k < count → (n : ℕ) → own_node k t x ≡ Some n → n < count
+own_within count k t (settled.Value v) lt n e = by_test (v.tag == t) e
+  where
+    by_test : (b : Bool) → (if b then Some k else None) ≡ Some n → n < count
+    by_test true is = (let same : k ≡ n = cc in omega (arith, same, lt))
+    by_test false is = cc
+own_within count k t settled.Off lt n e = cc
+own_within count k t (settled.Halt m code) lt n e = cc
+
+slot_within : (count : ℕ) (f : Calls) → AllWithin count f → (o : Option Input) (n : ℕ) → under_slot f o ≡ Some n → n < count
+slot_within count f h (Some i) n e = under_within count f h i n e
+slot_within count f h None n e = cc
+
+passed_within : (count : ℕ) (f : Calls) → AllWithin count f → (is : List Input) (from : Option ℕ) (n : ℕ) → passed_from f is from ≡ Some n → n < count
+passed_within count f h is (Some k) n e = slot_within count f h (slice_get is k) n e
+passed_within count f h is None n e = cc
+
+kind_within : (count : ℕ) (f : Calls) (t : ℕ) (p : Port) (a : Answer) (is : List Input) (x : Function) → AllWithin count f → p.node < count → (n : ℕ) → first_in f t p a is x ≡ Some n → n < count
+kind_within count f t p a is (function.Module m) h lt n e = or_within count (first_of f (values_of m is)) (own_node p.node t a.settled) (first_within count f h (values_of m is)) (own_within count p.node t a.settled lt) n e
+kind_within count f t p a is (function.Effect k) h lt n e = passed_within count f h is a.input n e
+kind_within count f t p a is function.Switch h lt n e = passed_within count f h is a.input n e
+kind_within count f t p a is function.Route h lt n e = passed_within count f h is a.input n e
+kind_within count f t p a is function.GetLocal h lt n e = passed_within count f h is a.input n e
+kind_within count f t p a is function.GetGlobal h lt n e = passed_within count f h is a.input n e
+
+from_within : (nodes : List Node) (count : ℕ) (f : Calls) (t : ℕ) (p : Port) (o : Option Answer) → AllWithin count f → p.node < count → (n : ℕ) → met_from nodes f t p o ≡ Some n → n < count
+from_within nodes count f t p (Some a) h lt n e = kind_within count f t p a (node_at nodes p.node).inputs (node_at nodes p.node).what h lt n e
+from_within nodes count f t p None h lt n e = cc
+
+put_within : (count : ℕ) (f : Calls) (p : Port) (o : Option ℕ) → AllWithin count f → ((n : ℕ) → o ≡ Some n → n < count) → AllWithin count (with_call f p o)
+put_within count f p None h g q n e = h q n e
+put_within count f p (Some m) h g q n e = by_test (same_port p q) e
+  where
+    by_test : (b : Bool) → (if b then Some m else f q) ≡ Some n → n < count
+    by_test true is = g n is
+    by_test false is = h q n is
+
+pub call_within : (nodes : List Node) (answers : Answers) (t : ℕ) (p : Port) (count : ℕ) (f : Calls) → AllWithin count f → p.node < count → AllWithin count (with_call f p (met_by nodes answers t p f))
+call_within nodes answers t p count f h lt = put_within count f p (met_by nodes answers t p f) h (from_within nodes count f t p (answers p) h lt)

@@ -7,7 +7,7 @@ use Rattle.std.proofs.Common.{true≢false}
 use Rattle.dx_graph.specs.Graph.{Node}
 use Rattle.dx_tags.specs.declared.term.Term.{Term}
 use Rattle.dx_meaning.specs.Scan.{Sight}
-use Rattle.dx_demand.specs.Memo.{Answers, same_port, with_answer, IsPort}
+use Rattle.dx_demand.specs.Memo.{Answers, KeepsAnswers, same_port, with_answer, IsPort}
 use Rattle.dx_demand.specs.Stack.{fresh, bottom, Opens, FrameFits, AllBelow, StackFits, Leads, FrameRight, StackRight}
 use Rattle.dx_demand.specs.Steps.{LeftRight}
 use Rattle.dx_demand.specs.declared.settled.Port.{Port}
@@ -45,6 +45,14 @@ answer_here answers p a = rw (port_itself p) refl
 
 pub answer_other : (answers : Answers) (p : Port) (a : Answer) (q : Port) → ¬ (p.node ≡ q.node) → with_answer answers p a q ≡ answers q
 answer_other answers p a q n = rw (other_port p q n) refl
+
+-- where a port that wasn't settled is, the others stay
+pub answer_kept : (answers : Answers) (p : Port) (a : Answer) → answers p ≡ None → KeepsAnswers answers (with_answer answers p a)
+answer_kept answers p a none q b at = go (same_port p q) refl
+  where
+    go : (c : Bool) → same_port p q ≡ c → (if c then Some a else answers q) ≡ Some b
+    go true e = (let here : None ≡ Some b = sym none ∙ ap answers (port_of p q e) ∙ at in cc)
+    go false e = at
 
 -- ---- what fits
 
@@ -97,10 +105,13 @@ stack_settle nodes terms answers p a (f ∷ fs) ab h =
 -- ---- what is right
 
 pub leads_itself : (s : Sight) (nodes : List Node) (p : Port) → Leads s nodes p p
-leads_itself s nodes p s' m e h = h
+leads_itself s nodes p s' m e h = (h, refl)
 
 pub leads_then : (s : Sight) (nodes : List Node) (p q r : Port) → Leads s nodes p q → Leads s nodes q r → Leads s nodes p r
-leads_then s nodes p q r f g s' m e h = f s' m e (g s' m e h)
+leads_then s nodes p q r f g s' m e h =
+    let below = g s' m e h in
+    let here = f s' m e below.0 in
+    (here.0, here.1 ∙ below.1)
 
 pub right_split : (s : Sight) (nodes : List Node) (terms : List Term) (root : Port) (fs : List Frame) (top : Frame) → StackRight s nodes terms root (fs ++ top ∷ []) → StackRight s nodes terms root fs × FrameRight s nodes terms root top
 right_split s nodes terms root [] top h = (tt, h.0)

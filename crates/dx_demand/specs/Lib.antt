@@ -8,3 +8,4 @@ pub mod Found
 pub mod Forming
 pub mod Calling
 pub mod Searching
+pub mod Halting

@@ -31,6 +31,10 @@ answers_of m = λ p. get_by (same_port p) m.answers
 abbrev pub with_answer : Answers → Port → Answer → Answers
 with_answer answers p a = λ q. if same_port p q then Some a else answers q
 
+-- what is settled stays
+abbrev pub KeepsAnswers : Answers → Answers → Type 0
+KeepsAnswers old new = (p : Port) (a : Answer) → old p ≡ Some a → new p ≡ Some a
+
 abbrev pub selector_of : Memo → ℕ → Option ValueTag
 selector_of m n = slice_index_or m.selectors.items n None
 

@@ -106,3 +106,7 @@ AllMet s nodes answers c n f = (p : Port) → p.node < n → MetRight s nodes an
 -- nothing was found for others
 abbrev pub AllFresh : ℕ → Calls → Type 0
 AllFresh n f = (p : Port) → n ≤ p.node → f p ≡ None
+
+-- what was found is one of so many nodes
+abbrev pub AllWithin : ℕ → Calls → Type 0
+AllWithin count f = (p : Port) (n : ℕ) → f p ≡ Some n → n < count

@@ -8,6 +8,7 @@ use Rattle.dx_tags.specs.Closed.{ValueTerm, Head, heads_of, value_term}
 use Rattle.dx_meaning.specs.Scan.{Sight, Stop, Scanned, Forms, Ends}
 use Rattle.dx_meaning.specs.More.{More}
 use Rattle.dx_demand.specs.Memo.{Answers, IsPort, node_scans, port_scan}
+use Rattle.dx_demand.specs.Halting.{port_halted}
 use Rattle.dx_demand.specs.declared.settled.Port.{Port}
 use Rattle.dx_demand.specs.declared.seen.Frame.{Frame}
 
@@ -48,9 +49,9 @@ Begins hs ss [] = Unit {0}
 Begins hs [] (t ∷ ts) = ⊥
 Begins hs (s ∷ ss) (t ∷ ts) = (s ≡ Forms (value_term hs t)) × Begins hs ss ts
 
--- where this port forms no term, the other ends alike, also as more is told
+-- where this port forms no term, the other ends alike and at the same selector, also as more is told
 abbrev pub Leads : Sight → List Node → Port → Port → Type 0
-Leads s nodes root p = (s' : Sight) → More s s' → (e : Stop) → port_scan s' nodes p ≡ Ends e → port_scan s' nodes root ≡ Ends e
+Leads s nodes root p = (s' : Sight) → More s s' → (e : Stop) → port_scan s' nodes p ≡ Ends e → (port_scan s' nodes root ≡ Ends e) × (port_halted s' nodes root ≡ port_halted s' nodes p)
 
 pub record FrameRight (s : Sight) (nodes : List Node) (terms : List Term) (root : Port) (f : Frame) : Type 0 where
   pub leads : Leads s nodes root f.port

@@ -3,7 +3,8 @@ use Rattle.dx_demand.specs.Terms.{IsValue}
 use Rattle.std.specs.Prelude.{◌≡◌, ℕ, ◌<◌, List, [], ◌∷◌, Option, Some, None, option_map, length}
 use Rattle.dx_base.specs.declared.function.Function.{Function}
 use Rattle.dx_base.specs.declared.function.Function.TheVariants as function
-use Rattle.dx_graph.specs.Graph.{Node}
+use Rattle.dx_base.specs.declared.function.Module.{Module}
+use Rattle.dx_graph.specs.Graph.{Node, node_at}
 use Rattle.dx_graph.specs.declared.node.Input.{Input}
 use Rattle.dx_tags.specs.declared.term.Term.{Term}
 use Rattle.dx_tags.specs.declared.term.ValueTag.{ValueTag}
@@ -13,8 +14,13 @@ use Rattle.dx_links.specs.declared.key.Key.{Key}
 use Rattle.dx_links.specs.Holding.{Holding}
 use Rattle.dx_links.specs.LinkMap.{LinkMap, held_at}
 use Rattle.dx_meaning.specs.Outcome.{Value}
-use Rattle.dx_meaning.specs.Scan.{Sight, IsOff, Stops, Needs, Scanned, Forms, Ends}
-use Rattle.dx_demand.specs.Memo.{Answers, answers_of, selector_of, site_of, shown, SettledFits, IsPort, input_at, input_scan, port_scan, selector_scan, MemoFits, MemoRight}
+use Rattle.dx_meaning.specs.Picking.{Pick, pick}
+use Rattle.dx_meaning.specs.Scan.{Sight, IsOff, Stops, Needs, Scanned, Forms, Ends, all_scanned, scanned_at, call_scanned, picked_scanned, terms_in}
+use Rattle.dx_meaning.specs.More.{More}
+use Rattle.dx_meaning.specs.Met.{met_at, picked_met}
+use Rattle.dx_meaning.specs.Halted.{all_halted}
+use Rattle.dx_demand.specs.Memo.{Answers, answers_of, selector_of, site_of, shown, SettledFits, IsPort, input_at, input_scan, port_scan, node_scans, selector_scan, MemoFits, MemoRight}
+use Rattle.dx_demand.specs.Halting.{node_halted, port_halted, selector_calls}
 use Rattle.dx_demand.specs.Stack.{Leads, StackFits, StackRight}
 use Rattle.dx_demand.specs.declared.settled.Port.{Port}
 use Rattle.dx_demand.specs.declared.settled.Resolved.{Resolved}
@@ -77,7 +83,25 @@ StepFits nodes terms given m p (step.Needs t) = IsValue terms t × (given t ≡ 
 abbrev pub StepRight : Sight → List Node → List Term → Port → Step → Type 0
 StepRight s nodes terms p (step.Settles a) = port_scan s nodes p ≡ shown nodes terms a.settled
 StepRight s nodes terms p (step.Awaits q) = Leads s nodes p q
-StepRight s nodes terms p (step.Needs t) = port_scan s nodes p ≡ Ends (Needs (site_of nodes p.node) (value_term (heads_of terms) t))
+StepRight s nodes terms p (step.Needs t) = (port_scan s nodes p ≡ Ends (Needs (site_of nodes p.node) (value_term (heads_of terms) t))) × (port_halted s nodes p ≡ selector_calls s nodes p.node)
+
+-- also as more is told, a port comes to what all inputs of its module come to
+abbrev pub TakesAll : Sight → List Node → Port → Module → Option (List ℕ) → Type 0
+TakesAll s nodes p m file = (s' : Sight) → More s s' →
+    (port_scan s' nodes p ≡ call_scanned m file p.result (all_scanned (node_scans s' nodes p.node))) × (port_halted s' nodes p ≡ all_halted (node_scans s' nodes p.node) (node_halted s' nodes p.node))
+
+-- to what one of them comes to
+abbrev pub TakesInput : Sight → List Node → Port → ℕ → Type 0
+TakesInput s nodes p k = (s' : Sight) → More s s' →
+    (port_scan s' nodes p ≡ scanned_at (node_scans s' nodes p.node) k) × (port_halted s' nodes p ≡ met_at (node_halted s' nodes p.node) k)
+
+abbrev pub picked_by : Sight → List Node → Port → Value → Pick ValueTerm
+picked_by s nodes p v = pick (terms_in s) (node_at nodes p.node).what (node_at nodes p.node).place p.result v
+
+-- to what a value of its selector picks
+abbrev pub TakesPick : Sight → List Node → Port → Value → Type 0
+TakesPick s nodes p v = (s' : Sight) → More s s' →
+    (port_scan s' nodes p ≡ picked_scanned (node_at nodes p.node).place (node_scans s' nodes p.node) (picked_by s' nodes p v)) × (port_halted s' nodes p ≡ picked_met (node_halted s' nodes p.node) (picked_by s' nodes p v))
 
 abbrev pub SelectionFits : List Node → List Term → (ValueTag → Option Value) → Memo → Port → Selection → Type 0
 SelectionFits nodes terms given m p (selection.Selects t) = selector_of m p.node ≡ Some t

@@ -1,5 +1,5 @@
 // The call that an error names.
-ghost use Rattle.std.specs.Prelude.{◌≡◌, ◌<◌, ◌+◌, List, Option, Some, None, option_map, length, IfOk, OnOk};
+ghost use Rattle.std.specs.Prelude.{◌≡◌, ◌<◌, ◌+◌, ℕ, List, Option, Some, None, option_map, length, IfOk, OnOk};
 ghost use Rattle.dx_graph.specs.Graph.{MayTake, node_at};
 ghost use Rattle.dx_graph.specs.GraphView.{graph_of};
 ghost use Rattle.dx_tags.specs.declared.term.Term.{Term};
@@ -10,7 +10,7 @@ ghost use Rattle.dx_demand.specs.Terms.{AreExact};
 ghost use Rattle.dx_demand.specs.Forming.{IsCallTag};
 ghost use Rattle.dx_demand.specs.Steps.{SeenFits, SeenRight};
 ghost use Rattle.dx_demand.specs.Calling.{IsValued, MemoMet, SeenMet, input_met};
-ghost use Rattle.dx_demand.specs.Searching.{calls_at, under, first_of, own_node, first_by, with_call, met_by, place_of, Ground, AllMet, AllFresh};
+ghost use Rattle.dx_demand.specs.Searching.{calls_at, under, first_of, own_node, first_by, with_call, met_by, place_of, Ground, AllMet, AllFresh, AllWithin};
 
 use crate::seen::{Memo, Seen};
 use crate::settled::{Answer, Port, Settled};
@@ -122,6 +122,7 @@ impl Memo {
         ensures met { (s : Sight) (terms : List Term) (c : IsCallTag terms t) → Ground s (graph_of g.now).nodes terms self.now → AllMet s (graph_of g.now).nodes (answers_of self.now) c.call n (calls_at found.old) → AllFresh n (calls_at found.old) →
             OnOk result (AllMet s (graph_of g.now).nodes (answers_of self.now) c.call (n + 1) (calls_at found.new)) }
         ensures fresh { AllFresh n (calls_at found.old) → OnOk result (AllFresh (n + 1) (calls_at found.new)) }
+        ensures within { AllWithin (length (graph_of g.now).nodes) (calls_at found.old) → OnOk result (AllWithin (length (graph_of g.now).nodes) (calls_at found.new)) }
     {
         for r in 0..results(g.node(n).what) {
             let port = Port { node: n, result: r };
@@ -145,7 +146,8 @@ impl Seen {
     ) -> Result<Option<u32>, AllocError>
         requires input { MayTake (graph_of g.now).nodes (length (graph_of g.now).nodes) i.now }
         requires valued { IsValued (answers_of self.now.memo) i.now }
-        ensures { (s : Sight) (terms : List Term) (c : IsCallTag terms t) → AreExact terms → SeenFits (graph_of g.now).nodes terms self.now → SeenRight s (graph_of g.now).nodes terms self.now → SeenMet s (graph_of g.now).nodes self.now →
+        ensures within { IfOk result (λ found. (n : ℕ) → found ≡ Some n → n < length (graph_of g.now).nodes) }
+        ensures first { (s : Sight) (terms : List Term) (c : IsCallTag terms t) → AreExact terms → SeenFits (graph_of g.now).nodes terms self.now → SeenRight s (graph_of g.now).nodes terms self.now → SeenMet s (graph_of g.now).nodes self.now →
             IfOk result (λ n. place_of (graph_of g.now).nodes n ≡ first_place (input_met s (graph_of g.now).nodes i.now) c.call) }
     {
         match i {

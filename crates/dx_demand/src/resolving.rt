@@ -1,15 +1,16 @@
 // Resolving an input: a loop of steps along the way to the port that is looked at.
 ghost use Rattle.dx_demand.specs.Terms.{AreExact};
 ghost use Rattle.std.specs.Prelude.{◌≡◌, ◌<◌, ℕ, List, None, length, slice_index_or, [], ◌∷◌, IfOk, OnOk};
-ghost use Rattle.dx_graph.specs.Graph.{MayTake};
+ghost use Rattle.dx_graph.specs.Graph.{Node, MayTake};
 ghost use Rattle.dx_graph.specs.GraphView.{graph_of};
 ghost use Rattle.dx_tags.specs.declared.term.Term.{Term};
 ghost use Rattle.dx_tags.specs.Closed.{GoesOn};
 ghost use Rattle.dx_meaning.specs.Scan.{Sight};
-ghost use Rattle.dx_demand.specs.Memo.{Answers, answers_of, input_at, formed_of, IsPort, input_scan, port_scan, shown, SettledFits, EmptyMemo};
+ghost use Rattle.dx_demand.specs.Memo.{Answers, answers_of, KeepsAnswers, input_at, formed_of, IsPort, input_scan, port_scan, shown, SettledFits, EmptyMemo};
 ghost use Rattle.dx_demand.specs.Picked.{LinksFit};
 ghost use Rattle.dx_meaning.specs.Forming.{after};
 ghost use Rattle.dx_demand.specs.Calling.{SeenMet, KnownValued, ResolvedValued};
+ghost use Rattle.dx_demand.specs.Halting.{HaltsAt};
 ghost use Rattle.dx_demand.specs.declared.step.Known.TheVariants as known;
 ghost use Rattle.dx_graph.specs.declared.node.Input.{Input};
 ghost use Rattle.dx_demand.specs.Forming.{formings, input_forms, port_forms, SeenFormed};
@@ -81,6 +82,7 @@ fn resolved(settled: Settled) -> Resolved
     ensures right { (nodes : _) (terms : _) → shown_resolved nodes terms result ≡ shown nodes terms settled }
     ensures fits { (nodes : _) (terms : _) (given : _) (m : _) → SettledFits nodes terms settled → ResolvedFits nodes terms given m result }
     ensures found { (l : _) (terms : _) (first : _) → SettledFound l terms first settled → ResolvedFound l terms first result }
+    ensures halts { (s : Sight) (nodes : List Node) (i : Input) → HaltsAt s nodes i result }
     ensures valued { (answers : Answers) (i : Input) → KnownValued answers i (known.Settled settled) → ResolvedValued answers i result }
 {
     match settled {
@@ -110,6 +112,7 @@ pub fn resolve<G: Given>(
     ensures goes_on { OnOk result (GoesOn tags.old tags.new) }
     ensures seen { OnOk result (SeenFits (graph_of g.now).nodes tags.new seen.new) }
     ensures kept { OnOk result (KeepsSelectors seen.old.memo seen.new.memo) }
+    ensures answers { OnOk result (KeepsAnswers (answers_of seen.old.memo) (answers_of seen.new.memo)) }
     ensures fits { IfOk result (λ r. ResolvedFits (graph_of g.now).nodes tags.new (G.told given.now) seen.new.memo r) }
     ensures seen_right { (s : Sight) → Sees (G.told given.now) links.now.links written.now.files tags.new s → SeenRight s (graph_of g.now).nodes tags.old seen.old → OnOk result (SeenRight s (graph_of g.now).nodes tags.new seen.new) }
     ensures right { (s : Sight) → Sees (G.told given.now) links.now.links written.now.files tags.new s → SeenRight s (graph_of g.now).nodes tags.old seen.old → IfOk result (λ r. input_scan s (graph_of g.now).nodes i.now ≡ shown_resolved (graph_of g.now).nodes tags.new r) }
@@ -120,6 +123,7 @@ pub fn resolve<G: Given>(
     ensures forms { (s : Sight) → Sees (G.told given.now) links.now.links written.now.files tags.new s → SeenRight s (graph_of g.now).nodes tags.old seen.old → SeenFormed s (graph_of g.now).nodes tags.old seen.old → OnOk result (formings (graph_of g.now).nodes tags.new seen.new.memo ≡ after (input_forms s (graph_of g.now).nodes i.now) (formings (graph_of g.now).nodes tags.old seen.old.memo)) }
     ensures seen_met { (s : Sight) → Sees (G.told given.now) links.now.links written.now.files tags.new s → SeenRight s (graph_of g.now).nodes tags.old seen.old → SeenMet s (graph_of g.now).nodes seen.old → OnOk result (SeenMet s (graph_of g.now).nodes seen.new) }
     ensures valued { IfOk result (λ r. ResolvedValued (answers_of seen.new.memo) i.now r) }
+    ensures halted { (s : Sight) → Sees (G.told given.now) links.now.links written.now.files tags.new s → SeenRight s (graph_of g.now).nodes tags.old seen.old → IfOk result (λ r. HaltsAt s (graph_of g.now).nodes i.now r) }
 {
     match i {
         Input::Constant(c) => {
@@ -154,6 +158,7 @@ fn resolve_port<G: Given>(
     ensures goes_on { OnOk result (GoesOn tags.old tags.new) }
     ensures seen { OnOk result (SeenFits (graph_of g.now).nodes tags.new seen.new) }
     ensures kept { OnOk result (KeepsSelectors seen.old.memo seen.new.memo) }
+    ensures answers { OnOk result (KeepsAnswers (answers_of seen.old.memo) (answers_of seen.new.memo)) }
     ensures fits { IfOk result (λ r. ResolvedFits (graph_of g.now).nodes tags.new (G.told given.now) seen.new.memo r) }
     ensures seen_right { (s : Sight) → Sees (G.told given.now) links.now.links written.now.files tags.new s → SeenRight s (graph_of g.now).nodes tags.old seen.old → OnOk result (SeenRight s (graph_of g.now).nodes tags.new seen.new) }
     ensures right { (s : Sight) → Sees (G.told given.now) links.now.links written.now.files tags.new s → SeenRight s (graph_of g.now).nodes tags.old seen.old → IfOk result (λ r. port_scan s (graph_of g.now).nodes root ≡ shown_resolved (graph_of g.now).nodes tags.new r) }
@@ -164,6 +169,7 @@ fn resolve_port<G: Given>(
     ensures forms { (s : Sight) → Sees (G.told given.now) links.now.links written.now.files tags.new s → SeenRight s (graph_of g.now).nodes tags.old seen.old → SeenFormed s (graph_of g.now).nodes tags.old seen.old → OnOk result (formings (graph_of g.now).nodes tags.new seen.new.memo ≡ after (port_forms s (graph_of g.now).nodes root) (formings (graph_of g.now).nodes tags.old seen.old.memo)) }
     ensures seen_met { (s : Sight) → Sees (G.told given.now) links.now.links written.now.files tags.new s → SeenRight s (graph_of g.now).nodes tags.old seen.old → SeenMet s (graph_of g.now).nodes seen.old → OnOk result (SeenMet s (graph_of g.now).nodes seen.new) }
     ensures valued { IfOk result (λ r. ResolvedValued (answers_of seen.new.memo) (input_at root) r) }
+    ensures halted { (s : Sight) → Sees (G.told given.now) links.now.links written.now.files tags.new s → SeenRight s (graph_of g.now).nodes tags.old seen.old → IfOk result (λ r. HaltsAt s (graph_of g.now).nodes (input_at root) r) }
 {
     match seen.memo.answer(root) {
         Some(a) => Ok(resolved(a.settled)),
@@ -191,6 +197,7 @@ fn settle_port<G: Given>(
     ensures goes_on { OnOk result (GoesOn tags.old tags.new) }
     ensures seen { OnOk result (SeenFits (graph_of g.now).nodes tags.new seen.new) }
     ensures kept { OnOk result (KeepsSelectors seen.old.memo seen.new.memo) }
+    ensures answers { OnOk result (KeepsAnswers (answers_of seen.old.memo) (answers_of seen.new.memo)) }
     ensures fits { IfOk result (λ r. ResolvedFits (graph_of g.now).nodes tags.new (G.told given.now) seen.new.memo r) }
     ensures seen_right { (s : Sight) → Sees (G.told given.now) links.now.links written.now.files tags.new s → SeenRight s (graph_of g.now).nodes tags.old seen.old → OnOk result (SeenRight s (graph_of g.now).nodes tags.new seen.new) }
     ensures right { (s : Sight) → Sees (G.told given.now) links.now.links written.now.files tags.new s → SeenRight s (graph_of g.now).nodes tags.old seen.old → IfOk result (λ r. port_scan s (graph_of g.now).nodes root ≡ shown_resolved (graph_of g.now).nodes tags.new r) }
@@ -201,6 +208,7 @@ fn settle_port<G: Given>(
     ensures forms { (s : Sight) → Sees (G.told given.now) links.now.links written.now.files tags.new s → SeenRight s (graph_of g.now).nodes tags.old seen.old → SeenFormed s (graph_of g.now).nodes tags.old seen.old → OnOk result (formings (graph_of g.now).nodes tags.new seen.new.memo ≡ after (port_forms s (graph_of g.now).nodes root) (formings (graph_of g.now).nodes tags.old seen.old.memo)) }
     ensures seen_met { (s : Sight) → Sees (G.told given.now) links.now.links written.now.files tags.new s → SeenRight s (graph_of g.now).nodes tags.old seen.old → SeenMet s (graph_of g.now).nodes seen.old → OnOk result (SeenMet s (graph_of g.now).nodes seen.new) }
     ensures valued { IfOk result (λ r. ResolvedValued (answers_of seen.new.memo) (input_at root) r) }
+    ensures halted { (s : Sight) → Sees (G.told given.now) links.now.links written.now.files tags.new s → SeenRight s (graph_of g.now).nodes tags.old seen.old → IfOk result (λ r. HaltsAt s (graph_of g.now).nodes (input_at root) r) }
 {
     let mut top = top_of(alloc, &mut seen.stack, root);
     'steps: loop {

@@ -27,7 +27,7 @@ ghost use Rattle.dx_demand.specs.Forming.{named_terms, formings, with_own, IsCal
 ghost use Rattle.dx_demand.specs.Picked.{LinksFit};
 ghost use Rattle.dx_demand.specs.Found.{NeedsNoCall, Kept, AllFound, ArgumentsFound, MemoFound, KnownFound, StepFound, SelectionFound};
 ghost use Rattle.dx_links.specs.LinkMap.{LinkMap};
-ghost use Rattle.dx_demand.specs.Steps.{Holds, Tells, Wrote, Sees, IsPicking, KnownFits, KnownRight, StepFits, StepRight, SelectionFits, SelectionRight, KeepsSelectors};
+ghost use Rattle.dx_demand.specs.Steps.{Holds, Tells, Wrote, Sees, IsPicking, KnownFits, KnownRight, StepFits, StepRight, TakesAll, TakesInput, TakesPick, SelectionFits, SelectionRight, KeepsSelectors};
 
 use crate::given::Given;
 use crate::pick::{Pick, pick_of};
@@ -246,7 +246,7 @@ fn module_step(
     ensures begins { (s : Sight) → MemoRight s (graph_of g.now).nodes tags.old memo.old → Begins (heads_of tags.old) (node_scans s (graph_of g.now).nodes port.node) arguments.old →
         OnOk result (Begins (heads_of tags.new) (node_scans s (graph_of g.now).nodes port.node) arguments.new) }
     ensures right { (s : Sight) → MemoRight s (graph_of g.now).nodes tags.old memo.old → Begins (heads_of tags.old) (node_scans s (graph_of g.now).nodes port.node) arguments.old →
-        ((s' : Sight) → More s s' → port_scan s' (graph_of g.now).nodes port ≡ call_scanned called file port.result (all_scanned (node_scans s' (graph_of g.now).nodes port.node))) →
+        TakesAll s (graph_of g.now).nodes port called file →
         IfOk result (λ x. StepRight s (graph_of g.now).nodes tags.new port x) }
     ensures first { OnOk result (Kept (formed_of memo.old) (formed_of memo.new)) }
     ensures memo_found { (l : LinkMap) → MemoFound l tags.old memo.old → AllFound l tags.old (formed_of memo.old) arguments.old → OnOk result (MemoFound l tags.new memo.new) }
@@ -289,7 +289,7 @@ fn chosen(g: &Graph, port: Port, k: usize, tags: &mut Tags, memo: &Memo) -> Resu
     ensures goes_on { OnOk result (GoesOn tags.old tags.new) }
     ensures fits { (given : ValueTag → Option Value) → IfOk result (λ x. StepFits (graph_of g.now).nodes tags.new given memo.now port x) }
     ensures right { (s : Sight) → MemoRight s (graph_of g.now).nodes tags.old memo.now →
-        ((s' : Sight) → More s s' → port_scan s' (graph_of g.now).nodes port ≡ scanned_at (node_scans s' (graph_of g.now).nodes port.node) k) →
+        TakesInput s (graph_of g.now).nodes port k →
         IfOk result (λ x. StepRight s (graph_of g.now).nodes tags.new port x) }
     ensures found { (l : LinkMap) → MemoFound l tags.old memo.now → IfOk result (λ x. StepFound l tags.new (formed_of memo.now) x) }
     ensures forms { (s : Sight) → MemoFormed s (graph_of g.now).nodes tags.old memo.now → HasFront s (graph_of g.now).nodes (formings (graph_of g.now).nodes tags.old memo.now) port (input_part (graph_of g.now).nodes port k) →
@@ -400,7 +400,7 @@ fn picked(
     ensures goes_on { OnOk result (GoesOn tags.old tags.new) }
     ensures fits { (given : ValueTag → Option Value) → IfOk result (λ x. StepFits (graph_of g.now).nodes tags.new given memo.now port x) }
     ensures right { (s : Sight) → Holds links.now.links tags.new s → MemoRight s (graph_of g.now).nodes tags.old memo.now →
-        ((s' : Sight) → More s s' → port_scan s' (graph_of g.now).nodes port ≡ picked_scanned (node_at (graph_of g.now).nodes port.node).place (node_scans s' (graph_of g.now).nodes port.node) (plain.pick (terms_in s') (node_at (graph_of g.now).nodes port.node).what (node_at (graph_of g.now).nodes port.node).place port.result (value_behind v.entry))) →
+        TakesPick s (graph_of g.now).nodes port (value_behind v.entry) →
         IfOk result (λ x. StepRight s (graph_of g.now).nodes tags.new port x) }
     ensures found { MemoFound links.now.links tags.old memo.now → IfOk result (λ x. StepFound links.now.links tags.new (formed_of memo.now) x) }
     ensures forms { (s : Sight) → MemoFormed s (graph_of g.now).nodes tags.old memo.now →

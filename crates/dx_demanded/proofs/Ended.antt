@@ -21,7 +21,8 @@ use Rattle.dx_performing.specs.Meant.{IsHalted, Means, LinksRight}
 use Rattle.dx_performing.proofs.Executed.{names_of, full, denote}
 use Rattle.dx_performing.proofs.Meant.{all_means, all_agree}
 use Rattle.dx_demanded.specs.Found.{GotFinds}
-use Rattle.dx_demanded.specs.Halted.{HaltedGot, halted_all}
+use Rattle.dx_meaning.specs.Halted.{halted_all}
+use Rattle.dx_demanded.specs.Halted.{HaltedGot}
 use Rattle.dx_demanded.specs.Ended.{ArgumentsEnd, SelectorEnds, EndsAsMeant, EffectsEndAsMeant}
 use Rattle.dx_demanded.proofs.Got.{gettings_find}
 use Rattle.dx_demanded.proofs.HaltsGot.{halted_gettings_find}

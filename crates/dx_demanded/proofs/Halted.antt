@@ -26,7 +26,8 @@ use Rattle.dx_performing.specs.Meant.{IsFull, IsHalted, Means}
 use Rattle.dx_performing.proofs.Executed.{full}
 use Rattle.dx_performing.proofs.Meant.{tree_means}
 use Rattle.dx_demanded.specs.Found.{AreLinks, RefusesAt, Finds}
-use Rattle.dx_demanded.specs.Halted.{halted_beside, all_halted, selected_halted, picking_halted, module_halted, rule_halted, halted_met, each_halted, halted_all, SelectorRefuses, HaltFinds, HaltsAreFound}
+use Rattle.dx_meaning.specs.Halted.{halted_beside, all_halted, selected_halted, picking_halted, module_halted, rule_halted, halted_met, each_halted, halted_all}
+use Rattle.dx_demanded.specs.Halted.{SelectorRefuses, HaltFinds, HaltsAreFound}
 use Rattle.dx_demanded.proofs.Picks.{PickNeeds, switch_needs, route_needs, get_needs}
 use Rattle.dx_demanded.proofs.Seeing.{same_shelf, told_none, told_some}
 use Rattle.dx_demanded.proofs.Trees.{tree_needs}

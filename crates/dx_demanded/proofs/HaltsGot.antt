@@ -19,7 +19,8 @@ use Rattle.dx_performing.specs.Meant.{Means}
 use Rattle.dx_performing.proofs.Executed.{names_of, full}
 use Rattle.dx_performing.proofs.Meant.{all_means}
 use Rattle.dx_demanded.specs.Found.{StandsAt, RefusesAt}
-use Rattle.dx_demanded.specs.Halted.{SelectorRefuses, HaltFinds, HaltedGot, HaltedGettingsFind, halted_all}
+use Rattle.dx_meaning.specs.Halted.{halted_all}
+use Rattle.dx_demanded.specs.Halted.{SelectorRefuses, HaltFinds, HaltedGot, HaltedGettingsFind}
 use Rattle.dx_demanded.proofs.Ends.{EndsAs, term_ends}
 use Rattle.dx_demanded.proofs.Halted.{all_halts}
 use Rattle.dx_demanded.proofs.HaltsStay.{HaltKeep, halts_stay}

@@ -15,7 +15,7 @@ use Rattle.dx_meaning.specs.Scan.{Sight, IsOff, Stops, Needs, Scanned, Forms, En
 use Rattle.dx_meaning.specs.Met.{Called, met_at, picked_met, effect_met, met, each_met}
 use Rattle.dx_meaning.proofs.Keeping.{scan_keeps, same_terms, same_file}
 use Rattle.dx_meaning.proofs.MetStaying.{MetKeep, beside_forms, met_keeps}
-use Rattle.dx_demanded.specs.Halted.{halted_beside, all_halted, told_halted, selected_halted, picking_halted, module_halted, rule_halted, halted_met, each_halted, halted_all}
+use Rattle.dx_meaning.specs.Halted.{halted_beside, all_halted, told_halted, selected_halted, picking_halted, module_halted, rule_halted, halted_met, each_halted, halted_all}
 
 -- ---- where each argument forms a term, the same calls are met
 

@@ -16,7 +16,7 @@ use Rattle.dx_performing.specs.Kept.{Kept}
 use Rattle.dx_performing.specs.Course.{Fixed, around_of, world_of, sight_of, frame_with}
 use Rattle.dx_performing.specs.Meant.{LinksRight}
 use Rattle.dx_demanded.specs.Found.{StandsAt}
-use Rattle.dx_demanded.specs.Halted.{halted_all}
+use Rattle.dx_meaning.specs.Halted.{halted_all}
 
 -- the arguments have the values that their terms denote, or the error is that of the first call with the refused term
 abbrev pub ArgumentsEnd : Around → Decided Values → List Called → ValueTerms → Got → Type 0

@@ -4,3 +4,4 @@ pub mod NodeInputs
 pub mod AllGot
 pub mod ValuesCome
 pub mod WholeEffect
+pub mod Settled

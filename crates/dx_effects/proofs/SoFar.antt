@@ -152,7 +152,7 @@ module _ (setup : Setup) (x : Fixed) (k : Kept) (base : Told) where
         (cut_on base now' (get_all frame (as_terms (selectors (sight_of x k) t)) r.state) frame (as_terms front.0) (looks r.state r.stands later (next_same later same)))
 
     -- somewhere it stands
-    somewhere : (s' : State) × StandsAt setup x k base at now s' so.formings
+    pub somewhere : (s' : State) × StandsAt setup x k base at now s' so.formings
     somewhere = let r = so.gets (formed_calls (after (look whole).forms f)) (same_itself (formed_calls (after (look whole).forms f))) in (r.state, r.stands)
 
     pub takes : (u : ValueTag) → GoesOn at.tags at'.tags → AreEarlier (heads_of at.tags) (length at.tags) ts → ((s' : State) → StandsAt setup x k base at now s' so.formings → LooksSo setup x k base t s' so.formings (Ok (one.Value u)) at' now') → SoFar whole rest s f (ts ++ u ∷ []) at' now'
@@ -186,7 +186,7 @@ module _ (setup : Setup) (x : Fixed) (k : Kept) (base : Told) where
         }
 
     -- the next ends it
-    ended_scans : (e : Stop) → scan (sight_of x k) t ≡ Ends e → (look whole).terms ≡ Ends e
+    pub ended_scans : (e : Stop) → scan (sight_of x k) t ≡ Ends e → (look whole).terms ≡ Ends e
     ended_scans e scans =
         so.scans
         ∙ ap (λ y. ahead (value_terms (heads_of at.tags) ts) (scanned_beside y (look rest).terms)) scans

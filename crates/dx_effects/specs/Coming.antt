@@ -11,14 +11,18 @@ use Rattle.dx_machine.specs.Machine.{Frame, State, Got, get_all}
 use Rattle.dx_getting.specs.Told.{Told}
 use Rattle.dx_getting.specs.declared.fail.GetFail.{GetFail}
 use Rattle.dx_getting.specs.declared.fail.GetFail.TheVariants as fail
-use Rattle.dx_meaning.specs.Scan.{IsOff, Stops, Needs, Scanned, Forms, Ends}
+use Rattle.dx_meaning.specs.Scan.{IsOff, Stops, Needs, Scanned, Forms, Ends, Sight, scan_each, all_scanned}
+use Rattle.dx_meaning.specs.Halted.{halted_all}
 use Rattle.dx_meaning.specs.Forming.{Formings, after}
 use Rattle.dx_demand.specs.Terms.{AreArguments}
-use Rattle.dx_demand.specs.Memo.{formed_of, selector_of, site_of}
+use Rattle.dx_graph.specs.declared.node.Input.{Input}
+use Rattle.dx_demand.specs.Memo.{Answers, formed_of, selector_of, site_of}
+use Rattle.dx_demand.specs.Calling.{AreValued}
+use Rattle.dx_demand.specs.Halting.{selector_calls}
 use Rattle.dx_demand.specs.Found.{AllFound}
 use Rattle.dx_performing.specs.Course.{Fixed, HasValues, IsRefused, around_of, sight_of, look_at, effect_got, came}
 use Rattle.dx_performing.specs.Kept.{Kept}
-use Rattle.dx_looking.specs.Setting.{nodes_in}
+use Rattle.dx_looking.specs.Setting.{nodes_in, sight_in}
 use Rattle.dx_looking.specs.Looking.{StandsAt, HoweverFormed, GoesTo, StopsAt, IsCutIn}
 use Rattle.dx_looking.specs.declared.cut.Cut.{Cut}
 use Rattle.dx_looking.specs.declared.cut.Cut.TheVariants.{ReadFault, Memory}
@@ -39,6 +43,22 @@ ArgumentsFit setup count at arguments.Off = Unit {0}
 ArgumentsFit setup count at (arguments.Halt n code) = n < length (nodes_in setup)
 ArgumentsFit setup count at (arguments.SelectorRefused n r) = (n < length (nodes_in setup)) × ((t : ValueTag) × (selector_of at.seen.memo n ≡ Some t))
 ArgumentsFit setup count at (arguments.Refused r) = Unit {0}
+
+-- where all have terms, they are settled with values
+abbrev pub ArgumentsValued : Answers → List Input → Arguments → Type 0
+ArgumentsValued answers inputs (arguments.Values ts vs) = AreValued answers inputs (length inputs)
+ArgumentsValued answers inputs arguments.Off = Unit {0}
+ArgumentsValued answers inputs (arguments.Halt n code) = Unit {0}
+ArgumentsValued answers inputs (arguments.SelectorRefused n r) = Unit {0}
+ArgumentsValued answers inputs (arguments.Refused r) = AreValued answers inputs (length inputs)
+
+-- where a selector is refused, looking by what is told stops at that of this node
+abbrev pub ArgumentsHalted : Sight → List Node → Trees → Arguments → Type 0
+ArgumentsHalted s nodes ts (arguments.Values terms vs) = Unit {0}
+ArgumentsHalted s nodes ts arguments.Off = Unit {0}
+ArgumentsHalted s nodes ts (arguments.Halt n code) = Unit {0}
+ArgumentsHalted s nodes ts (arguments.SelectorRefused n r) = ((t : ValueTerm) × (all_scanned (scan_each s ts) ≡ Ends (Needs (site_of nodes n) t))) × (halted_all s ts ≡ selector_calls s nodes n)
+ArgumentsHalted s nodes ts (arguments.Refused r) = Unit {0}
 
 -- what looking by all values came to, and whether each term denotes a value
 abbrev pub MeanSo : Around → List Node → List Term → Arguments → Scanned ValueTerms → Type 0
@@ -68,6 +88,15 @@ abbrev pub ArgumentsSo : Setup → Fixed → Kept → Told → Trees → State �
 ArgumentsSo setup x k base ts s f r at now =
     let looked = look_at (sight_of x k) ts in
     ComeSo setup x k base looked.terms (after looked.forms f) (λ frame. effect_got frame looked s) r at now
+
+-- a selector that is refused is needed by all values as it is by what is told
+abbrev pub ArgumentsAlike : Setup → Fixed → Kept → Trees → Result Arguments Cut → Progress → Type 0
+ArgumentsAlike setup x k ts (Ok (arguments.SelectorRefused m r)) at = all_scanned (scan_each (sight_of x k) ts) ≡ all_scanned (scan_each (sight_in setup at) ts)
+ArgumentsAlike setup x k ts (Ok (arguments.Values us vs)) at = Unit {0}
+ArgumentsAlike setup x k ts (Ok arguments.Off) at = Unit {0}
+ArgumentsAlike setup x k ts (Ok (arguments.Halt m code)) at = Unit {0}
+ArgumentsAlike setup x k ts (Ok (arguments.Refused r)) at = Unit {0}
+ArgumentsAlike setup x k ts (Err cut) at = Unit {0}
 
 -- some terms that were formed
 abbrev pub TermsSo : Setup → Fixed → Kept → Told → ValueTerms → State → Formings → Result Arguments Cut → Progress → Told → Type 0

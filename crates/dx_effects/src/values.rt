@@ -1,14 +1,17 @@
 //! Getting the values of terms that were formed.
-ghost use Rattle.std.specs.Prelude.{◌≡◌, length, OnOk, IfOk};
+ghost use Rattle.std.specs.Prelude.{◌≡◌, List, length, OnOk, IfOk};
 ghost use Rattle.dx_io.specs.Devices.{Cause};
+ghost use Rattle.dx_macros.specs.Tree.{Trees};
+ghost use Rattle.dx_graph.specs.Graph.{Node};
 ghost use Rattle.dx_tags.specs.Closed.{heads_of, value_terms};
+ghost use Rattle.dx_meaning.specs.Scan.{Sight};
 ghost use Rattle.dx_getting.specs.Told.{told};
 ghost use Rattle.dx_demand.specs.Terms.{AreArguments};
 ghost use Rattle.dx_demand.specs.Memo.{formed_of};
 ghost use Rattle.dx_demand.specs.Found.{AllFound};
 ghost use Rattle.dx_looking.specs.Looking.{IsLooking, FromHere};
 ghost use Rattle.dx_looking.specs.declared.cut.Cut.TheVariants.{ReadFault};
-ghost use Rattle.dx_effects.specs.Coming.{ArgumentsFit, TermsSo};
+ghost use Rattle.dx_effects.specs.Coming.{ArgumentsFit, ArgumentsHalted, TermsSo};
 
 use crate::came::{Arguments, came_of};
 use dx_getting::{Scene, get_all};
@@ -35,6 +38,7 @@ pub(crate) fn got_values<F: Files, L: Library>(
     ensures seen { at.new.seen ≡ at.old.seen }
     ensures looking { OnOk result (IsLooking setup.now at.new) }
     ensures fits { IfOk result (λ how. ArgumentsFit setup.now (length terms) at.new how) }
+    ensures looked { (s : Sight) (nodes : List Node) (ts : Trees) → IfOk result (λ how. ArgumentsHalted s nodes ts how) }
     ensures comes { FromHere setup.now L.answer (F.content files.old) at.old (told (L.done lib.old) (F.asked files.old)) (λ x k base s f. TermsSo setup.now x k base (value_terms (heads_of at.old.tags) terms) s f result at.new (told (L.done lib.new) (F.asked files.new))) }
 {
     let scene = Scene {

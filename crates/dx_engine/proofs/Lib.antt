@@ -5,3 +5,8 @@ pub mod FitsBehind
 pub mod SoundBehind
 pub mod Finished
 pub mod LeftBehind
+pub mod Stopped
+pub mod Acting
+pub mod Valued
+pub mod Performed
+pub mod Performs

@@ -6,3 +6,4 @@ pub mod Keeping
 pub mod Beginning
 pub mod Leaving
 pub mod Ending
+pub mod Answering

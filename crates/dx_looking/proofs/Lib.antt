@@ -10,3 +10,4 @@ pub mod Growth
 pub mod Ways
 pub mod Resolved
 pub mod Counting
+pub mod Arguments

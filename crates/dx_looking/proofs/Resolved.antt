@@ -1,7 +1,7 @@
 -- What is kept behind a resolve, by what is told.
 use Rattle.std.proofs.Common.{◌≡◌, List, sym, ap₂, subst}
 use Rattle.dx_tags.specs.declared.term.Term.{Term}
-use Rattle.dx_tags.specs.Closed.{GoesOn}
+use Rattle.dx_tags.specs.Closed.{GoesOn, heads_of}
 use Rattle.dx_demand.specs.declared.seen.Seen.{Seen}
 use Rattle.dx_demand.specs.Terms.{AreExact}
 use Rattle.dx_demand.specs.Found.{IsClosed}
@@ -9,7 +9,8 @@ use Rattle.dx_demand.specs.Forming.{SeenFormed}
 use Rattle.dx_demand.specs.Calling.{SeenMet}
 use Rattle.dx_demand.specs.Steps.{Sees, SeenFits, SeenRight}
 use Rattle.dx_demand.proofs.Growing.{links_fit_grows}
-use Rattle.dx_looking.specs.Setting.{nodes_in, told_sight, sight_in}
+use Rattle.dx_looking.specs.ToldTags.{ToldTags}
+use Rattle.dx_looking.specs.Setting.{nodes_in, links_of, told_terms, told_sight, sight_in}
 use Rattle.dx_looking.specs.Looking.{IsLooking}
 use Rattle.dx_looking.specs.declared.setup.Setup.{Setup}
 use Rattle.dx_looking.specs.declared.progress.Progress.{Progress}
@@ -50,3 +51,7 @@ module _ (setup : Setup) (at : Progress) (new : List Term) (seen : Seen) (l : Is
     formed = formed;
     met = met;
   }
+
+-- by the same terms and values one sees the same
+pub sight_stays : (setup : Setup) (a b : Progress) → b.tags ≡ a.tags → b.told ≡ a.told → sight_in setup b ≡ sight_in setup a
+sight_stays setup a b e f = ap₂ (λ (terms : List Term) (told : ToldTags). told_sight (links_of (heads_of terms) setup.links.now.links) setup.written.now.files (told_terms (heads_of terms) told)) e f

@@ -41,7 +41,7 @@ use Rattle.dx_performing.specs.Selectors.{selectors}
 use Rattle.dx_performing.proofs.Resumed.{looking_resumes}
 use Rattle.dx_resuming.proofs.Halted.{halts_alike}
 use Rattle.dx_looking.specs.Setting.{TermValues, nodes_in, told_terms, sight_in, setting_in, fixed}
-use Rattle.dx_looking.specs.Looking.{IsLooking, AllDenote, AllReady, StandsAt, FromHere, HoweverFormed, GoesTo, StopsAt, IsCutIn, LooksSo, TellsSo}
+use Rattle.dx_looking.specs.Looking.{IsLooking, AllDenote, AllReady, StandsAt, FromHere, HoweverFormed, GoesTo, StopsAt, IsCutIn, LooksSo, NeedsAlike, TellsSo}
 use Rattle.dx_looking.specs.declared.cut.Cut.{Cut}
 use Rattle.dx_looking.specs.declared.looked.Looked.{Looked}
 use Rattle.dx_looking.specs.declared.looked.Looked.TheVariants as looked
@@ -142,6 +142,11 @@ use_here setup answer content at now P h n e map ec =
 -- to form it again changes nothing
 pub formed_once : (s : Sight) (t : Tree) (was now : Formings) → now ≡ after (forms s t) was → after (forms s t) now ≡ now
 formed_once s t was now e = ap (after (forms s t)) e ∙ forms_once s s (more_itself s) t was ∙ sym e
+
+-- what was cut short needs nothing
+pub cut_alike : (setup : Setup) (x : Fixed) (k : Kept) (t : Tree) (r : Result Looked Cut) → IsErr r → (at : Progress) → NeedsAlike setup x k t r at
+cut_alike setup x k t (Ok how) e at = absurd (true≢false (sym e))
+cut_alike setup x k t (Err cut) e at = tt
 
 -- ---- the ends
 
@@ -257,13 +262,24 @@ module _ (setup : Setup) (x : Fixed) (k : Kept) (base : Told) (t : Tree) (s : St
   pub told_on : (at' : Progress) (now' : Told) → HoweverFormed x k w.formed (λ frame. TellsSo setup x k base tag (get frame term w.state) w.formed (Ok None) at' now') → OnTheWay setup x k base t s f at' now'
   told_on at' now' h = went_by at' now' (get (frame_with x k (formed_calls w.formed)) term w.state) refl (h (formed_calls w.formed) (same_itself (formed_calls w.formed)))
 
+  -- what is refused isn't told by all values either
+  still_needed : (r : Refusal) (at' : Progress) (now' : Told) → at'.tags ≡ at.tags → HoweverFormed x k w.formed (λ frame. TellsSo setup x k base tag (get frame term w.state) w.formed (Ok (Some r)) at' now') →
+      (scan in_full t ≡ Ends (Needs (site_of (nodes_in setup) n) term)) × (forms in_full t ≡ forms told_now t)
+  still_needed r at' now' et h =
+      let own = h (formed_calls w.formed) (same_itself (formed_calls w.formed)) in
+      subst (λ y. HaltKept in_full y (scan in_full t) (forms told_now t) (forms in_full t)) needs (halts_alike told_now in_full (told_in_full setup x k base at now w.state w.formed w.stands) t)
+      (no_value (denotes (around_of x k) term) r.code (subst (λ ts. denotes (around_of x k) (value_term (heads_of ts) tag) ≡ Err r.code) et own.1))
+
+  pub refused_alike : (r : Refusal) (at' : Progress) (now' : Told) → at'.tags ≡ at.tags → sight_in setup at' ≡ sight_in setup at → HoweverFormed x k w.formed (λ frame. TellsSo setup x k base tag (get frame term w.state) w.formed (Ok (Some r)) at' now') →
+      NeedsAlike setup x k t (Ok (looked.Refused n r)) at'
+  refused_alike r at' now' et es h = (still_needed r at' now' et h).0 ∙ sym needs ∙ ap (λ y. scan y t) (sym es)
+
   -- it was refused
   pub refused_at : after (forms told_now t) w.formed ≡ w.formed → (r : Refusal) (at' : Progress) (now' : Told) → at'.tags ≡ at.tags → HoweverFormed x k w.formed (λ frame. TellsSo setup x k base tag (get frame term w.state) w.formed (Ok (Some r)) at' now') →
       LooksSo setup x k base t s f (Ok (looked.Refused n r)) at' now'
   refused_at d r at' now' et h =
       let own = h (formed_calls w.formed) (same_itself (formed_calls w.formed)) in
-      let halts = subst (λ y. HaltKept in_full y (scan in_full t) (forms told_now t) (forms in_full t)) needs (halts_alike told_now in_full (told_in_full setup x k base at now w.state w.formed w.stands) t)
-      (no_value (denotes (around_of x k) term) r.code (subst (λ ts. denotes (around_of x k) (value_term (heads_of ts) tag) ≡ Err r.code) et own.1)) in
+      let halts = still_needed r at' now' et h in
       let formed : w.formed ≡ after (forms in_full t) f = sym d ∙ ap (λ fs. after fs w.formed) (sym halts.1) ∙ w.same in (
         (term, halts.0),
         λ later same.

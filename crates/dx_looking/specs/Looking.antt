@@ -15,14 +15,16 @@ use Rattle.dx_machine.specs.Sound.{IsSound}
 use Rattle.dx_getting.specs.Told.{Told, AddsSome}
 use Rattle.dx_getting.specs.Stands.{Answers, IsCall, Stands, call_at, world}
 use Rattle.dx_getting.specs.Steps.{AreCalls}
-use Rattle.dx_meaning.specs.Scan.{IsOff, Stops, Needs, Scanned, Forms, Ends, scan}
+use Rattle.dx_meaning.specs.Scan.{Sight, IsOff, Stops, Needs, Scanned, Forms, Ends, scan}
 use Rattle.dx_meaning.specs.Forming.{Formings, forms, after}
 use Rattle.dx_demand.specs.Terms.{AreExact, IsValue}
 use Rattle.dx_demand.specs.Memo.{formed_of, selector_of, site_of}
 use Rattle.dx_demand.specs.Picked.{LinksFit}
 use Rattle.dx_demand.specs.Found.{IsFound, IsClosed}
 use Rattle.dx_demand.specs.Forming.{SeenFormed, formings}
-use Rattle.dx_demand.specs.Calling.{SeenMet}
+use Rattle.dx_demand.specs.Calling.{SeenMet, IsValued}
+use Rattle.dx_demand.specs.Halting.{input_halted, selector_calls}
+use Rattle.dx_demand.specs.Memo as memo
 use Rattle.dx_demand.specs.Steps.{SeenFits, SeenRight}
 use Rattle.dx_performing.specs.Alike.{SameCalls}
 use Rattle.dx_performing.specs.Course.{Fixed, sight_of, around_of, frame_with, formed_calls, as_terms}
@@ -134,6 +136,28 @@ LookedFits setup at (looked.Value t) = IsValue at.tags t × IsFound setup.links.
 LookedFits setup at looked.Off = Unit {0}
 LookedFits setup at (looked.Halt n code) = n < length (nodes_in setup)
 LookedFits setup at (looked.Refused n r) = (n < length (nodes_in setup)) × ((t : ValueTag) × (selector_of at.seen.memo n ≡ Some t))
+
+-- what comes to a value is settled
+abbrev pub LookedValued : memo.Answers → Input → Looked → Type 0
+LookedValued answers i (looked.Value t) = IsValued answers i
+LookedValued answers i looked.Off = Unit {0}
+LookedValued answers i (looked.Halt n code) = Unit {0}
+LookedValued answers i (looked.Refused n r) = Unit {0}
+
+-- where a selector is refused, looking stops at that of this node
+abbrev pub LookedHalted : Sight → List Node → Input → Looked → Type 0
+LookedHalted s nodes i (looked.Value t) = Unit {0}
+LookedHalted s nodes i looked.Off = Unit {0}
+LookedHalted s nodes i (looked.Halt n code) = Unit {0}
+LookedHalted s nodes i (looked.Refused n r) = input_halted s nodes i ≡ selector_calls s nodes n
+
+-- a selector that is refused is needed by all values as it is by what is told
+abbrev pub NeedsAlike : Setup → Fixed → Kept → Tree → Result Looked Cut → Progress → Type 0
+NeedsAlike setup x k t (Ok (looked.Refused n r)) at = scan (sight_of x k) t ≡ scan (sight_in setup at) t
+NeedsAlike setup x k t (Ok (looked.Value u)) at = Unit {0}
+NeedsAlike setup x k t (Ok looked.Off) at = Unit {0}
+NeedsAlike setup x k t (Ok (looked.Halt n code)) at = Unit {0}
+NeedsAlike setup x k t (Err cut) at = Unit {0}
 
 -- ---- getting one selector
 

@@ -3,11 +3,12 @@ ghost use Rattle.std.specs.Prelude.{◌≡◌, length, OnOk, IfOk};
 ghost use Rattle.dx_io.specs.Devices.{Cause};
 ghost use Rattle.dx_graph.specs.Graph.{MayTake};
 ghost use Rattle.dx_tags.specs.Closed.{GoesOn};
+ghost use Rattle.dx_meaning.specs.Scan.{scan};
+ghost use Rattle.dx_demand.specs.Memo.{KeepsAnswers, answers_of, formed_of};
 ghost use Rattle.dx_getting.specs.Told.{told};
-ghost use Rattle.dx_demand.specs.Memo.{formed_of};
+ghost use Rattle.dx_looking.specs.Setting.{nodes_in, sight_in};
 ghost use Rattle.dx_demand.specs.Found.{Kept};
-ghost use Rattle.dx_looking.specs.Setting.{nodes_in};
-ghost use Rattle.dx_looking.specs.Looking.{IsLooking, FromHere, LookedFits, LooksSo, input_tree};
+ghost use Rattle.dx_looking.specs.Looking.{IsLooking, FromHere, LookedFits, LookedValued, LookedHalted, LooksSo, NeedsAlike, ScansTo, input_tree};
 ghost use Rattle.dx_looking.specs.declared.cut.Cut.TheVariants.{ReadFault};
 
 use crate::cut::Cut;
@@ -26,7 +27,8 @@ use dx_objects::Library;
 /// For files that tell their content, links that are right and work that stands where the machine's state is: what is answered is
 /// what looking by all values comes to, the machine got the selectors, and the terms that looking forms are there; or the last
 /// selector is refused; or the work was cut short on the machine's way. A fault is answered only where the files' count of faults
-/// has risen.
+/// has risen. Looking by what is told so far comes to the same. What is settled stays, and what comes to a value is settled. Where a
+/// selector is refused, looking by what is told stops at that of the node, and looking by all values at the same.
 pub fn look<F: Files, L: Library>(
     i: &Input,
     setup: &Setup,
@@ -43,7 +45,12 @@ pub fn look<F: Files, L: Library>(
     ensures goes_on { OnOk result (GoesOn at.old.tags at.new.tags) }
     ensures first { OnOk result (Kept (formed_of at.old.seen.memo) (formed_of at.new.seen.memo)) }
     ensures fits { IfOk result (λ how. LookedFits setup.now at.new how) }
+    ensures answers { OnOk result (KeepsAnswers (answers_of at.old.seen.memo) (answers_of at.new.seen.memo)) }
+    ensures valued { IfOk result (λ how. LookedValued (answers_of at.new.seen.memo) i.now how) }
+    ensures sees { IfOk result (λ how. ScansTo (nodes_in setup.now) at.new.tags how (scan (sight_in setup.now at.new) (input_tree setup.now i.now))) }
+    ensures halted { IfOk result (λ how. LookedHalted (sight_in setup.now at.new) (nodes_in setup.now) i.now how) }
     ensures looks { FromHere setup.now L.answer (F.content files.old) at.old (told (L.done lib.old) (F.asked files.old)) (λ x k base s f. LooksSo setup.now x k base (input_tree setup.now i.now) s f result at.new (told (L.done lib.new) (F.asked files.new))) }
+    ensures alike { FromHere setup.now L.answer (F.content files.old) at.old (told (L.done lib.old) (F.asked files.old)) (λ x k base s f. NeedsAlike setup.now x k (input_tree setup.now i.now) result at.new) }
 {
     'look: loop {
         let resolved = resolve_told(i, setup, at)?;

@@ -7,3 +7,4 @@ pub mod Picking
 pub mod Rows
 pub mod Scan
 pub mod Term
+pub mod Halted

@@ -1,4 +1,4 @@
-// Modules other than Import: each answers for itself, and what isn't built is refused by name.
+// Modules other than Import: each answers for itself.
 use crate::asked::{Given, answers, inputs};
 use dx_base::Module;
 use std::test::Fail;
@@ -60,7 +60,7 @@ fn each_module_answers_for_itself(rt: HostRuntime) -> Result<(), Fail> {
 }
 
 #[test]
-fn what_is_not_built_is_refused_by_name(rt: HostRuntime) -> Result<(), Fail> {
+fn slab_answers_for_itself(rt: HostRuntime) -> Result<(), Fail> {
     let alloc = rt.alloc();
     assert!(rt;
         answers(
@@ -68,7 +68,7 @@ fn what_is_not_built_is_refused_by_name(rt: HostRuntime) -> Result<(), Fail> {
             Module::Slab,
             &inputs(alloc, &[NULL; 4])?,
             None,
-            "Unsupported"
+            "BadArgument"
         )?
     );
     Ok(())

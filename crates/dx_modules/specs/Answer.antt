@@ -1,6 +1,5 @@
--- What each module answers: as its own definition says, and Unsupported where it isn't built.
-use Rattle.std.specs.Prelude.{ℕ, List, Option, Err}
-use Rattle.dx_base.specs.declared.code.Code.TheVariants.{Unsupported}
+-- What each module answers: as its own definition says.
+use Rattle.std.specs.Prelude.{ℕ, List, Option}
 use Rattle.dx_base.specs.declared.function.Module.{Module}
 use Rattle.dx_base.specs.declared.function.Module.TheVariants as computing
 use Rattle.dx_objects.specs.Runs.{Values, Answer}
@@ -12,6 +11,7 @@ use Rattle.dx_select.specs.Extract.{extract_answer}
 use Rattle.dx_select.specs.Mark.{mark_answer, unmark_answer}
 use Rattle.dx_select.specs.Replace.{replace_answer}
 use Rattle.dx_select.specs.Select.{select_answer}
+use Rattle.dx_slab.specs.Answer.{slab_answer}
 use Rattle.dx_stats.specs.Histogram.{histogram_answer}
 use Rattle.dx_stats.specs.Statistics.{statistics_answer}
 
@@ -22,7 +22,7 @@ answer_of computing.Extract inputs file = extract_answer inputs
 answer_of computing.Replace inputs file = replace_answer inputs
 answer_of computing.Mark inputs file = mark_answer inputs
 answer_of computing.Unmark inputs file = unmark_answer inputs
-answer_of computing.Slab inputs file = Err Unsupported
+answer_of computing.Slab inputs file = slab_answer inputs
 answer_of computing.Compute inputs file = compute.answer inputs
 answer_of computing.Statistics inputs file = statistics_answer inputs
 answer_of computing.Histogram inputs file = histogram_answer inputs

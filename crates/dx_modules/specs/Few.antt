@@ -18,6 +18,7 @@ use Rattle.dx_native_fields.specs.Good.{good_fields}
 use Rattle.dx_import.specs.Import.{text_in, meaning, by_fields, imported, from_file, unless_refused, refusal as refused_inputs}
 use Rattle.dx_inquire.proofs.Few.{few_inquired}
 use Rattle.dx_select.specs.Answered as parts
+use Rattle.dx_slab.specs.Answered as slabs
 use Rattle.dx_stats.proofs.Few.{few_histogram, few_statistics}
 use Rattle.dx_modules.specs.Answer.{answer_of}
 
@@ -55,6 +56,12 @@ few_one : (there : parts.Answered Tree) → HasFewResults (parts.one_result ther
 few_one (Ok t) = omega arith
 few_one (Err code) = tt
 
+-- ---- Slab
+
+few_cut : (there : slabs.Answered Tree) → HasFewResults (slabs.one_result there)
+few_cut (Ok t) = omega arith
+few_cut (Err code) = tt
+
 pub few : (m : Module) (inputs : Values) (file : Option (List ℕ)) → HasFewResults (answer_of m inputs file)
 few computing.Compute inputs file = one_of (expression_in (value_at inputs 0)) (λ e. answer_within max_levels e (occurring e 0 (drop 1 inputs)))
 few computing.Import inputs file = few_unless (refused_inputs inputs) (from_file (text_in (value_at inputs 1)) file) (few_from_file (text_in (value_at inputs 1)) file)
@@ -63,7 +70,7 @@ few computing.Extract inputs file = few_one _
 few computing.Replace inputs file = few_one _
 few computing.Mark inputs file = few_one _
 few computing.Unmark inputs file = few_one _
-few computing.Slab inputs file = tt
+few computing.Slab inputs file = few_cut _
 few computing.Statistics inputs file = few_statistics inputs
 few computing.Histogram inputs file = few_histogram inputs
 few computing.Collect inputs file = few_one _

@@ -6,16 +6,16 @@ use dx_base::{Bytes, Module};
 use dx_compute::run_compute;
 use dx_import::run_import;
 use dx_inquire::run_inquire;
-use dx_objects::{Code, Library, Outs, RunFail};
+use dx_objects::{Library, Outs, RunFail};
 use dx_select::{
     run_collect, run_collect_named, run_collect_series, run_extract, run_mark, run_replace,
     run_select, run_unmark,
 };
+use dx_slab::run_slab;
 use dx_stats::{run_histogram, run_statistics};
 use std::alloc::Global;
 
-/// The fourteen modules of Data Explorer's integer profile. It keeps no runs. A module that isn't built yet refuses its
-/// inputs as `Unsupported`.
+/// The fourteen modules of Data Explorer's integer profile. It keeps no runs.
 #[derive(Drop)]
 pub struct Modules;
 
@@ -56,7 +56,7 @@ impl Library for Modules {
             Module::CollectNamed => run_collect_named(alloc, inputs),
             Module::CollectSeries => run_collect_series(alloc, inputs),
             Module::Inquire => run_inquire(alloc, inputs),
-            Module::Slab => Err(RunFail::Code(Code::Unsupported)),
+            Module::Slab => run_slab(alloc, inputs),
         }
     }
 }

@@ -13,6 +13,7 @@ use Rattle.dx_demand.proofs.FormedTerms.{value_formed}
 use Rattle.dx_demand.specs.Forming.{formings, input_forms}
 use Rattle.dx_demand.proofs.FormedSteps.{left_formed_grows, memo_formed_grows}
 use Rattle.dx_demand.specs.Calling.{IsValued, ResolvedValued}
+use Rattle.dx_demand.specs.Halting.{HaltsAt}
 use Rattle.std.specs.Prelude.{IfOk}
 use Rattle.dx_demand.proofs.resolving.resolve.Goals as goal
 
@@ -85,3 +86,7 @@ returns-in_ok-t-in-Constant-clause-valued g c = subst (IsValued (answers_of c.ar
 pub returns-in-Result-clause-valued : goal.returns-in-Result-clause-valued
 returns-in-Result-clause-valued g c =
     subst (λ i. IfOk c.resolve_port.result (λ r. ResolvedValued (answers_of c.resolve_port.new.seen.memo) i r)) (sym c.in-Result.is) c.resolve_port.ensures.valued
+
+pub returns-in-Result-clause-halted : goal.returns-in-Result-clause-halted
+returns-in-Result-clause-halted g c = λ s sees seen.
+    subst (λ i. IfOk c.resolve_port.result (λ r. HaltsAt s (graph_of c.args.g.now).nodes i r)) (sym c.in-Result.is) (c.resolve_port.ensures.halted s sees seen)

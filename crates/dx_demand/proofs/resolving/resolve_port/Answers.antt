@@ -22,3 +22,6 @@ pub returns-in-Some-clause-valued : goal.returns-in-Some-clause-valued
 returns-in-Some-clause-valued g c =
     let answers = answers_of c.args.seen.now.memo in
     c.resolved.ensures.valued answers (input_at c.args.root) (valued_known answers c.args.root c.in-Some.a (sym c.answer.ensures ∙ c.in-Some.is))
+
+pub returns-in-Some-clause-halted : goal.returns-in-Some-clause-halted
+returns-in-Some-clause-halted g c = λ s sees seen. c.resolved.ensures.halts s (graph_of c.args.g.now).nodes (input_at c.args.root)

@@ -13,8 +13,8 @@ use Rattle.dx_demand.specs.Steps.{StepFits, StepRight, LeftRight}
 use Rattle.dx_demand.specs.declared.seen.Frame.{Frame}
 use Rattle.dx_demand.proofs.Growing.{links_fit_grows, sees_before}
 use Rattle.dx_demand.proofs.Memos.{settle_fits, settle_right, settle_keeps}
-use Rattle.dx_demand.proofs.Stacks.{stack_split, stack_join, right_join, left_right, bottom_push, opens_fits, opens_right, opens_bottom, open_ports}
-use Rattle.dx_demand.proofs.PortSteps.{with_arguments, top_after, right_after, top_begins, awaits_fits, awaits_right, needs_right, below_fits, below_bottom, last_bottom, same_bottom, settled_less}
+use Rattle.dx_demand.proofs.Stacks.{answer_kept, stack_split, stack_join, right_join, left_right, bottom_push, opens_fits, opens_right, opens_bottom, open_ports}
+use Rattle.dx_demand.proofs.PortSteps.{with_arguments, top_after, right_after, top_begins, awaits_fits, awaits_right, needs_right, needs_halted, below_fits, below_bottom, last_bottom, same_bottom, settled_less}
 use Rattle.dx_graph.specs.Graph.{node_at}
 use Rattle.dx_demand.specs.Memo.{input_at}
 use Rattle.dx_demand.specs.declared.settled.Port.{Port}
@@ -42,6 +42,7 @@ steps-init g c =
       stack = opens_fits nodes c.args.tags.now answers root before after top c.requires.port c.requires.unanswered c.requires.seen.stack c.top_of-top.ensures;
       bottom = opens_bottom root before after top c.top_of-top.ensures;
       kept = λ n t e. e;
+      answers = λ q b at. at;
       first = kept_itself (formed_of c.args.seen.now.memo);
       found = λ cl. (cl.memo, opens_found c.args.links.now.links c.args.tags.now (formed_of c.args.seen.now.memo) root before after top cl.stack c.top_of-top.ensures);
       met = λ s sees seen f. (f.memo, f.selectors, opens_valued nodes answers root before after top f.stack c.top_of-top.ensures);
@@ -155,6 +156,23 @@ returns-in-None-clause-kept g c =
     let fits : SettledFits nodes mid a.settled = subst (StepFits nodes mid told memo2 top.port) c.in-Settles.is c.in_ok-a.ensures.fits in
     let memo_fits = settle_fits nodes mid memo2 memo3 top.port a ok selectors first fits c.in_ok-a.ensures.memo in
     λ n t e. settle_keeps memo2 memo3 selectors n t (c.in_ok-a.ensures.kept n t (inv.kept n t e))
+
+pub returns-in-None-clause-answers : goal.returns-in-None-clause-answers
+returns-in-None-clause-answers g c =
+    let nodes = (graph_of c.args.g.now).nodes in
+    let old = c.steps.tags in
+    let fs = c.steps.seen.stack.items in
+    let top = c.steps.top in
+    let inv = c.steps.invariant in
+    let memo1 = c.steps.seen.memo in
+    let memo2 = c.next_step.new.memo in
+    let same : answers_of memo2 ≡ answers_of memo1 = c.in_ok-a.ensures.answers in
+    let a = c.in-Settles.a in
+    let memo3 = c.settle.new.self in
+    let ok : answers_of memo3 ≡ with_answer (answers_of memo2) top.port a = c.in_ok-settle-in-Settles.ensures.ok in
+    let open_ = (stack_split nodes old (answers_of memo1) fs top inv.stack).open_ in
+    let both : answers_of memo3 ≡ with_answer (answers_of memo1) top.port a = ok ∙ ap (λ (x : Answers). with_answer x top.port a) same in
+    λ q b at. ap (λ (x : Answers). x q) both ∙ answer_kept (answers_of memo1) top.port a open_ q b (inv.answers q b at)
 
 pub returns-in-None-clause-fits : goal.returns-in-None-clause-fits
 returns-in-None-clause-fits g c =
@@ -284,6 +302,10 @@ steps-preserved-in-Some g c =
       stack = subst (λ (x : Answers). StackFits nodes mid x (rest ++ below ∷ [])) (sym ok) (below_fits nodes mid (answers_of memo2) fs rest now below a e there);
       bottom = below_bottom fs rest top below root e inv.bottom;
       kept = λ n t e. settle_keeps memo2 memo3 selectors n t (c.in_ok-a.ensures.kept n t (inv.kept n t e));
+      answers = λ q b at.
+          let open_ = (stack_split nodes old (answers_of memo1) fs top inv.stack).open_ in
+          let both : answers_of memo3 ≡ with_answer (answers_of memo1) top.port a = ok ∙ ap (λ (x : Answers). with_answer x top.port a) same in
+          ap (λ (x : Answers). x q) both ∙ answer_kept (answers_of memo1) top.port a open_ q b (inv.answers q b at);
       first = λ t n at. kept_same memo2 memo3 first t n (c.in_ok-a.ensures.first t n (inv.first t n at));
       found = λ cl.
           let links = c.args.links.now.links in
@@ -397,6 +419,7 @@ steps-preserved g c =
       stack = subst (StackFits nodes mid (answers_of memo2)) chain (awaits_fits nodes mid (answers_of memo2) fs now q there fit.0 fit.1 fit.2);
       bottom = ap₂ bottom pushed fresh_next ∙ bottom_push fs now (fresh q) ∙ same_bottom fs top args ∙ inv.bottom;
       kept = λ n t e. c.in_ok-a.ensures.kept n t (inv.kept n t e);
+      answers = λ q b at. ap (λ (x : Answers). x q) same ∙ inv.answers q b at;
       first = λ t n at. c.in_ok-a.ensures.first t n (inv.first t n at);
       found = λ cl.
           let links = c.args.links.now.links in
@@ -470,6 +493,10 @@ pub returns-in-Needs-clause-kept : goal.returns-in-Needs-clause-kept
 returns-in-Needs-clause-kept g c =
     λ n t e. c.in_ok-a.ensures.kept n t (c.steps.invariant.kept n t e)
 
+pub returns-in-Needs-clause-answers : goal.returns-in-Needs-clause-answers
+returns-in-Needs-clause-answers g c =
+    λ q b at. ap (λ (x : Answers). x q) c.in_ok-a.ensures.answers ∙ c.steps.invariant.answers q b at
+
 pub returns-in-Needs-clause-seen_right : goal.returns-in-Needs-clause-seen_right
 returns-in-Needs-clause-seen_right g c =
     let nodes = (graph_of c.args.g.now).nodes in
@@ -522,7 +549,35 @@ returns-in-Needs-clause-right g c =
     let after = right_after s nodes old mid goes (answers_of memo1) root fs top args inv.stack (c.in_ok-a.ensures.begins s r.0 begins) r.1 in
     let stepped = c.in_ok-a.ensures.right s sees r.0 begins in
     let needs = Needs (site_of nodes top.port.node) (value_term (heads_of mid) c.in-Needs.t) in
-    needs_right s nodes mid root now needs after.1 (subst (StepRight s nodes mid top.port) c.in-Needs.is stepped)
+    needs_right s nodes mid root now needs after.1 (subst (StepRight s nodes mid top.port) c.in-Needs.is stepped).0
+
+pub returns-in-Needs-clause-halted : goal.returns-in-Needs-clause-halted
+returns-in-Needs-clause-halted g c =
+    let nodes = (graph_of c.args.g.now).nodes in
+    let told = g.G.Given.told c.args.given.now in
+    let root = c.args.root in
+    let old = c.steps.tags in
+    let fs = c.steps.seen.stack.items in
+    let top = c.steps.top in
+    let inv = c.steps.invariant in
+    let memo1 = c.steps.seen.memo in
+    let mid = c.next_step.new.tags in
+    let memo2 = c.next_step.new.memo in
+    let args = c.next_step.new.arguments in
+    let now = with_arguments top args in
+    let goes = c.in_ok-a.ensures.goes_on in
+    λ s sees seen.
+    let links = links_fit_grows c.args.tags.now old inv.goes_on c.args.links.now.links c.requires.links in
+    let r = inv.right s (sees_before told old mid goes c.args.links.now.links c.args.written.now.files links s sees) seen in
+    let begins = top_begins s nodes old root fs top r.1 in
+    let after = right_after s nodes old mid goes (answers_of memo1) root fs top args inv.stack (c.in_ok-a.ensures.begins s r.0 begins) r.1 in
+    let stepped = c.in_ok-a.ensures.right s sees r.0 begins in
+    let needs = Needs (site_of nodes top.port.node) (value_term (heads_of mid) c.in-Needs.t) in
+    let at_top = subst (StepRight s nodes mid top.port) c.in-Needs.is stepped in
+    needs_halted s nodes mid root now needs after.1 at_top.0 ∙ at_top.1
+
+pub returns-in-None-clause-halted : goal.returns-in-None-clause-halted
+returns-in-None-clause-halted g c = λ s sees seen. c.resolved.ensures.halts s (graph_of c.args.g.now).nodes (input_at c.args.root)
 
 pub returns-in-None-clause-closed : goal.returns-in-None-clause-closed
 returns-in-None-clause-closed g c = λ cl.
@@ -763,7 +818,7 @@ returns-in-Needs-clause-forms g c =
     let by = loop_step s nodes was old mid memo1 memo2 root fs top args at stepped.0 in
     let there = subst (StepForms s nodes (formings nodes mid memo2) top.port) c.in-Needs.is stepped.1 in
     let needs = Needs (site_of nodes top.port.node) (value_term (heads_of mid) c.in-Needs.t) in
-    loop_needs s nodes was mid memo2 root fs now needs by there (subst (StepRight s nodes mid top.port) c.in-Needs.is (c.in_ok-a.ensures.right s sees r.0 begins))
+    loop_needs s nodes was mid memo2 root fs now needs by there (subst (StepRight s nodes mid top.port) c.in-Needs.is (c.in_ok-a.ensures.right s sees r.0 begins)).0
 
 pub returns-in-None-clause-seen_met : goal.returns-in-None-clause-seen_met
 returns-in-None-clause-seen_met g c =

@@ -4,7 +4,7 @@ use Rattle.dx_graph.specs.GraphView.{graph_of}
 use Rattle.dx_tags.specs.Closed.{GoesOn}
 use Rattle.dx_meaning.specs.Scan.{Sight}
 use Rattle.dx_demand.specs.Found.{Kept, MemoFound, StackFound, IsClosed}
-use Rattle.dx_demand.specs.Memo.{formed_of, answers_of, MemoFits, MemoRight}
+use Rattle.dx_demand.specs.Memo.{formed_of, answers_of, KeepsAnswers, MemoFits, MemoRight}
 use Rattle.dx_demand.specs.Stack.{bottom, StackFits, StackRight}
 use Rattle.dx_demand.specs.Steps.{Sees, SeenRight, KeepsSelectors}
 use Rattle.dx_demand.specs.Calling.{SeenMet, MemoMet, SelectorsValued, StackValued}
@@ -25,6 +25,7 @@ invariant-steps g l = record {
   stack : StackFits (graph_of l.g).nodes l.tags (answers_of l.seen.memo) (l.seen.stack.items ++ l.top ∷ []);
   bottom : bottom l.seen.stack.items l.top ≡ l.fn.root;
   kept : KeepsSelectors l.fn.seen.memo l.seen.memo;
+  answers : KeepsAnswers (answers_of l.fn.seen.memo) (answers_of l.seen.memo);
   first : Kept (formed_of l.fn.seen.memo) (formed_of l.seen.memo);
   found : IsClosed l.links.links l.fn.tags l.fn.seen → MemoFound l.links.links l.tags l.seen.memo × StackFound l.links.links l.tags (formed_of l.seen.memo) (l.seen.stack.items ++ l.top ∷ []);
   met : (s : Sight) → Sees (g.G.Given.told l.given) l.links.links l.written.files l.tags s → SeenRight s (graph_of l.g).nodes l.fn.tags l.fn.seen → SeenMet s (graph_of l.g).nodes l.fn.seen →

@@ -2,6 +2,7 @@ use Rattle.std.proofs.Common.{refl, inr}
 use Rattle.dx_graph.specs.GraphView.{graph_of}
 use Rattle.dx_demand.proofs.Memos.{same_selectors_keep}
 use Rattle.dx_demand.proofs.Ports.{unnamed_rule, names_first, names_none}
+use Rattle.dx_demand.proofs.Leading.{unnamed_halted}
 use Rattle.dx_demand.proofs.PortSteps.{nodes_of}
 use Rattle.dx_demand.specs.Forming.{formings}
 use Rattle.dx_demand.proofs.FormedPorts.{unnamed_formed}
@@ -20,7 +21,10 @@ returns-else-has_name-clause-fits g c = c.module_step.ensures.fits (g.G.Given.to
 
 pub returns-else-has_name-clause-right : goal.returns-else-has_name-clause-right
 returns-else-has_name-clause-right g c = λ s tells wrote m b. c.module_step.ensures.right s m b (λ s' more.
-    unnamed_rule s' (graph_of c.args.g.now).nodes (nodes_of (graph_of c.args.g.now) c.args.g.now.lawful) c.args.port c.requires.port.0 c.args.called c.requires.what (names_none c.args.called cc))
+    let nodes = (graph_of c.args.g.now).nodes in
+    let lawful = nodes_of (graph_of c.args.g.now) c.args.g.now.lawful in
+    let none = names_none c.args.called cc in
+    (unnamed_rule s' nodes lawful c.args.port c.requires.port.0 c.args.called c.requires.what none, unnamed_halted s' nodes lawful c.args.port c.requires.port.0 c.args.called c.requires.what none))
 
 pub module_step-requires-clause-reads : goal.module_step-requires-clause-reads
 module_step-requires-clause-reads g c = inr refl

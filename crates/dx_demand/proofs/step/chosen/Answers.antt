@@ -6,7 +6,8 @@ use Rattle.dx_graph.specs.GraphView.{graph_of}
 use Rattle.dx_meaning.specs.Scan.{Forms}
 use Rattle.dx_demand.specs.Memo.{answers_of}
 use Rattle.dx_demand.specs.Steps.{KnownFits, KnownRight}
-use Rattle.dx_demand.proofs.Ports.{chosen_is, chosen_past, chosen_leads}
+use Rattle.dx_demand.proofs.Ports.{chosen_is, chosen_past}
+use Rattle.dx_demand.proofs.Leading.{chosen_leads}
 use Rattle.dx_demand.proofs.PortSteps.{nodes_of, more_itself}
 use Rattle.dx_demand.proofs.Taken.{slot, takes, takes_in, awaited}
 use Rattle.dx_meaning.specs.Scan.{null_term}
@@ -38,7 +39,7 @@ returns-in-Settled-clause-right c =
     let same : c.as_slice-inputs.result.now ≡ inputs = c.as_slice-inputs.ensures ∙ ap (λ (x : Node). x.inputs) c.node.ensures in
     let x = c.index-inputs-k.result in
     let at : slice_get inputs c.args.k ≡ Some x = slot c.as_slice-inputs.result.now inputs c.args.k c.args.k x same refl c.if-k-inputs.true c.index-inputs-k.is in
-    λ s m h. chosen_is s nodes c.args.port c.args.k (h s (more_itself s)) x at ∙ subst (KnownRight s nodes c.known_of.new.tags x) c.in-Settled.is (c.in_ok-settled.ensures.right s m)
+    λ s m h. chosen_is s nodes c.args.port c.args.k (h s (more_itself s)).0 x at ∙ subst (KnownRight s nodes c.known_of.new.tags x) c.in-Settled.is (c.in_ok-settled.ensures.right s m)
 
 pub returns-in-Open-clause-fits : goal.returns-in-Open-clause-fits
 returns-in-Open-clause-fits c =
@@ -73,7 +74,7 @@ returns-in_ok-t-clause-right c =
     let inputs = (node_at nodes c.args.port.node).inputs in
     let same : c.as_slice-inputs.result.now ≡ inputs = c.as_slice-inputs.ensures ∙ ap (λ (x : Node). x.inputs) c.node.ensures in
     let whole = ap length same in
-    λ s m h. chosen_past s nodes c.args.port c.args.k (h s (more_itself s)) (omega (arith, whole, c.if-k-inputs.false)) ∙ sym (ap Forms c.in_ok-t.ensures.named)
+    λ s m h. chosen_past s nodes c.args.port c.args.k (h s (more_itself s)).0 (omega (arith, whole, c.if-k-inputs.false)) ∙ sym (ap Forms c.in_ok-t.ensures.named)
 
 pub returns-in-Settled-clause-forms : goal.returns-in-Settled-clause-forms
 returns-in-Settled-clause-forms c = λ s m h.

@@ -14,6 +14,7 @@ use Rattle.dx_demand.specs.Steps.{SelectionFits, SelectionRight, StepRight}
 use Rattle.dx_demand.proofs.Growing.{tells_before, begins_grows, on_ok_then, if_ok_by}
 use Rattle.dx_demand.proofs.Memos.{same_selectors_keep}
 use Rattle.dx_demand.proofs.Ports.{name_is_import, name_selects, name_place, selector_needs, named_rule}
+use Rattle.dx_demand.proofs.Leading.{selector_stops, named_halted}
 use Rattle.dx_demand.proofs.PortSteps.{nodes_of}
 use Rattle.dx_meaning.specs.Forming.{HasAll}
 use Rattle.dx_meaning.proofs.Formed.{all_grow}
@@ -91,7 +92,8 @@ returns-in-None-clause-right g c =
     let selects = name_selects (node_at nodes c.args.port.node).what c.args.called c.requires.what c.requires.selects in
     λ s tells wrote m b.
     let e : selector_scan s nodes c.args.port.node ≡ Forms term = subst (SelectionRight s nodes mid c.args.port) c.in-Selects.is (c.in_ok-first.ensures.right s m) in
-    selector_needs s nodes lawful c.args.port lt selects term e (sym (tells c.in-Selects.t fits) ∙ sym c.value.ensures ∙ ap (option_map value_behind) c.in-None.is)
+    let none = sym (tells c.in-Selects.t fits) ∙ sym c.value.ensures ∙ ap (option_map value_behind) c.in-None.is in
+    (selector_needs s nodes lawful c.args.port lt selects term e none, selector_stops s nodes lawful c.args.port lt selects term e none)
 
 pub returns-in_ok-file-in-Some-clause-kept : goal.returns-in_ok-file-in-Some-clause-kept
 returns-in_ok-file-in-Some-clause-kept g c = λ n t e. same_selectors_keep c.select_term.new.memo c.module_step.new.memo c.module_step.ensures.selectors n t (c.in_ok-first.ensures.kept n t e)
@@ -123,7 +125,10 @@ returns-in_ok-file-in-Some-clause-right g c =
     let before = tells_before told mid new more s tells in
     let v : s.told term ≡ Some (value_behind c.in-Some.v) = sym (before c.in-Selects.t fits) ∙ sym c.value.ensures ∙ ap (option_map value_behind) c.in-Some.is in
     c.module_step.ensures.right s (c.in_ok-first.ensures.memo_right s m) (begins_grows c.args.tags.now mid c.in_ok-first.ensures.goes_on (node_scans s nodes c.args.port.node) c.args.arguments.now c.requires.earlier b)
-    (named_rule s nodes lawful c.args.port lt c.args.called c.requires.what selects term e (value_behind c.in-Some.v) v c.in_ok-file-in-Some.file (c.in_ok-file-in-Some.ensures s wrote)))
+    (λ s' m'. (
+      named_rule s nodes lawful c.args.port lt c.args.called c.requires.what selects term e (value_behind c.in-Some.v) v c.in_ok-file-in-Some.file (c.in_ok-file-in-Some.ensures s wrote) s' m',
+      named_halted s nodes lawful c.args.port lt c.args.called c.requires.what selects term e (value_behind c.in-Some.v) v s' m',
+    )))
 
 pub module_step-requires-clause-reads : goal.module_step-requires-clause-reads
 module_step-requires-clause-reads g c = inl (name_is_import c.args.called c.requires.selects)

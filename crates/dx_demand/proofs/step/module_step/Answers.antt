@@ -21,7 +21,8 @@ use Rattle.dx_demand.specs.Steps.{KnownFits, KnownRight}
 use Rattle.dx_demand.specs.declared.step.Known.TheVariants as known
 use Rattle.dx_demand.specs.declared.settled.Settled.TheVariants as settled
 use Rattle.dx_demand.proofs.Growing.{memo_fits_grows, memo_right_grows, begins_grows}
-use Rattle.dx_demand.proofs.Ports.{each_at, each_length, begins_push, begins_all, begins_stop, module_leads}
+use Rattle.dx_demand.proofs.Ports.{each_at, each_length, begins_push, begins_all, begins_stop}
+use Rattle.dx_demand.proofs.Leading.{module_leads}
 use Rattle.dx_demand.proofs.Memos.{form_fits, form_right}
 use Rattle.dx_demand.proofs.PortSteps.{nodes_of, more_itself}
 use Rattle.dx_demand.proofs.Taken.{slot, takes, takes_in, awaited}
@@ -133,7 +134,7 @@ returns-in-Settled-Off-clause-right c =
     let is : c.in_ok-t.field-0 ≡ known.Settled settled.Off = c.in-Settled-Off.is ∙ ap known.Settled c.in-Settled-Off.field-0-is in
     λ s m b h.
     let found : input_scan s nodes x ≡ Ends IsOff = subst (KnownRight s nodes new x) is (c.in_ok-t.ensures.right s (memo_right_grows s nodes c.args.tags.now old c.loop-inputs.invariant.goes_on c.args.memo.now c.requires.memo m)) in
-    h s (more_itself s) ∙ ap (call_scanned c.args.called c.args.file c.args.port.result) (begins_stop (heads_of old) (node_scans s nodes c.args.port.node) ts IsOff (c.loop-inputs.invariant.begins s m b) (each_at s (calls_of nodes) inputs (length ts) x at ∙ ap Some found))
+    (h s (more_itself s)).0 ∙ ap (call_scanned c.args.called c.args.file c.args.port.result) (begins_stop (heads_of old) (node_scans s nodes c.args.port.node) ts IsOff (c.loop-inputs.invariant.begins s m b) (each_at s (calls_of nodes) inputs (length ts) x at ∙ ap Some found))
 
 pub returns-in-Settled-Halt-clause-earlier : goal.returns-in-Settled-Halt-clause-earlier
 returns-in-Settled-Halt-clause-earlier c =
@@ -160,7 +161,7 @@ returns-in-Settled-Halt-clause-right c =
     let is : c.in_ok-t.field-0 ≡ known.Settled (settled.Halt c.in-Settled-Halt.n c.in-Settled-Halt.code) = c.in-Settled-Halt.is ∙ ap known.Settled c.in-Settled-Halt.field-0-is in
     λ s m b h.
     let found : input_scan s nodes x ≡ Ends (Stops (site_of nodes c.in-Settled-Halt.n) c.in-Settled-Halt.code) = subst (KnownRight s nodes new x) is (c.in_ok-t.ensures.right s (memo_right_grows s nodes c.args.tags.now old c.loop-inputs.invariant.goes_on c.args.memo.now c.requires.memo m)) in
-    h s (more_itself s) ∙ ap (call_scanned c.args.called c.args.file c.args.port.result) (begins_stop (heads_of old) (node_scans s nodes c.args.port.node) ts (Stops (site_of nodes c.in-Settled-Halt.n) c.in-Settled-Halt.code) (c.loop-inputs.invariant.begins s m b) (each_at s (calls_of nodes) inputs (length ts) x at ∙ ap Some found))
+    (h s (more_itself s)).0 ∙ ap (call_scanned c.args.called c.args.file c.args.port.result) (begins_stop (heads_of old) (node_scans s nodes c.args.port.node) ts (Stops (site_of nodes c.in-Settled-Halt.n) c.in-Settled-Halt.code) (c.loop-inputs.invariant.begins s m b) (each_at s (calls_of nodes) inputs (length ts) x at ∙ ap Some found))
 
 pub returns-in-Open-clause-earlier : goal.returns-in-Open-clause-earlier
 returns-in-Open-clause-earlier c =
@@ -255,7 +256,7 @@ returns-clause-right c = λ s m b h.
     let many = each_length s (calls_of nodes) inputs in
     let whole = ap length same in
     let all : all_scanned ss ≡ Forms (value_terms hs ts) = begins_all hs ss ts (c.loop-inputs.invariant.begins s m b) (omega (arith, many, whole, c.loop-inputs-test.false, c.len.ensures)) in
-    h s (more_itself s) ∙ ap (call_scanned c.args.called c.args.file c.args.port.result) all
+    (h s (more_itself s)).0 ∙ ap (call_scanned c.args.called c.args.file c.args.port.result) all
     ∙ ap Forms (ap (λ us. ResultTerm c.args.port.result (CallOf c.args.called (with_file (value_terms hs us) c.args.file))) (sym c.replace-all.ensures.value) ∙ ap (λ f. ResultTerm c.args.port.result (CallOf c.args.called (with_file (value_terms hs c.replace-all.result) f))) (sym c.loop-inputs.invariant.file) ∙ sym c.in_ok-t-2.ensures.named)
 
 pub call_of_all-requires-clause-takes : goal.call_of_all-requires-clause-takes

@@ -17,7 +17,8 @@ use Rattle.dx_demand.specs.declared.step.Known.TheVariants as known
 use Rattle.dx_demand.specs.declared.settled.Settled.TheVariants as settled
 use Rattle.dx_demand.proofs.Growing.{memo_fits_grows, memo_right_grows}
 use Rattle.dx_demand.proofs.Memos.{Selects, select_fits, select_right}
-use Rattle.dx_demand.proofs.Ports.{each_at, at_some, selector_ends, selector_leads}
+use Rattle.dx_demand.proofs.Ports.{each_at, at_some, selector_ends}
+use Rattle.dx_demand.proofs.Leading.{selector_leads}
 use Rattle.dx_demand.proofs.PortSteps.{nodes_of}
 use Rattle.dx_demand.proofs.Taken.{slot, takes, takes_in, awaited, selector_within}
 use Rattle.std.proofs.lemmas.List.{length-set}

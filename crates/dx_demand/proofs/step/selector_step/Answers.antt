@@ -11,6 +11,7 @@ use Rattle.dx_demand.specs.Memo.{selector_of, selector_scan}
 use Rattle.dx_demand.specs.Steps.{SelectionFits, SelectionRight, StepRight}
 use Rattle.dx_demand.proofs.Growing.{links_fit_grows, memo_fits_grows, memo_right_grows, tells_before, on_ok_then, if_ok_by}
 use Rattle.dx_demand.proofs.Ports.{picking_selects, selector_needs, selector_picks}
+use Rattle.dx_demand.proofs.Leading.{selector_stops, selector_halted_by}
 use Rattle.dx_demand.proofs.PortSteps.{nodes_of}
 use Rattle.dx_meaning.specs.Forming.{HasAll}
 use Rattle.dx_meaning.specs.Picking.{pick}
@@ -63,7 +64,9 @@ returns-in-None-clause-right g c =
     let term = value_term (heads_of mid) c.in-Selects.t in
     λ s tells holds m.
     let e : selector_scan s nodes c.args.port.node ≡ Forms term = subst (SelectionRight s nodes mid c.args.port) c.in-Selects.is (c.in_ok-first.ensures.right s m) in
-    selector_needs s nodes lawful c.args.port lt (picking_selects (node_at nodes c.args.port.node).what c.requires.selects) term e (sym (tells c.in-Selects.t fits) ∙ sym c.value.ensures ∙ ap (option_map value_behind) c.in-None.is)
+    let none = sym (tells c.in-Selects.t fits) ∙ sym c.value.ensures ∙ ap (option_map value_behind) c.in-None.is in
+    let selects = picking_selects (node_at nodes c.args.port.node).what c.requires.selects in
+    (selector_needs s nodes lawful c.args.port lt selects term e none, selector_stops s nodes lawful c.args.port lt selects term e none)
 
 pub returns-in-Some-clause-memo : goal.returns-in-Some-clause-memo
 returns-in-Some-clause-memo g c =
@@ -104,7 +107,7 @@ returns-in-Some-clause-right g c =
     let before = tells_before told mid c.picked.new.tags more s tells in
     let e : selector_scan s nodes c.args.port.node ≡ Forms term = subst (SelectionRight s nodes mid c.args.port) c.in-Selects.is (c.in_ok-first.ensures.right s m) in
     let v : s.told term ≡ Some (value_behind c.in-Some.v) = sym (before c.in-Selects.t fits) ∙ sym c.value.ensures ∙ ap (option_map value_behind) c.in-Some.is in
-    c.picked.ensures.right s holds (c.in_ok-first.ensures.memo_right s m) (λ s' m'. selector_picks s nodes lawful c.args.port lt c.requires.selects term e (value_behind c.in-Some.v) v s' m'))
+    c.picked.ensures.right s holds (c.in_ok-first.ensures.memo_right s m) (λ s' m'. (selector_picks s nodes lawful c.args.port lt c.requires.selects term e (value_behind c.in-Some.v) v s' m', selector_halted_by s nodes lawful c.args.port lt c.requires.selects term e (value_behind c.in-Some.v) v s' m')))
 
 pub select_term-requires-clause-selects : goal.select_term-requires-clause-selects
 select_term-requires-clause-selects g c = picking_selects (node_at (graph_of c.args.g.now).nodes c.args.port.node).what c.requires.selects

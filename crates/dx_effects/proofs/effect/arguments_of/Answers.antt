@@ -1,14 +1,19 @@
 use Rattle.std.proofs.Common.{length, All, sym, ap, ◌∙◌, subst}
 use Rattle.std.specs.Prelude.{Ok, IfOk}
-use Rattle.dx_graph.specs.Graph.{MayTake}
+use Rattle.dx_graph.specs.Graph.{MayTake, node_at}
 use Rattle.dx_graph.specs.declared.node.Node.{Node}
+use Rattle.dx_macros.specs.Tree.{NoTree}
 use Rattle.dx_tags.specs.Closed.{heads_of, value_terms}
 use Rattle.dx_getting.specs.Told.{told}
 use Rattle.dx_meaning.specs.Forming.{after}
 use Rattle.dx_performing.specs.Course.{sight_of, look_at}
-use Rattle.dx_looking.specs.Setting.{nodes_in, fixed}
-use Rattle.dx_effects.specs.AllLooking.{AllLookedFit, AllLookSo, input_trees}
+use Rattle.dx_looking.specs.Setting.{nodes_in, sight_in, fixed}
+use Rattle.dx_effects.specs.AllLooking.{AllLookedFit, AllValued, AllHalted, AllLookSo, AllNeedAlike, input_trees}
 use Rattle.dx_effects.specs.Coming.{ArgumentsFit, TermsSo, node_trees}
+use Rattle.dx_demand.specs.Memo.{answers_of}
+use Rattle.dx_demand.specs.Calling.{AreValued}
+use Rattle.dx_demand.specs.declared.seen.Seen.{Seen}
+use Rattle.dx_effects.proofs.Settled.{valued_so, got_alike}
 use Rattle.dx_effects.proofs.NextInput.{by_budget}
 use Rattle.dx_effects.proofs.NodeInputs.{inputs_taken}
 use Rattle.dx_effects.proofs.WholeEffect.{cut_looking, off, halt, refused, taken}
@@ -94,3 +99,47 @@ returns-in-Ok-Terms-clause-fits g c =
     let eq = c.as_slice.ensures ∙ ap (λ (y : Node). y.inputs) c.node-node.ensures in
     let looked = subst (λ r. IfOk r (λ how. AllLookedFit setup (length c.as_slice.result.now) c.look_all.new.at how)) (c.in-Ok-Terms.is ∙ ap Ok c.in-Ok-Terms.field-0-is) c.look_all.ensures.fits in
     subst (λ count. IfOk c.got_values.result (λ how. ArgumentsFit setup count c.got_values.new.at how)) (looked.0 ∙ ap length eq) c.got_values.ensures.fits
+
+pub returns-in-Ok-Terms-clause-valued : goal.returns-in-Ok-Terms-clause-valued
+returns-in-Ok-Terms-clause-valued g c =
+    let inputs = (node_at (nodes_in c.args.setup.now) c.args.n).inputs in
+    let eq = c.as_slice.ensures ∙ ap (λ (y : Node). y.inputs) c.node-node.ensures in
+    let looked = subst (λ r. IfOk r (λ how. AllValued (answers_of c.look_all.new.at.seen.memo) c.as_slice.result.now how)) (c.in-Ok-Terms.is ∙ ap Ok c.in-Ok-Terms.field-0-is) c.look_all.ensures.valued in
+    let valued = subst (λ is. AreValued (answers_of c.look_all.new.at.seen.memo) is (length is)) eq looked in
+    valued_so (answers_of c.got_values.new.at.seen.memo) inputs (subst (λ (y : Seen). AreValued (answers_of y.memo) inputs (length inputs)) (sym c.got_values.ensures.seen) valued) c.got_values.result
+
+pub returns-in-Ok-Terms-clause-halted : goal.returns-in-Ok-Terms-clause-halted
+returns-in-Ok-Terms-clause-halted g c =
+    let setup = c.args.setup.now in
+    c.got_values.ensures.looked (sight_in setup c.got_values.new.at) (nodes_in setup) (node_trees setup c.args.n)
+
+pub returns-in-Ok-Refused-clause-halted : goal.returns-in-Ok-Refused-clause-halted
+returns-in-Ok-Refused-clause-halted g c =
+    let setup = c.args.setup.now in
+    let at1 = c.look_all.new.at in
+    let eq = c.as_slice.ensures ∙ ap (λ (y : Node). y.inputs) c.node-node.ensures in
+    let halts = subst (λ xs. IfOk c.look_all.result (λ how. AllHalted (sight_in setup at1) (nodes_in setup) (input_trees setup xs) how)) eq c.look_all.ensures.halted in
+    subst (λ r. IfOk r (λ how. AllHalted (sight_in setup at1) (nodes_in setup) (node_trees setup c.args.n) how)) (c.in-Ok-Refused.is ∙ ap Ok c.in-Ok-Refused.field-0-is) halts
+
+pub returns-in-Ok-Off-clause-alike : goal.returns-in-Ok-Off-clause-alike
+returns-in-Ok-Off-clause-alike g c = λ map told_map k right base s f st. tt
+
+pub returns-in-Ok-Halt-clause-alike : goal.returns-in-Ok-Halt-clause-alike
+returns-in-Ok-Halt-clause-alike g c = λ map told_map k right base s f st. tt
+
+pub returns-in-Err-clause-alike : goal.returns-in-Err-clause-alike
+returns-in-Err-clause-alike g c = λ map told_map k right base s f st. tt
+
+pub returns-in-Ok-Refused-clause-alike : goal.returns-in-Ok-Refused-clause-alike
+returns-in-Ok-Refused-clause-alike g c =
+    λ map told_map k right base s f st.
+    let setup = c.args.setup.now in
+    let at1 = c.look_all.new.at in
+    let x = fixed g.L.Library.answer map c.args.at.now.work.cache.budget in
+    let eq = c.as_slice.ensures ∙ ap (λ (y : Node). y.inputs) c.node-node.ensures in
+    subst (λ r. AllNeedAlike setup x k (node_trees setup c.args.n) r at1) (c.in-Ok-Refused.is ∙ ap Ok c.in-Ok-Refused.field-0-is) (subst (λ is. AllNeedAlike setup x k (input_trees setup is) c.look_all.result at1) eq (c.look_all.ensures.alike map told_map k right base s f st))
+
+pub returns-in-Ok-Terms-clause-alike : goal.returns-in-Ok-Terms-clause-alike
+returns-in-Ok-Terms-clause-alike g c =
+    λ map told_map k right base s f st.
+    got_alike c.args.setup.now (fixed g.L.Library.answer map c.args.at.now.work.cache.budget) k (node_trees c.args.setup.now c.args.n) c.got_values.new.at c.got_values.result (c.got_values.ensures.looked (sight_in c.args.setup.now c.got_values.new.at) (nodes_in c.args.setup.now) NoTree)

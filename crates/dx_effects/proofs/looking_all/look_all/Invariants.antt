@@ -2,7 +2,8 @@ use Rattle.std.proofs.Common.{◌≡◌, ◌≤◌, drop, length}
 use Rattle.dx_tags.specs.Closed.{GoesOn}
 use Rattle.dx_getting.specs.Told.{told}
 use Rattle.dx_demand.specs.Terms.{AreArguments}
-use Rattle.dx_demand.specs.Memo.{formed_of}
+use Rattle.dx_demand.specs.Memo.{answers_of, formed_of}
+use Rattle.dx_demand.specs.Calling.{AreValued}
 use Rattle.dx_demand.specs.Found.{AllFound}
 use Rattle.dx_looking.specs.Looking.{IsLooking, FromHere}
 use Rattle.dx_effects.specs.AllLooking.{input_trees}
@@ -17,6 +18,7 @@ invariant-loop-i g l = record {
   budget : l.at.work.cache.budget ≡ l.fn.at.work.cache.budget;
   looking : IsLooking l.setup l.at;
   goes_on : GoesOn l.fn.at.tags l.at.tags;
+  valued : AreValued (answers_of l.at.seen.memo) l.inputs l.i-index;
   count : length l.terms ≡ l.i-index;
   arguments : AreArguments l.at.tags l.terms;
   found : AllFound l.setup.links.now.links l.at.tags (formed_of l.at.seen.memo) l.terms;

@@ -8,7 +8,8 @@ use Rattle.dx_getting.specs.Told.{told}
 use Rattle.dx_getting.specs.Stands.{frame_of, world}
 use Rattle.dx_looking.specs.Setting.{setting_in, fixed}
 use Rattle.dx_looking.proofs.Bridge.{links_denote}
-use Rattle.dx_effects.specs.Coming.{ArgumentsFit, TermsSo}
+use Rattle.dx_effects.specs.Coming.{ArgumentsFit, ArgumentsHalted, TermsSo}
+use Rattle.dx_effects.proofs.Settled.{came_halted}
 use Rattle.dx_effects.proofs.ValuesCome.{with_work, looking_by, values_come, may_get_at, fit_so, on_any}
 use Rattle.dx_effects.proofs.values.got_values.Goals as goal
 
@@ -39,3 +40,7 @@ returns-clause-comes g c =
     subst (λ r. TermsSo setup x k base (value_terms (heads_of at.tags) c.args.terms) s f r (with_work at c.get_all-got.new.work) now') (sym c.came_of.ensures)
     (values_come setup x k right base now now' at s f c.requires.looking st c.args.terms c.requires.arguments c.requires.found c.get_all-got.new.work c.get_all-got.result
     (subst (λ ts. GetsAll (setting_in setup at) (world g.L.Library.answer map) base ts c.get_all-got.result (get_all (frame_of (setting_in setup at) (world g.L.Library.answer map) at.work.cache.budget) (value_terms (heads_of at.tags) ts) s) c.get_all-got.new.work now') c.as_slice.ensures gets))
+
+pub returns-clause-looked : goal.returns-clause-looked
+returns-clause-looked g c = λ s nodes ts.
+    subst (λ r. IfOk r (λ how. ArgumentsHalted s nodes ts how)) (sym c.came_of.ensures) (came_halted s nodes ts c.args.terms c.get_all-got.result)

@@ -1,13 +1,27 @@
-use Rattle.std.proofs.Common.{◌≡◌}
+use Rattle.std.proofs.Common.{◌∙◌, sym, ap, subst}
+use Rattle.std.specs.Prelude.{Ok, Err}
+use Rattle.dx_getting.specs.Told.{told}
 use Rattle.dx_looking.specs.Setting.{fixed}
-use Rattle.dx_looking.proofs.Cutting.{cut_by}
-use Rattle.dx_performing.specs.Course.{frame_with, formed_calls}
-use Rattle.dx_engine.specs.Doing.{node_looked, node_formed, node_got}
-use Rattle.dx_engine.proofs.Coursing.{effect_grows}
+use Rattle.dx_effects.specs.Coming.{ArgumentsSo, node_trees}
+use Rattle.dx_engine.proofs.Performs.{performs, cut_arguments}
 use Rattle.dx_engine.proofs.performing.perform.Goals as goal
 
-pub returns-clause-performs : goal.returns-clause-performs
-returns-clause-performs g c = λ map e k r base s f st.
-    let x = fixed g.L.Library.answer map c.args.at.now.work.cache.budget in
+pub returns-in-Ok-clause-performs : goal.returns-in-Ok-clause-performs
+returns-in-Ok-clause-performs g c =
+    λ map told_map k right base s f st.
     let setup = c.args.setup.now in
-    cut_by base _ s (node_got setup x k c.args.n s f) st.work.told (effect_grows (frame_with x k (formed_calls (node_formed setup x k c.args.n f))) (node_looked setup x k c.args.n) s)
+    let at = c.arguments_of.new.at in
+    let x = fixed g.L.Library.answer map c.args.at.now.work.cache.budget in
+    let now = told (g.L.Library.done c.arguments_of.new.lib) (g.F.Files.asked c.arguments_of.new.files) in
+    let comes = subst (λ r. ArgumentsSo setup x k base (node_trees setup c.args.n) s f r at now) c.in-Ok.is (c.arguments_of.ensures.comes map told_map k right base s f st) in
+    performs setup x k right base c.args.n c.args.effect s f st.sound at now c.in-Ok.ensures.looking c.in-Ok.how (record { valued = c.in-Ok.ensures.valued; halted = c.in-Ok.ensures.halted }) (c.in-Ok.ensures.alike map told_map k right base s f st) comes c.done_by.result c.done_by.ensures.does
+
+pub returns-in-Err-clause-performs : goal.returns-in-Err-clause-performs
+returns-in-Err-clause-performs g c =
+    λ map told_map k right base s f st.
+    let setup = c.args.setup.now in
+    let at = c.arguments_of.new.at in
+    let x = fixed g.L.Library.answer map c.args.at.now.work.cache.budget in
+    let now = told (g.L.Library.done c.arguments_of.new.lib) (g.F.Files.asked c.arguments_of.new.files) in
+    cut_arguments setup x k base c.args.n s f at now c.in-Err.cut
+    (subst (λ r. ArgumentsSo setup x k base (node_trees setup c.args.n) s f r at now) c.in-Err.is (c.arguments_of.ensures.comes map told_map k right base s f st))

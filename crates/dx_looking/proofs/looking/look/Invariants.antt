@@ -1,7 +1,7 @@
 use Rattle.std.proofs.Common.{◌≡◌, ◌≤◌, length}
 use Rattle.dx_tags.specs.Closed.{GoesOn}
 use Rattle.dx_getting.specs.Told.{told}
-use Rattle.dx_demand.specs.Memo.{formed_of}
+use Rattle.dx_demand.specs.Memo.{KeepsAnswers, answers_of, formed_of}
 use Rattle.dx_demand.specs.Found.{Kept}
 use Rattle.dx_looking.specs.Setting.{nodes_in}
 use Rattle.dx_looking.specs.Looking.{IsLooking, FromHere, input_tree}
@@ -17,6 +17,7 @@ abbrev pub invariant-look : goal.invariant-look
 invariant-look g l = record {
   looking : IsLooking l.setup l.at;
   goes_on : GoesOn l.fn.at.tags l.at.tags;
+  answers : KeepsAnswers (answers_of l.fn.at.seen.memo) (answers_of l.at.seen.memo);
   first : Kept (formed_of l.fn.at.seen.memo) (formed_of l.at.seen.memo);
   budget : l.at.work.cache.budget ≡ l.fn.at.work.cache.budget;
   same : g.F.Files.content l.files ≡ g.F.Files.content l.fn.files;

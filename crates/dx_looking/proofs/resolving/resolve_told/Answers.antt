@@ -26,6 +26,14 @@ returns-clause-right c =
     let l = c.requires.looking in
     e.right (sight_in setup (with_seen at c.resolve.new.tags c.resolve.new.seen)) (sees_new setup at c.resolve.new.tags c.resolve.new.seen l e.goes_on e.formed) (right_before setup at c.resolve.new.tags c.resolve.new.seen l e.goes_on)
 
+pub returns-clause-halted : goal.returns-clause-halted
+returns-clause-halted c =
+    let e = c.in_ok-resolved.ensures in
+    let setup = c.args.setup.now in
+    let at = c.args.at.now in
+    let l = c.requires.looking in
+    e.halted (sight_in setup (with_seen at c.resolve.new.tags c.resolve.new.seen)) (sees_new setup at c.resolve.new.tags c.resolve.new.seen l e.goes_on e.formed) (right_before setup at c.resolve.new.tags c.resolve.new.seen l e.goes_on)
+
 pub returns-clause-forms : goal.returns-clause-forms
 returns-clause-forms c =
     let e = c.in_ok-resolved.ensures in

@@ -1,0 +1,13 @@
+pub mod Keeping
+pub mod Gathering
+pub mod Shifting
+pub mod Joining
+pub mod Fitting
+pub mod Parting
+pub mod Playing
+pub mod Entire
+pub mod Measuring
+pub mod Serial
+pub mod Asking
+pub mod StepLaws
+pub mod GridLaws

@@ -1,0 +1,12 @@
+pub mod Answered
+pub mod Kept
+pub mod Cuts
+pub mod Components
+pub mod Inputs
+pub mod Answer
+pub mod Shown
+pub mod Runs
+pub mod Lawful
+pub mod Gives
+pub mod Whole
+pub mod Laws
