@@ -5,6 +5,7 @@ pub mod FitsBehind
 pub mod SoundBehind
 pub mod Finished
 pub mod LeftBehind
+pub mod Executed
 pub mod Stopped
 pub mod Acting
 pub mod Valued

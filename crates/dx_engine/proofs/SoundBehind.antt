@@ -35,7 +35,7 @@ use Rattle.dx_demand.specs.Forming.{named_terms}
 use Rattle.dx_demand.proofs.PortSteps.{nodes_of}
 use Rattle.dx_performing.specs.Execution.{execution, after_exports, behind}
 use Rattle.dx_performing.specs.Kept.{Kept, after_set_terms, current, is_full, emptied}
-use Rattle.dx_performing.specs.Course.{Fixed, world_of, around_of, begins, committed, clearing, unless_full, executed}
+use Rattle.dx_performing.specs.Course.{Fixed, At, world_of, around_of, begins, committed, clearing, unless_full, ended, executed}
 use Rattle.dx_performing.specs.Meant.{LinksRight}
 use Rattle.dx_performing.specs.SoundEntries.{IsLawfulTree, IsLawfulCall, AreLawfulTrees, AreLawfulCalls}
 use Rattle.dx_performing.proofs.EntriesSound.{entries_stay_sound}
@@ -252,6 +252,17 @@ module _ (x : Fixed) (st st' st2 : State) (effects : List CallTree) (nodes : Lis
 
 -- ---- its events and runs
 
+-- an emptying runs nothing
+pub tasks_stay : (k : Kept) (at : At) → tasks_of (ended k at).events ≡ tasks_of at.state.events
+tasks_stay k at =
+    tasks-append at.state.events (clearing k)
+    ∙ ap (λ ts. tasks_of at.state.events ++ ts) (none (is_full k.terms))
+    ∙ append-nil (tasks_of at.state.events)
+  where
+    none : (b : Bool) → tasks_of (if b then Cleared ∷ [] else []) ≡ []
+    none true = refl
+    none false = refl
+
 module _ (x : Fixed) (st st' : State) (effects : List CallTree) (nodes : List Node) (base : Told) (before : Option (List ℕ)) (g : Gathered) (now : Told) (written : Option (List ℕ)) (are : EffectsAre x st effects nodes base before g st' now written) where
   abbrev made : Kept
   made = committed (kept_of st) (execution (world_of x (kept_of st)) effects) (course_of x st effects)
@@ -269,16 +280,8 @@ module _ (x : Fixed) (st st' : State) (effects : List CallTree) (nodes : List No
       ∙ ap₂ (λ (a b : List ShownEvent). a ++ b) are.events (sym (clearing_shown full (ap is_full (sym are.terms) ∙ full_is)))
       ∙ sym (map-append shown_event (course_of x st effects).state.events (clearing made))
 
-  no_tasks : tasks_of (clearing made) ≡ []
-  no_tasks = by (is_full made.terms)
-    where
-      by : (b : Bool) → tasks_of (if b then Cleared ∷ [] else []) ≡ []
-      by true = refl
-      by false = refl
-
   pub told_behind : Adds base now (tasks_of (executed x effects (kept_of st)).events)
-  told_behind =
-      subst (Adds base now) (sym (tasks-append (course_of x st effects).state.events (clearing made) ∙ ap (λ ts. tasks_of (course_of x st effects).state.events ++ ts) no_tasks ∙ append-nil (tasks_of (course_of x st effects).state.events))) are.told
+  told_behind = subst (Adds base now) (sym (tasks_stay made (course_of x st effects))) are.told
 
 -- ---- the links and files are as meant
 

@@ -6,4 +6,5 @@ pub mod Keeping
 pub mod Beginning
 pub mod Leaving
 pub mod Ending
+pub mod Executing
 pub mod Answering

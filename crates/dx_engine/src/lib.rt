@@ -5,6 +5,7 @@ mod beginning;
 mod done;
 mod ending;
 mod exec_error;
+mod executing;
 mod gathered;
 mod performing;
 mod prepared;
