@@ -1,5 +1,6 @@
 //! What is kept between executions.
-ghost use Rattle.std.specs.Prelude.{◌≡◌, []};
+ghost use Rattle.std.specs.Prelude.{◌≡◌, ◌≤◌, []};
+ghost use Rattle.dx_cache.specs.Cached.{total};
 ghost use Rattle.dx_engine.specs.Keeping.{StateFits, kept_of};
 ghost use Rattle.dx_performing.specs.Kept.{new as none_kept};
 
@@ -40,5 +41,33 @@ impl State {
             written: Written::new(alloc),
             events: Vec::new(alloc),
         }
+    }
+    /// The events of the last execution, in order.
+    pub fn events(&self) -> &[Event]
+        ensures { result.now ≡ self.now.events.items }
+    {
+        self.events.as_slice()
+    }
+
+    /// What is linked, with the terms of the values.
+    pub fn links(&self) -> &Links
+        ensures { result.now ≡ self.now.links }
+    {
+        &self.links
+    }
+
+    /// The files that were written, with their bytes.
+    pub fn written(&self) -> &Written
+        ensures { result.now ≡ self.now.written }
+    {
+        &self.written
+    }
+
+    /// The sum of the stated sizes of the cached results, in bytes.
+    pub fn used(&self) -> u64
+        ensures used { result ≡ total self.now.cache.entries }
+        ensures bounded { result ≤ self.now.cache.budget }
+    {
+        self.cache.used()
     }
 }
