@@ -1,10 +1,9 @@
 -- From what is kept to where the effects begin, and from where they end to what is kept.
-use Rattle.std.proofs.Common.{true≢false, ◌≡◌, ℕ, List, [], ◌∷◌, map, Option, Some, None, refl, sym, ap, ◌∙◌, subst}
+use Rattle.std.proofs.Common.{true≢false, ◌≡◌, ℕ, List, [], ◌∷◌, map, Option, Some, None, refl, sym, ap, subst}
 use Rattle.std.specs.Prelude.{Result, Ok, Err, OnOk, IfOk}
 use Rattle.dx_base.specs.declared.code.Code.{Code}
 use Rattle.dx_io.specs.Devices.{FileMap as InputFiles}
 use Rattle.dx_graph.specs.Graph.{Node}
-use Rattle.dx_graph.specs.GraphView.{graph_of}
 use Rattle.dx_macros.specs.Tree.{CallTree}
 use Rattle.dx_tags.specs.declared.term.Term.{Term}
 use Rattle.dx_tags.specs.Closed.{heads_of, GoesOn}
@@ -15,33 +14,29 @@ use Rattle.std.specs.Result.{IsErr}
 use Rattle.dx_performing.specs.Execution.{execution}
 use Rattle.dx_engine.proofs.Coursing.{course_more}
 use Rattle.dx_effects.proofs.NextInput.{by_budget}
-use Rattle.dx_getting.specs.Stands.{Answers, EntriesRight, KnownRight, FormedCalls, Setting, World, known_calls, shown_event, world}
+use Rattle.dx_getting.specs.Stands.{Answers, EntriesRight, KnownRight, FormedCalls, World, known_calls, world}
 use Rattle.dx_cache.specs.declared.entry.Entry.{Entry}
-use Rattle.dx_demand.specs.Forming.{formings, called_at, named_terms, SeenFormed}
+use Rattle.dx_demand.specs.Forming.{called_at, named_terms, SeenFormed}
 use Rattle.dx_demand.specs.Calling.{SeenMet}
 use Rattle.dx_demand.specs.Found.{IsClosed}
 use Rattle.dx_demand.specs.Steps.{SeenFits, SeenRight}
 use Rattle.dx_demand.specs.Picked.{LinksFit}
-use Rattle.dx_demand.proofs.Growing.{links_fit_grows}
 use Rattle.dx_demand.specs.declared.seen.Seen.{Seen}
 use Rattle.dx_meaning.specs.Forming.{Formings}
 use Rattle.dx_performing.specs.Kept.{Kept}
 use Rattle.dx_performing.specs.Course.{Fixed, begins, course, world_of, around_of, frame_with}
-use Rattle.dx_looking.specs.ToldTags.{ToldTags}
 use Rattle.dx_looking.specs.Setting.{IsBound, links_of, nodes_in, told_terms, sight_in, setting_in, fixed}
 use Rattle.dx_looking.specs.Looking.{FromHere, AreValues, AllDenote, AllReady, IsLooking, StandsAt}
 use Rattle.dx_looking.specs.declared.setup.Setup.{Setup}
 use Rattle.dx_looking.specs.declared.progress.Progress.{Progress}
-use Rattle.dx_cache.specs.Cached.{Cached}
 use Rattle.dx_getting.specs.Terms.{BoundValues}
 use Rattle.dx_objects.specs.Runs.{Values}
-use Rattle.dx_engine.specs.Running.{AreRun, AreCutShort, RunsSo, ErrorFits, GatheredFits}
-use Rattle.dx_engine.specs.Keeping.{StateFits, kept_of, setting_of, IsSoundState}
-use Rattle.dx_engine.specs.Beginning.{FromState, EffectsAre, EffectsCut, EffectsSo, NodeFits, GathersFit, IsFresh, taken_back}
+use Rattle.dx_engine.specs.Running.{RunsSo, ErrorFits, GatheredFits}
+use Rattle.dx_engine.specs.Keeping.{StateFits, kept_of, IsSoundState}
+use Rattle.dx_engine.specs.Beginning.{FromState, EffectsSo, NodeFits, GathersFit, IsFresh, taken_back}
 use Rattle.dx_engine.specs.declared.gathered.Gathered.{Gathered}
 use Rattle.dx_engine.specs.declared.short.Short.{Short}
 use Rattle.dx_engine.specs.declared.state.State.{State}
-
 
 -- links and the calls that were formed make no difference to entries
 entries_by : (terms : List Term) (links links' : BoundValues) (held : Values) (formed formed' : FormedCalls) (files : World) (es : List Entry) → EntriesRight (record { terms = terms; links = links; held = held; formed = formed }) files es → EntriesRight (record { terms = terms; links = links'; held = held; formed = formed' }) files es

@@ -1,39 +1,36 @@
 -- How far the effects of an execution were performed, and what is left of them.
-use Rattle.std.proofs.Common.{◌≡◌, ℕ, List, [], ◌∷◌, ◌++◌, map, Bool, true, false, Option, Some, None, refl, sym, ap, ap₂, ◌∙◌, subst, append_assoc, append-nil}
-use Rattle.std.specs.Prelude.{option_map, Result, Ok, Err}
-use Rattle.dx_base.specs.declared.code.Code.{Code}
+use Rattle.std.proofs.Common.{◌≡◌, ℕ, List, [], ◌∷◌, ◌++◌, Bool, true, false, Option, Some, None, refl, sym, ap, ap₂, ◌∙◌, subst, append_assoc, append-nil}
+use Rattle.std.specs.Prelude.{option_map}
 use Rattle.dx_base.specs.declared.function.Effect.{Effect}
 use Rattle.dx_base.specs.declared.function.Function.TheVariants as function
-use Rattle.dx_io.specs.Devices.{Grows, GrowsInto, Writes}
-use Rattle.dx_graph.specs.Graph.{Node, node_at}
+use Rattle.dx_io.specs.Devices.{Grows, GrowsInto}
+use Rattle.dx_graph.specs.Graph.{Node}
 use Rattle.dx_macros.specs.Site.{Step}
-use Rattle.dx_macros.specs.Tree.{Place, CallTree, TreeCall, Trees}
+use Rattle.dx_macros.specs.Tree.{Place, CallTree, TreeCall}
 use Rattle.dx_tags.specs.declared.term.Term.{Term}
-use Rattle.dx_tags.specs.Closed.{Head, heads_of, value_term, GoesOn}
+use Rattle.dx_tags.specs.Closed.{Head, heads_of, GoesOn}
 use Rattle.dx_links.specs.declared.held.Change.{Change}
 use Rattle.dx_links.specs.Holding.{Holding}
-use Rattle.dx_machine.specs.Machine.{State, Task, Event, Got, state_at, tasks_of}
+use Rattle.dx_machine.specs.Machine.{State, Task, tasks_of}
 use Rattle.dx_machine.proofs.Grows.{RunsGrow, all_grow, grows_then, grows_none}
 use Rattle.dx_getting.specs.Told.{Told, AddsSome}
 use Rattle.dx_getting.proofs.TellLaws.{grows_more, grows_nothing, some_all, some_later}
-use Rattle.dx_demand.specs.Memo.{site_of}
 use Rattle.dx_demand.proofs.Growing.{term_grows}
 use Rattle.dx_meaning.specs.Forming.{Formings}
-use Rattle.dx_meaning.specs.Meaning.{outcomes, together}
 use Rattle.dx_meaning.specs.Scan.{Scanned, Forms, Ends}
 use Rattle.dx_tags.specs.Closed.{ValueTerms}
 use Rattle.dx_machine.specs.Machine.{Frame}
-use Rattle.dx_performing.specs.Execution.{Error, Refused, Export, Execution, execution, deciding}
-use Rattle.dx_performing.specs.Kept.{Kept, SetTerm}
-use Rattle.dx_performing.specs.Course.{Fixed, At, Looked, world_of, around_of, sight_of, frame_with, formed_calls, look_at, get_scanned, effect_got, came, sets_by, ends_by, worked, unless, effect_course, call_course, course, as_terms}
+use Rattle.dx_performing.specs.Execution.{Execution, execution}
+use Rattle.dx_performing.specs.Kept.{Kept}
+use Rattle.dx_performing.specs.Course.{Fixed, At, Looked, world_of, around_of, sight_of, frame_with, formed_calls, look_at, get_scanned, effect_got, came, ends_by, worked, unless, call_course, course, as_terms}
 use Rattle.dx_ending.specs.Terms.{set_terms_of, link_of}
 use Rattle.dx_looking.specs.Setting.{nodes_in}
 use Rattle.dx_looking.specs.Looking.{StandsAt, IsCutIn}
 use Rattle.dx_looking.specs.declared.setup.Setup.{Setup}
 use Rattle.dx_looking.specs.declared.progress.Progress.{Progress}
 use Rattle.dx_effects.specs.Coming.{node_trees}
-use Rattle.dx_engine.specs.Gathering.{ahead, text_in, puts_in, changes_in, is_end, error_with, Gathering, nothing, gathered_with, error_of}
-use Rattle.dx_engine.specs.Doing.{HoldingFits, DoneSo, node_looked, node_formed, node_got, place_of_node}
+use Rattle.dx_engine.specs.Gathering.{ahead, text_in, puts_in, changes_in, is_end, Gathering, nothing, gathered_with, error_of}
+use Rattle.dx_engine.specs.Doing.{HoldingFits, DoneSo, node_looked, node_got, place_of_node}
 use Rattle.dx_engine.specs.Running.{from_state, ChangesFit, AreCutShort}
 use Rattle.dx_engine.specs.declared.done.Done.{Done}
 use Rattle.dx_engine.specs.declared.done.Done.TheVariants as done

@@ -1,28 +1,27 @@
 -- What the parts of an execution come to.
-use Rattle.std.proofs.Common.{◌≡◌, ℕ, List, [], ◌++◌, append-nil, Option, Some, None, refl, sym, ap, ◌∙◌, subst}
+use Rattle.std.proofs.Common.{◌≡◌, ℕ, List, [], append-nil, Option, refl, sym, ap, ◌∙◌, subst}
 use Rattle.std.specs.Prelude.{Result, Ok, Err, is_some, IsErrAnd}
 use Rattle.dx_base.specs.declared.code.Code.{Code}
 use Rattle.dx_graph.specs.Graph.{Node}
 use Rattle.dx_macros.specs.Tree.{CallTree}
 use Rattle.dx_tags.specs.Closed.{GoesOn}
 use Rattle.dx_machine.specs.Machine.{tasks_of}
-use Rattle.dx_getting.specs.Told.{Told, Adds, AddsSome}
+use Rattle.dx_getting.specs.Told.{Adds, AddsSome}
 use Rattle.dx_getting.proofs.TellLaws.{some_all}
 use Rattle.dx_demand.specs.Forming.{named_terms}
 use Rattle.dx_demand.specs.Memo.{site_of}
 use Rattle.dx_io.specs.Devices.{Grows}
-use Rattle.dx_performing.specs.Execution.{Error, Refused, Export, execution}
+use Rattle.dx_performing.specs.Execution.{Error, Export, execution}
 use Rattle.dx_performing.specs.Kept.{is_full}
 use Rattle.dx_performing.specs.Course.{Fixed, world_of, committed, executed}
 use Rattle.dx_performing.specs.SoundEntries.{AreLawfulCalls}
 use Rattle.dx_ending.specs.Putting.{ArePut, exports_of}
 use Rattle.dx_engine.specs.Gathering.{error_of}
-use Rattle.dx_engine.specs.Running.{ChangesFit}
 use Rattle.dx_engine.specs.Keeping.{StateFits, kept_of, IsSoundState}
 use Rattle.dx_engine.specs.Beginning.{EffectsAre, EffectsCut, GathersFit, course_of}
 use Rattle.dx_engine.specs.Leaving.{links_behind, IsLeft}
 use Rattle.dx_engine.specs.Ending.{OnEnd, OnCut, ErrorIs, SomePut, short_error}
-use Rattle.dx_engine.specs.Executing.{Devices, EndsIn, IsExecuted, IsCutEarly, IsCutLate, IsCut, NonePut, ExecutesSo}
+use Rattle.dx_engine.specs.Executing.{Devices, EndsIn, IsExecuted, IsCutEarly, NonePut, ExecutesSo}
 use Rattle.dx_engine.specs.declared.exec_error.ExecError.{ExecError}
 use Rattle.dx_engine.specs.declared.exec_error.ExecError.TheVariants.{Module, ReadFault, WriteFault, ExportFault, Memory}
 use Rattle.dx_engine.specs.declared.gathered.Gathered.{Gathered}

@@ -1,5 +1,5 @@
 -- How an execution ends, and what is put in place then.
-use Rattle.std.proofs.Common.{◌≡◌, ℕ, List, [], ◌∷◌, ◌++◌, length, Bool, true, false, Option, Some, None, Result, Ok, Err, refl, sym, ap, ◌∙◌, subst}
+use Rattle.std.proofs.Common.{◌≡◌, ℕ, List, [], ◌∷◌, ◌++◌, length, Bool, Option, Some, None, Result, Ok, Err, refl, sym, ap, ◌∙◌, subst}
 use Rattle.std.specs.Prelude.{if◌then◌else◌, is_some, IsErrAnd}
 use Rattle.dx_base.specs.declared.code.Code.{Code}
 use Rattle.dx_graph.specs.Graph.{Node}
@@ -14,7 +14,6 @@ use Rattle.dx_links.specs.declared.held.Change.{Change}
 use Rattle.dx_getting.specs.Emptied.{held_terms, values_held, all_held}
 use Rattle.dx_getting.specs.declared.event.Event.{Event}
 use Rattle.dx_getting.specs.declared.event.Event.TheVariants as shown
-use Rattle.dx_cache.specs.declared.entry.Entry.{Entry}
 use Rattle.dx_objects.specs.Runs.{Values}
 use Rattle.dx_performing.specs.Execution.{Export}
 use Rattle.dx_ending.specs.Putting.{ArePut, ArePutBefore}

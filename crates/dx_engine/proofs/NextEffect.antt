@@ -1,5 +1,5 @@
 -- The next effect of an execution, and what fits behind it.
-use Rattle.std.proofs.Common.{false, ◌≡◌, ℕ, ◌+◌, ◌<◌, ◌≤◌, List, [], ◌∷◌, ◌++◌, length, map, drop, get_or, Option, Some, None, refl, sym, ap, ◌∙◌, subst, true≢false}
+use Rattle.std.proofs.Common.{false, ◌≡◌, ℕ, ◌+◌, ◌<◌, ◌≤◌, List, [], ◌∷◌, ◌++◌, length, map, drop, get_or, Option, Some, None, sym, ap, ◌∙◌, subst, true≢false}
 use Rattle.std.proofs.lemmas.List.{at_drop_more, at_drop_all}
 use Rattle.std.proofs.Math.Logic.{∥∥₁_elim, ∥∥₁_map}
 use Rattle.std.proofs.Props.{props}
@@ -9,9 +9,9 @@ use Rattle.dx_base.specs.declared.code.Code.{Code}
 use Rattle.dx_base.specs.declared.function.Effect.{Effect}
 use Rattle.dx_base.specs.declared.function.Function.{Function}
 use Rattle.dx_base.specs.declared.function.Function.TheVariants as function
-use Rattle.dx_graph.specs.Graph.{Node, node_at, IsEffect, IsEffectNode, IsGraph}
+use Rattle.dx_graph.specs.Graph.{node_at, IsEffect, IsEffectNode, IsGraph}
 use Rattle.dx_graph.specs.GraphView.{graph_of}
-use Rattle.dx_graph.specs.Unfolding.{call_at, call_of, calls_of, trees_of}
+use Rattle.dx_graph.specs.Unfolding.{call_at, calls_of}
 use Rattle.dx_graph.proofs.Unfolding.{unfold_by_inputs}
 use Rattle.dx_demand.proofs.PortSteps.{nodes_of}
 use Rattle.dx_demand.proofs.Terms.{value_grow}
@@ -37,7 +37,7 @@ use Rattle.dx_engine.specs.declared.done.Done.{Done}
 use Rattle.dx_engine.specs.declared.done.Done.TheVariants as done
 use Rattle.dx_engine.specs.declared.gathered.Gathered.{Gathered}
 use Rattle.dx_engine.specs.declared.short.Short.{Short}
-use Rattle.dx_engine.proofs.Coursing.{OnCourse, IsDone, done_so, ends_there}
+use Rattle.dx_engine.proofs.Coursing.{OnCourse, IsDone}
 
 -- ---- effects
 
@@ -51,9 +51,10 @@ surely function.GetGlobal h = ∥∥₁_elim h (hlevel props) (λ x. x)
 
 pub effect_node : (setup : Setup) (i n : ℕ) → i < length (graph_of setup.graph.now).effects → n ≡ get_or (graph_of setup.graph.now).effects i 0 → IsEffectNode (nodes_in setup) n
 effect_node setup i n lt at =
-    let g = setup.graph.now in
-    (∥∥₁_elim g.lawful (hlevel props) (λ is. subst (λ m. m < length (nodes_in setup)) (sym at) (is.effects i 0 lt).0),
-     surely (node_at (nodes_in setup) n).what (∥∥₁_map g.lawful (λ (is : IsGraph (graph_of g)). subst (λ m. IsEffect (node_at (nodes_in setup) m).what) (sym at) (is.effects i 0 lt).1)))
+    let g = setup.graph.now in (
+      ∥∥₁_elim g.lawful (hlevel props) (λ is. subst (λ m. m < length (nodes_in setup)) (sym at) (is.effects i 0 lt).0),
+      surely (node_at (nodes_in setup) n).what (∥∥₁_map g.lawful (λ (is : IsGraph (graph_of g)). subst (λ m. IsEffect (node_at (nodes_in setup) m).what) (sym at) (is.effects i 0 lt).1)),
+    )
 
 effect_call : (setup : Setup) (n : ℕ) (e : Effect) → n < length (nodes_in setup) → (node_at (nodes_in setup) n).what ≡ function.Effect e → call_at (calls_of (nodes_in setup)) n ≡ TreeCall (function.Effect e) (place_of_node setup n) (node_trees setup n)
 effect_call setup n e lt what =

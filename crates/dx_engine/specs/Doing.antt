@@ -2,10 +2,9 @@
 use Rattle.std.specs.Prelude.{◌≡◌, ◌<◌, ℕ, List, length, Option, Some, None, Result, Ok, Err}
 use Rattle.dx_base.specs.declared.function.Effect.{Effect}
 use Rattle.dx_graph.specs.Graph.{node_at}
-use Rattle.dx_macros.specs.Tree.{Place, Trees}
+use Rattle.dx_macros.specs.Tree.{Place}
 use Rattle.dx_tags.specs.Closed.{heads_of}
 use Rattle.dx_tags.specs.declared.term.Term.{Term}
-use Rattle.dx_links.specs.declared.held.Change.{Change}
 use Rattle.dx_links.specs.Holding.{Holding}
 use Rattle.dx_machine.specs.Machine.{State, Got, state_at}
 use Rattle.dx_getting.specs.Told.{Told}

@@ -1,6 +1,5 @@
 -- What one execution does, and what it leaves.
 use Rattle.std.specs.Prelude.{◌≡◌, ℕ, List, map, Option, Some, None, Result, Ok, Err}
-use Rattle.dx_base.specs.declared.code.Code.{Code}
 use Rattle.dx_io.specs.Devices.{Grows, GrowsInto}
 use Rattle.dx_macros.specs.Site.{Step, steps_text}
 use Rattle.dx_macros.specs.Tree.{CallTree}
@@ -8,7 +7,7 @@ use Rattle.dx_machine.specs.Machine.{tasks_of}
 use Rattle.dx_getting.specs.Stands.{shown_event}
 use Rattle.dx_getting.specs.Told.{Told, Adds, AddsSome}
 use Rattle.dx_performing.specs.Course.{Fixed, world_of, executed}
-use Rattle.dx_performing.specs.Execution.{Error, Refused, Export, Execution, execution, behind}
+use Rattle.dx_performing.specs.Execution.{Error, Refused, Export, execution, behind}
 use Rattle.dx_performing.specs.Kept.{current}
 use Rattle.dx_engine.specs.Keeping.{kept_of, IsSoundState}
 use Rattle.dx_engine.specs.Ending.{SomePut}

@@ -1,19 +1,15 @@
 -- What an effect that was performed prints, puts, sets, and ends with.
-use Rattle.std.specs.Prelude.{ℕ, List, [], ◌∷◌, ◌++◌, map, Option, Some, None, option_map, Bool, true, false}
-use Rattle.dx_base.specs.Object.{Tree as Object}
+use Rattle.std.specs.Prelude.{ℕ, List, [], ◌∷◌, ◌++◌, Option, Some, None, option_map, Bool, true, false}
 use Rattle.dx_base.specs.declared.code.Code.{Code}
 use Rattle.dx_graph.specs.Graph.{Node}
 use Rattle.dx_macros.specs.Site.{Step}
 use Rattle.dx_native_text.specs.Text.{text_of}
-use Rattle.dx_tags.specs.Closed.{Head}
 use Rattle.dx_links.specs.declared.held.Change.{Change}
 use Rattle.dx_links.specs.Holding.{Holding}
 use Rattle.dx_demand.specs.Memo.{site_of}
 use Rattle.dx_ending.specs.Putting.{exports_of}
-use Rattle.dx_ending.specs.Terms.{set_terms_of}
 use Rattle.dx_performing.specs.Acts as act
 use Rattle.dx_performing.specs.Execution.{Error, Refused, Export, Execution, performing, ends_at}
-use Rattle.dx_performing.specs.Kept.{SetTerm}
 use Rattle.dx_engine.specs.declared.done.Done.{Done}
 use Rattle.dx_engine.specs.declared.done.Done.TheVariants as done
 use Rattle.dx_engine.specs.declared.gathered.Gathered.{Gathered}

@@ -1,27 +1,13 @@
 -- What an execution leaves behind its last effect.
-use Rattle.std.specs.Prelude.{◌≡◌, ℕ, List, [], ◌∷◌, ◌++◌, length, Option, Some, None, is_some, Bool, true, false, if◌then◌else◌, Result, Ok, Err}
-use Rattle.dx_base.specs.declared.code.Code.{Code}
-use Rattle.dx_graph.specs.Graph.{Node}
-use Rattle.dx_macros.specs.Site.{steps_text}
+use Rattle.std.specs.Prelude.{◌≡◌, List, [], ◌∷◌, ◌++◌, length, Option, Some, None, Bool, true, false, if◌then◌else◌}
 use Rattle.dx_links.specs.LinkMap.{LinkMap, after}
 use Rattle.dx_links.specs.declared.held.Change.{Change}
-use Rattle.dx_tags.specs.declared.term.Term.{Term}
-use Rattle.dx_tags.specs.Files.{FileMap}
-use Rattle.dx_objects.specs.Runs.{Values}
-use Rattle.dx_cache.specs.declared.entry.Entry.{Entry}
-use Rattle.dx_getting.specs.declared.event.Event.{Event}
 use Rattle.dx_getting.specs.declared.event.Event.TheVariants as shown
 use Rattle.dx_getting.specs.Emptied.{held_terms, values_held, all_held}
-use Rattle.dx_demand.specs.Memo.{site_of}
-use Rattle.dx_demand.specs.Forming.{named_terms}
-use Rattle.dx_performing.specs.Kept.{is_full}
-use Rattle.dx_performing.specs.Execution.{Export}
-use Rattle.dx_ending.specs.Putting.{ArePut, exports_of}
 use Rattle.dx_looking.specs.Setting.{IsBound}
 use Rattle.dx_engine.specs.declared.prepared.NextLinks.{NextLinks}
 use Rattle.dx_engine.specs.declared.prepared.NextEmpty.{NextEmpty}
 use Rattle.dx_engine.specs.declared.prepared.Prepared.{Prepared}
-use Rattle.dx_engine.specs.declared.gathered.Gathered.{Gathered}
 use Rattle.dx_engine.specs.declared.state.State.{State}
 
 -- the links after changes, or the same after an error

@@ -9,7 +9,7 @@ use Rattle.dx_links.specs.declared.held.Change.{Change}
 use Rattle.dx_machine.specs.Machine.{State, tasks_of}
 use Rattle.dx_getting.specs.Told.{Told, AddsSome}
 use Rattle.dx_meaning.specs.Forming.{Formings}
-use Rattle.dx_performing.specs.Execution.{Execution, execution}
+use Rattle.dx_performing.specs.Execution.{execution}
 use Rattle.dx_performing.specs.Kept.{Kept}
 use Rattle.dx_performing.specs.Course.{Fixed, At, world_of, course}
 use Rattle.dx_ending.specs.Terms.{set_terms_of}

@@ -33,12 +33,7 @@ impl Gathered {
     }
 
     /// Prints what an effect prints, and keeps what it puts and sets. It answers whether the execution ends at it.
-    pub fn take<O: Sink>(
-        &mut self,
-        alloc: Global,
-        done: Done,
-        out: &mut O,
-    ) -> Result<bool, Short>
+    pub fn take<O: Sink>(&mut self, alloc: Global, done: Done, out: &mut O) -> Result<bool, Short>
         ensures writes { Writes (O.written out.old) (O.written out.new) (text_in done) result }
         ensures gathered { OnOk result (gathers self.new ≡ gathered_with done (gathers self.old)) }
         ensures ends { IfOk result (λ ends. ends ≡ is_end done) }

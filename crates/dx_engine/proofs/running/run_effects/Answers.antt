@@ -1,4 +1,4 @@
-use Rattle.std.proofs.Common.{◌≡◌, ◌<◌, ◌≤◌, ◌+◌, ◌∙◌, arith, sym, ap, subst, refl, length, get_or}
+use Rattle.std.proofs.Common.{◌<◌, ◌≤◌, ◌+◌, ◌∙◌, arith, sym, ap, subst, refl, length, get_or}
 use Rattle.dx_graph.specs.GraphView.{graph_of}
 use Rattle.dx_graph.specs.Unfolding.{unfolded}
 use Rattle.dx_tags.proofs.Growth.{goes_on_same, goes_on_then}

@@ -1,7 +1,6 @@
-use Rattle.std.proofs.Common.{◌≡◌, ◌∙◌, refl, sym, ap, subst}
+use Rattle.std.proofs.Common.{refl}
 use Rattle.dx_graph.specs.GraphView.{graph_of}
 use Rattle.dx_graph.specs.Unfolding.{unfolded}
-use Rattle.dx_getting.specs.Told.{told}
 use Rattle.dx_looking.specs.Setting.{fixed}
 use Rattle.dx_engine.proofs.Executed.{short_so, execute_so, fits_behind}
 use Rattle.dx_engine.proofs.SoundBehind.{lawful_calls}

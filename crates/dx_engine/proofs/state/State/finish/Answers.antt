@@ -1,10 +1,9 @@
-use Rattle.std.proofs.Common.{◌≡◌, ◌∙◌, refl, sym, ap, subst}
+use Rattle.std.proofs.Common.{◌∙◌, refl, ap}
 use Rattle.dx_graph.specs.GraphView.{graph_of}
 use Rattle.dx_demand.specs.Forming.{named_terms}
 use Rattle.dx_performing.specs.Kept.{is_full}
 use Rattle.dx_performing.specs.Execution.{after_exports}
-use Rattle.dx_ending.specs.Putting.{ArePut, exports_of}
-use Rattle.dx_engine.specs.Leaving.{EmptySo}
+use Rattle.dx_ending.specs.Putting.{exports_of}
 use Rattle.dx_engine.proofs.Finished.{on_end, on_cut, unput_is, unput_cause, unput_is_no_read, unput_is_no_write, unput_end, unput_error, ended_error, none_put, front_put, left_behind}
 use Rattle.dx_engine.proofs.state.State.finish.Goals as goal
 
@@ -49,7 +48,7 @@ returns-clause-left g c =
     let same = c.put_links.ensures.same in
     on_end c.ended.result _
     (left_behind c.args.self.now c.put_links.new.self c.put_empty.new.self (graph_of c.args.g.now).nodes c.args.gathered.error c.in_ok-site.site c.is_some-failed.result full changes c.in_ok-prepared.prepared.empty
-        c.in_ok-site.ensures c.is_some-failed.ensures links.0 same.0 same.1 same.2 (ap (λ y. y.items) same.3 ∙ c.reserve-2.ensures.items) p.empty (c.put_empty.ensures.left full links.1))
+    c.in_ok-site.ensures c.is_some-failed.ensures links.0 same.0 same.1 same.2 (ap (λ y. y.items) same.3 ∙ c.reserve-2.ensures.items) p.empty (c.put_empty.ensures.left full links.1))
 
 pub returns-clause-put : goal.returns-clause-put
 returns-clause-put g c =
