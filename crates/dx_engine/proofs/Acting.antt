@@ -1,16 +1,16 @@
 -- What the code does with the values of an effect's arguments.
-use Rattle.std.proofs.Common.{◌≡◌, ℕ, ◌+◌, ◌<◌, ◌≤◌, List, [], ◌∷◌, length, Option, Some, None, refl, sym, ap, ◌∙◌, subst}
+use Rattle.std.proofs.Common.{◌≡◌, ℕ, ◌+◌, ◌<◌, ◌≤◌, List, [], ◌∷◌, length, Option, Some, None, sym, subst}
 use Rattle.std.specs.Prelude.{Result, Ok, Err, IfOk}
 use Rattle.dx_base.specs.Object.{Tree as Object}
 use Rattle.dx_base.specs.declared.function.Effect.{Effect}
 use Rattle.dx_base.specs.declared.function.Function.TheVariants as function
 use Rattle.dx_ast.specs.Table.{row_of}
-use Rattle.dx_graph.specs.Graph.{Node, node_at}
+use Rattle.dx_graph.specs.Graph.{node_at}
 use Rattle.dx_graph.specs.GraphView.{graph_of}
 use Rattle.dx_objects.specs.Runs.{Values}
 use Rattle.dx_tags.specs.declared.term.Term.{Term}
 use Rattle.dx_tags.specs.declared.term.ValueTag.{ValueTag}
-use Rattle.dx_demand.specs.Terms.{AreArguments, IsValue}
+use Rattle.dx_demand.specs.Terms.{AreArguments}
 use Rattle.dx_demand.proofs.PortSteps.{nodes_of}
 use Rattle.dx_performing.specs.Acts.{Act}
 use Rattle.dx_acts.specs.Answers.{AreValues}

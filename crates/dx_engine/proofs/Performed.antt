@@ -1,21 +1,20 @@
 -- What an effect does is what the meaning decides, and what the machine's course has.
-use Rattle.std.proofs.Common.{◌≡◌, ℕ, zero, suc, List, [], ◌∷◌, ◌++◌, length, Bool, true, false, Option, Some, None, refl, sym, ap, ap₂, ◌∙◌, subst, append-nil}
+use Rattle.std.proofs.Common.{◌≡◌, ℕ, List, [], ◌∷◌, true, Some, None, refl, sym, ap, ap₂, ◌∙◌, subst, append-nil}
 use Rattle.std.specs.Prelude.{option_map, Result, Ok, Err}
 use Rattle.dx_base.specs.Object.{Tree as Object}
 use Rattle.dx_base.specs.declared.code.Code.{Code}
 use Rattle.dx_base.specs.declared.function.Effect.{Effect}
 use Rattle.dx_base.specs.declared.function.Effect.TheVariants as effect
-use Rattle.dx_graph.specs.Graph.{Node, node_at}
+use Rattle.dx_graph.specs.Graph.{Node}
 use Rattle.dx_macros.specs.Site.{Step}
 use Rattle.dx_macros.specs.Tree.{Place, Trees}
 use Rattle.dx_objects.specs.Runs.{Values, Answer}
-use Rattle.dx_tags.specs.declared.term.Term.{Term}
 use Rattle.dx_tags.specs.declared.term.ValueTag.{ValueTag}
-use Rattle.dx_tags.specs.Closed.{Head, ValueTerm, ValueTerms, NoTerm, AndTerm, CallTerm, heads_of, value_term, value_terms}
+use Rattle.dx_tags.specs.Closed.{Head, ValueTerm, ValueTerms, NoTerm, CallTerm, heads_of, value_terms}
 use Rattle.dx_links.specs.declared.key.Key.{Key}
 use Rattle.dx_links.specs.Denotes.{Around, all_denote}
 use Rattle.dx_links.specs.Holding.{Holding}
-use Rattle.dx_machine.specs.Machine.{FormedCall, Frame, State, Got, Went, Stopped, state_at, tasks_of, get, get_all}
+use Rattle.dx_machine.specs.Machine.{State, Got, state_at, tasks_of}
 use Rattle.dx_machine.specs.Sound.{HaveAttributes, IsSound}
 use Rattle.dx_getting.specs.Told.{Told}
 use Rattle.dx_getting.specs.Stands.{IsCall, call_at}
@@ -30,12 +29,12 @@ use Rattle.dx_meaning.specs.Scan.{Sight, IsOff, Stops, Needs, Scanned, Forms, En
 use Rattle.dx_meaning.specs.Forming.{Formings}
 use Rattle.dx_meaning.specs.Term.{terms_of, term_at}
 use Rattle.dx_meaning.proofs.Keeping.{all_keeps, each_keeps}
-use Rattle.dx_performing.specs.Acts.{Act, Prints, Puts, Sets, Refuses, act, is_refusal, printing}
+use Rattle.dx_performing.specs.Acts.{Act, Sets, act, is_refusal, printing}
 use Rattle.dx_performing.specs.Execution.{Execution, performing, deciding, ends_at}
 use Rattle.dx_performing.specs.Kept.{Kept, set_terms}
-use Rattle.dx_performing.specs.Course.{Fixed, Looked, Came, HasValues, PassedOver, IsRefused, around_of, world_of, sight_of, frame_with, formed_calls, look_at, effect_got, with_values, came, sets_by, ends_by}
+use Rattle.dx_performing.specs.Course.{Fixed, Looked, Came, HasValues, IsRefused, around_of, world_of, sight_of, frame_with, formed_calls, with_values, came, sets_by, ends_by}
 use Rattle.dx_performing.specs.Meant.{LinksRight, CameSo}
-use Rattle.dx_performing.specs.Resuming.{AreTold, IsBegun, GoesOn}
+use Rattle.dx_performing.specs.Resuming.{GoesOn}
 use Rattle.dx_performing.proofs.Executed.{names_of, full, denote}
 use Rattle.dx_performing.proofs.Meant.{effects_come_so}
 use Rattle.dx_performing.proofs.SelectorsGoOn.{all_go_on}
@@ -52,8 +51,7 @@ use Rattle.dx_looking.specs.declared.setup.Setup.{Setup}
 use Rattle.dx_looking.specs.declared.progress.Progress.{Progress}
 use Rattle.dx_looking.proofs.Bridge.{attributes_of}
 use Rattle.dx_looking.proofs.Ways.{told_in_full}
-use Rattle.dx_effects.specs.Coming.{MeanSo, node_trees}
-use Rattle.dx_effects.specs.declared.came.Arguments.TheVariants as arguments
+use Rattle.dx_effects.specs.Coming.{node_trees}
 use Rattle.dx_engine.specs.Gathering.{ahead, changes_in, is_end}
 use Rattle.dx_engine.specs.Doing.{DoneSo, node_looked, node_formed, node_got, place_of_node}
 use Rattle.dx_engine.specs.Answering.{held_as, Does, EndsWhere}

@@ -1,7 +1,6 @@
 -- What the performing of an effect comes to, by what its arguments come to.
-use Rattle.std.proofs.Common.{◌≡◌, ℕ, List, refl, sym, ap, ◌∙◌, subst}
+use Rattle.std.proofs.Common.{ℕ, List, sym, subst}
 use Rattle.std.specs.Prelude.{Result, Ok, Err, IfOk}
-use Rattle.dx_base.specs.declared.code.Code.{Code}
 use Rattle.dx_base.specs.declared.function.Effect.{Effect}
 use Rattle.dx_machine.specs.Machine.{State, Got, state_at}
 use Rattle.dx_machine.specs.Sound.{IsSound}
@@ -11,7 +10,7 @@ use Rattle.dx_graph.specs.Graph.{node_at}
 use Rattle.dx_demand.specs.Memo.{answers_of, site_of}
 use Rattle.dx_meaning.specs.Forming.{Formings}
 use Rattle.dx_performing.specs.Kept.{Kept}
-use Rattle.dx_performing.specs.Course.{Fixed, around_of, frame_with, formed_calls}
+use Rattle.dx_performing.specs.Course.{Fixed, around_of, formed_calls}
 use Rattle.dx_performing.specs.Meant.{LinksRight}
 use Rattle.dx_looking.specs.Setting.{nodes_in, sight_in}
 use Rattle.dx_looking.specs.Looking.{IsLooking, StandsAt, IsCutIn}

@@ -1,5 +1,5 @@
 -- Where the getting of an effect's arguments is stopped.
-use Rattle.std.proofs.Common.{◌≡◌, List, [], ◌∷◌, ◌++◌, Option, Some, None, refl, sym, ap, ◌∙◌, subst}
+use Rattle.std.proofs.Common.{◌≡◌, List, [], ◌∷◌, ◌++◌, Some, refl, sym, ap, ◌∙◌, subst}
 use Rattle.std.specs.Prelude.{Result, Ok, Err}
 use Rattle.dx_base.specs.declared.code.Code.{Code}
 use Rattle.dx_macros.specs.Site.{Step}
@@ -12,7 +12,7 @@ use Rattle.dx_machine.proofs.Keeping.{getting_keeps}
 use Rattle.dx_getting.specs.Stands.{IsCall, call_at}
 use Rattle.dx_getting.proofs.Getting.{then_went}
 use Rattle.dx_meaning.specs.Outcome.{Value}
-use Rattle.dx_meaning.specs.Scan.{Stop, Needs, Scanned, Forms, Ends}
+use Rattle.dx_meaning.specs.Scan.{Stop, Needs, Forms, Ends}
 use Rattle.dx_performing.specs.Kept.{Kept}
 use Rattle.dx_performing.specs.Course.{Fixed, Looked, around_of, sight_of, frame_with, as_terms, get_scanned, effect_got, value_or_none}
 use Rattle.dx_performing.specs.Meant.{LinksRight}

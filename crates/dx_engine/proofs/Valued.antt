@@ -3,7 +3,7 @@ use Rattle.std.proofs.Common.{◌≡◌, ℕ, suc, ◌<◌, List, [], ◌∷◌,
 use Rattle.std.specs.Prelude.{slice_get}
 use Rattle.dx_macros.specs.Tree.{CallTree}
 use Rattle.dx_graph.specs.Graph.{Node}
-use Rattle.dx_graph.specs.Unfolding.{calls_of, tree_of, trees_of}
+use Rattle.dx_graph.specs.Unfolding.{calls_of, trees_of}
 use Rattle.dx_graph.specs.declared.node.Input.{Input}
 use Rattle.dx_tags.specs.declared.term.Term.{Term}
 use Rattle.dx_tags.specs.Closed.{ValueTerms, NoTerm, AndTerm}

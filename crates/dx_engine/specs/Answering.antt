@@ -1,5 +1,5 @@
 -- What an effect does, by what its arguments come to.
-use Rattle.std.specs.Prelude.{◌≡◌, ◌<◌, ℕ, List, [], ◌∷◌, length, Option, Some, None, option_map, Result, Ok, Err}
+use Rattle.std.specs.Prelude.{◌≡◌, ℕ, List, [], ◌∷◌, Option, Some, None}
 use Rattle.std.specs.declared.rc.Rc.{Rc}
 use Rattle.std.specs.declared.alloc.Global.{Global}
 use Rattle.dx_base.specs.Object.{Tree as Object}
@@ -8,7 +8,6 @@ use Rattle.dx_objects.specs.Values.{value_of}
 use Rattle.dx_native_text.specs.Text.{text_of}
 use Rattle.dx_tags.specs.declared.term.ValueTag.{ValueTag}
 use Rattle.dx_tags.specs.Closed.{heads_of}
-use Rattle.dx_links.specs.declared.held.Change.{Change}
 use Rattle.dx_links.specs.Holding.{Holding}
 use Rattle.dx_getting.specs.Stands.{IsCall, call_at}
 use Rattle.dx_meaning.specs.Met.{Called, all_met}

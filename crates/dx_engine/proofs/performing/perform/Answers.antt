@@ -1,5 +1,4 @@
-use Rattle.std.proofs.Common.{◌∙◌, sym, ap, subst}
-use Rattle.std.specs.Prelude.{Ok, Err}
+use Rattle.std.proofs.Common.{subst}
 use Rattle.dx_getting.specs.Told.{told}
 use Rattle.dx_looking.specs.Setting.{fixed}
 use Rattle.dx_effects.specs.Coming.{ArgumentsSo, node_trees}
