@@ -1,5 +1,5 @@
 -- What is kept of the inputs where an effect's arguments come to this.
-use Rattle.std.proofs.Common.{◌≡◌, List, length}
+use Rattle.std.proofs.Common.{List, length}
 use Rattle.std.specs.Prelude.{Result, Ok, Err, IfOk}
 use Rattle.dx_objects.specs.Runs.{Values}
 use Rattle.dx_macros.specs.Tree.{Trees, NoTree}

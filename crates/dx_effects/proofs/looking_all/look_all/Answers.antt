@@ -4,7 +4,7 @@ use Rattle.std.proofs.lemmas.Result.{err_from_is_err_and}
 use Rattle.dx_tags.proofs.Growth.{goes_on_same, goes_on_then}
 use Rattle.dx_getting.specs.Told.{told}
 use Rattle.dx_demand.specs.Terms.{AreArguments}
-use Rattle.dx_meaning.specs.Scan.{Needs, Ends, scan}
+use Rattle.dx_meaning.specs.Scan.{Needs, scan}
 use Rattle.dx_demand.specs.Memo.{answers_of, formed_of, site_of}
 use Rattle.dx_demand.proofs.Calls.{none_valued}
 use Rattle.dx_demand.proofs.Taken.{slot}
