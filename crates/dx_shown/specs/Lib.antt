@@ -1,0 +1,3 @@
+pub mod Session
+pub mod Made
+pub mod Alike
