@@ -1,0 +1,7 @@
+use Rattle.dx_ast.specs.Plain.{plain_stmt}
+use Rattle.dx_macros.specs.DictionaryView.{dictionary_of}
+use Rattle.dx_making.proofs.Made.{unmade_so}
+use Rattle.dx_making.proofs.making.make.Goals as goal
+
+pub returns-in-Err-Memory-clause-makes : goal.returns-in-Err-Memory-clause-makes
+returns-in-Err-Memory-clause-makes g c = λ map content sound. unmade_so _ c.args.state.now _ (dictionary_of c.args.d.now) c.args.frames.now (plain_stmt c.args.s.now)
