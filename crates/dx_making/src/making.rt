@@ -1,14 +1,16 @@
 //! Making an execution.
-ghost use Rattle.std.specs.Prelude.{◌≡◌, OnOk, OnErr};
+ghost use Rattle.std.specs.Prelude.{◌≡◌, IfOk, OnOk, OnErr, is_some};
 ghost use Rattle.dx_io.specs.Devices.{Cause};
 ghost use Rattle.dx_ast.specs.Lawful.{IsLawful};
 ghost use Rattle.dx_ast.specs.Plain.{plain_stmt};
 ghost use Rattle.dx_macros.specs.DictionaryView.{dictionary_of};
+ghost use Rattle.dx_macros.specs.Walk.{first_fault};
 ghost use Rattle.dx_getting.specs.Told.{told};
 ghost use Rattle.dx_engine.specs.Keeping.{StateFits, kept_of};
 ghost use Rattle.dx_engine.specs.Beginning.{FromState};
 ghost use Rattle.dx_engine.specs.Executing.{Devices};
 ghost use Rattle.dx_shown.specs.Made.{coursed};
+ghost use Rattle.dx_making.specs.Failing.{is_faulty};
 ghost use Rattle.dx_making.specs.Making.{MakesSo};
 ghost use Rattle.dx_making.specs.declared.end.End.TheVariants.{ReadFault, WriteFault, ExportFault};
 
@@ -48,6 +50,7 @@ pub fn make<F: Files, X: Exports, O: Sink, L: Library>(
     ensures read_cause { Cause ReadFault (F.faults files.old) (F.faults files.new) result }
     ensures write_cause { Cause WriteFault (O.faults out.old) (O.faults out.new) result }
     ensures export_cause { Cause ExportFault (X.faults exports.old) (X.faults exports.new) result }
+    ensures faulty { IfOk result (λ failing. is_faulty failing ≡ is_some (first_fault (dictionary_of d.now) (plain_stmt s.now))) }
     ensures fits { OnOk result (StateFits state.new) }
     ensures budget { OnOk result (state.new.cache.budget ≡ state.old.cache.budget) }
     ensures links { OnErr result (state.new.links ≡ state.old.links) }
