@@ -50,9 +50,15 @@ row_of function.Route = row (codes "Route") (codes "selector" ∷ codes "input" 
 row_of function.GetLocal = row (codes "GetLocal") (codes "initial" ∷ codes "link" ∷ []) 0 2
 row_of function.GetGlobal = row (codes "GetGlobal") (codes "initial" ∷ codes "link" ∷ []) 0 2
 
--- the functions whose performing is built, which alone a script can name
+-- those that do something, those that choose, and the modules
 abbrev pub functions : List Function
-functions = function.Effect effect.Print ∷ function.Effect effect.Echo ∷ []
+functions =
+    function.Effect effect.Print ∷ function.Effect effect.Echo ∷ function.Effect effect.Export ∷ function.Effect effect.SetLocal ∷ function.Effect effect.SetGlobal ∷
+    function.Switch ∷ function.Route ∷ function.GetLocal ∷ function.GetGlobal ∷
+    function.Module computing.Import ∷ function.Module computing.Select ∷ function.Module computing.Extract ∷ function.Module computing.Replace ∷
+    function.Module computing.Mark ∷ function.Module computing.Unmark ∷ function.Module computing.Slab ∷ function.Module computing.Compute ∷
+    function.Module computing.Statistics ∷ function.Module computing.Histogram ∷ function.Module computing.Collect ∷
+    function.Module computing.CollectNamed ∷ function.Module computing.CollectSeries ∷ function.Module computing.Inquire ∷ []
 
 -- the one of that name among these
 abbrev pub named_among : List ℕ → List Function → Option Function

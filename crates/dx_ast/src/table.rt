@@ -49,10 +49,31 @@ pub fn results(f: Function) -> u32
     row_of(f).results
 }
 
-/// The functions whose performing is built, which alone a script can name.
-static BUILT: [Function; 2] = [
+/// All functions: those that do something, those that choose, and the modules.
+static FUNCTIONS: [Function; 23] = [
     Function::Effect(Effect::Print),
     Function::Effect(Effect::Echo),
+    Function::Effect(Effect::Export),
+    Function::Effect(Effect::SetLocal),
+    Function::Effect(Effect::SetGlobal),
+    Function::Switch,
+    Function::Route,
+    Function::GetLocal,
+    Function::GetGlobal,
+    Function::Module(Module::Import),
+    Function::Module(Module::Select),
+    Function::Module(Module::Extract),
+    Function::Module(Module::Replace),
+    Function::Module(Module::Mark),
+    Function::Module(Module::Unmark),
+    Function::Module(Module::Slab),
+    Function::Module(Module::Compute),
+    Function::Module(Module::Statistics),
+    Function::Module(Module::Histogram),
+    Function::Module(Module::Collect),
+    Function::Module(Module::CollectNamed),
+    Function::Module(Module::CollectSeries),
+    Function::Module(Module::Inquire),
 ];
 
 fn find_named(mut among: &[Function], wanted: &[u8]) -> Option<Function>
@@ -67,12 +88,12 @@ fn find_named(mut among: &[Function], wanted: &[u8]) -> Option<Function>
     None
 }
 
-/// The function of that name; None exactly where no function that is built has it.
+/// The function of that name; None exactly where no function has it.
 pub fn function(name: &[u8]) -> Option<Function>
     ensures found { result ≡ table.function_named name.now }
     ensures named { IfSome result (λ f. (table.row_of f).name ≡ name.now) }
 {
-    find_named(&BUILT, name)
+    find_named(&FUNCTIONS, name)
 }
 
 /// A module has as many named parameters in the table as it has named inputs.

@@ -3,6 +3,7 @@
 
 mod detail;
 mod echo;
+mod errors;
 mod header;
 mod item_lines;
 mod lines;
@@ -12,5 +13,6 @@ mod print;
 pub use dx_base::{Bytes, Code};
 pub use dx_objects::{Outs, RunFail};
 pub use echo::echo_text;
+pub use errors::{push_code, push_error_line};
 pub use lines::{LinkName, Traced, push_link_line, push_links_line, push_trace_line};
 pub use print::print_text;
