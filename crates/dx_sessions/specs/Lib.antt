@@ -1,0 +1,5 @@
+pub mod Sequence
+pub mod SessionView
+pub mod Does
+pub mod Ended
+pub mod Executes
