@@ -1,5 +1,8 @@
 -- What a call did of what is to be shown: all of it, or as much as was done before it was cut short.
-use Rattle.std.specs.Prelude.{◌≡◌, ℕ, ◌≤◌, length, List, [], ◌∷◌, ◌++◌, Option, Some, Result, Ok, Err, Bool}
+use Rattle.std.specs.Prelude.{◌≡◌, ℕ, ◌≤◌, ℤ, length, List, [], ◌∷◌, ◌++◌, Option, Some, Result, Ok, Err, Bool, IsTrue}
+use Rattle.dx_ast.specs.declared.sequencing.FrameVar.{FrameVar}
+use Rattle.dx_ast.specs.Syntax.{Stmt, Assigns}
+use Rattle.dx_io.specs.declared.fails.SinkFail.{SinkFail}
 use Rattle.dx_io.specs.Devices.{FileMap as InputFiles, Grows, GrowsInto}
 use Rattle.dx_objects.specs.Runs.{Ran}
 use Rattle.dx_getting.specs.Stands.{Answers}
@@ -12,11 +15,14 @@ use Rattle.dx_engine.specs.Executing.{Devices}
 use Rattle.dx_engine.specs.declared.state.State.{State}
 use Rattle.dx_shown.specs.Made.{Coursed}
 use Rattle.dx_shown.specs.Listed.{all_exports, all_tasks, any_error}
-use Rattle.dx_shown.specs.Session.{Shown, Done}
+use Rattle.dx_sequencer.specs.Sequencer.{is_refused}
+use Rattle.dx_shown.specs.Session.{Shown, FrameRange, Done, State as SessionState, with_assignment, set}
 use Rattle.dx_making.specs.declared.end.End.{End}
 use Rattle.dx_telling.specs.Shown.{shown_texts}
 use Rattle.dx_telling.specs.declared.listings.Listings.{Listings}
+use Rattle.dx_sessions.specs.Ended.{is_error}
 use Rattle.dx_sessions.specs.SessionView.{state_of}
+use Rattle.dx_sessions.specs.declared.ended.Ended.{Ended}
 use Rattle.dx_sessions.specs.declared.session.Session.{Session}
 
 -- what is told of the devices
@@ -60,6 +66,33 @@ pub record IsDone (x : Fixed) (listings : Listings) (done : Done Kept Coursed) (
 abbrev pub DoesSo : Fixed → Listings → Done Kept Coursed → Devices → Result Bool End → Session → Devices → Type 0
 DoesSo x listings done was (Ok erred) new now = IsDone x listings done was erred new now
 DoesSo x listings done was (Err end) new now = IsCutShort listings done.shown was now
+
+-- the same of an execution
+abbrev pub ShowsSo : Fixed → Listings → Done Kept Coursed → Devices → Result Ended End → Session → Devices → Type 0
+ShowsSo x listings done was (Ok ended) new now = IsDone x listings done was (is_error ended) new now
+ShowsSo x listings done was (Err end) new now = IsCutShort listings done.shown was now
+
+-- macros, definitions, the sequencer and the sequence call are as before
+pub record OthersStay (old new : Session) : Type 0 where
+  pub dictionary : new.dictionary ≡ old.dictionary
+  pub sequencer : new.sequencer ≡ old.sequencer
+  pub sequence : new.sequence ≡ old.sequence
+  pub listings : new.listings ≡ old.listings
+
+-- where an assignment has joined
+abbrev pub joining : Stmt → SessionState Kept → SessionState Kept
+joining (Assigns targets e) st = with_assignment targets e st
+joining other st = st
+
+abbrev pub set_done : FrameVar → ℤ → Session → Done Kept Coursed
+set_done v n old = set v n (state_of old)
+
+-- a variable of the sequencer is set, or the line of a delta that is refused is printed, or a front of it
+abbrev pub SetsSo : FrameVar → ℤ → Session → Session → Option (List ℕ) → Option (List ℕ) → Result Bool SinkFail → Type 0
+SetsSo v n old new was now (Ok refused) =
+    (refused ≡ is_refused v n) × (new.state ≡ old.state) × (new.listings ≡ old.listings)
+    × (state_of new ≡ (set_done v n old).state) × Grows was now (shown_texts old.listings (set_done v n old).shown)
+SetsSo v n old new was now (Err fail) = IsTrue (is_refused v n) × (new.listings ≡ old.listings) × GrowsInto was now (shown_texts old.listings (FrameRange ∷ []))
 
 -- the same of a whole session, of which no state is left
 abbrev pub PerformsSo : Listings → List (Shown Coursed) → Devices → Result Bool End → Devices → Type 0

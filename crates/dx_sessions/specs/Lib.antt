@@ -3,3 +3,4 @@ pub mod SessionView
 pub mod Does
 pub mod Ended
 pub mod Executes
+pub mod Switches

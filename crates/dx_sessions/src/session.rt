@@ -10,7 +10,7 @@ ghost use Rattle.dx_shown.specs.Made.{coursed};
 ghost use Rattle.dx_shown.specs.Session as spec;
 ghost use Rattle.dx_shown.specs.Session.{initial};
 ghost use Rattle.dx_making.specs.declared.end.End.TheVariants.{ReadFault, WriteFault, ExportFault};
-ghost use Rattle.dx_sessions.specs.Does.{DoesSo, OverSound, Sets, devices};
+ghost use Rattle.dx_sessions.specs.Does.{DoesSo, OverSound, SetsSo, devices};
 ghost use Rattle.dx_sessions.specs.Sequence.{IsSequence};
 
 use crate::setting::setting;
@@ -88,7 +88,7 @@ impl Session {
     {
         match s {
             Stmt::Assign(a) => self.assign(alloc, a, files, exports, out, lib),
-            Stmt::Call(c) => self.call(alloc, Stmt::Call(c), files, exports, out, lib),
+            Stmt::Call(c) => self.execute_call(alloc, Stmt::Call(c), files, exports, out, lib),
             Stmt::Macro(m) => {
                 self.dictionary.define(m.into_inner())?;
                 Ok(false)
@@ -108,7 +108,7 @@ impl Session {
 
     // Sets a variable of the sequencer, or prints the line of a delta that is refused.
     fn set<O: Sink>(&mut self, v: FrameVar, e: &Expr, out: &mut O) -> Result<bool, SinkFail>
-        ensures sets { Sets v (spec.setting (seq.frames_of self.old.sequencer) (plain_expr e.now)) self.old self.new (O.written out.old) (O.written out.new) result }
+        ensures sets { SetsSo v (spec.setting (seq.frames_of self.old.sequencer) (plain_expr e.now)) self.old self.new (O.written out.old) (O.written out.new) result }
         ensures cause { WriteCause (O.faults out.old) (O.faults out.new) result }
     {
         let x = setting(&self.sequencer.frames(), e);
