@@ -44,12 +44,7 @@ fn push_each(alloc: Global, out: &mut Vec<u8>, links: &Links) -> Result<(), Allo
     Ok(())
 }
 
-fn push_link(
-    alloc: Global,
-    out: &mut Vec<u8>,
-    key: &Key,
-    value: &Object,
-) -> Result<(), AllocError>
+fn push_link(alloc: Global, out: &mut Vec<u8>, key: &Key, value: &Object) -> Result<(), AllocError>
     ensures { OnOk result (out.new.items ≡ out.old.items ++ link_text key.now value.now) }
 {
     push_link_line(out, name_of(key))?;
