@@ -77,7 +77,8 @@ static FUNCTIONS: [Function; 23] = [
 ];
 
 fn find_named(mut among: &[Function], wanted: &[u8]) -> Option<Function>
-    ensures { result ≡ table.named_among wanted.now among.entry.now }
+    ensures found { result ≡ table.named_among wanted.now among.entry.now }
+    ensures named { IfSome result (λ f. (table.row_of f).name ≡ wanted.now) }
 {
     while let [f, rest @ ..] = among {
         if name(*f) == wanted {
