@@ -12,7 +12,7 @@ use Rattle.dx_shown.specs.Session.{Shown, Executes, PlayTooLong, FrameRange}
 use Rattle.dx_shown.specs.Listed.{of_executions, all_exports, all_tasks, is_error, any_error}
 use Rattle.dx_telling.specs.Shown.{shown_texts, text_of}
 use Rattle.dx_telling.specs.declared.listings.Listings.{Listings}
-use Rattle.dx_telling.proofs.ShownLaws.{texts_append}
+use Rattle.dx_telling.proofs.Texts.{texts_of_append}
 use Rattle.dx_sessions.specs.Does.{IsWhole, IsFront, IsCutShort}
 
 -- ---- lists of what was shown
@@ -59,7 +59,7 @@ none_whole l was = record { printed = grows_by_nothing was.written; puts = grows
 
 pub whole_on : (l : Listings) (a b : List (Shown Coursed)) (was mid now : Devices) → IsWhole l a was mid → IsWhole l b mid now → IsWhole l (a ++ b) was now
 whole_on l a b was mid now first second = record {
-  printed = subst (Grows was.written now.written) (sym (texts_append l a b)) (grows_on was.written mid.written now.written (shown_texts l a) (shown_texts l b) first.printed second.printed);
+  printed = subst (Grows was.written now.written) (sym (texts_of_append l a b)) (grows_on was.written mid.written now.written (shown_texts l a) (shown_texts l b) first.printed second.printed);
   puts = subst (Grows was.puts now.puts) (sym (executions_append (λ (c : Coursed). c.execution.exports) a b)) (grows_on was.puts mid.puts now.puts (all_exports a) (all_exports b) first.puts second.puts);
   told = subst (Adds was.told now.told) (sym (executions_append (λ (c : Coursed). tasks_of c.events) a b)) (adds_on was.told mid.told now.told (all_tasks a) (all_tasks b) first.told second.told);
 }
