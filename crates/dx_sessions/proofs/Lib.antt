@@ -1,0 +1,9 @@
+pub mod Folding
+pub mod Doing
+pub mod Executing
+pub mod Stepping
+pub mod Fronts
+pub mod Lawfulness
+pub mod Beginning
+pub mod Performing
+pub mod Refusing
