@@ -1,9 +1,10 @@
 pub mod Folding
 pub mod Doing
-pub mod Executing
+pub mod Executions
 pub mod Stepping
 pub mod Fronts
+pub mod Joining
 pub mod Lawfulness
 pub mod Beginning
-pub mod Performing
+pub mod Sessions
 pub mod Refusing

@@ -10,7 +10,7 @@ use Rattle.dx_shown.specs.Made.{coursed}
 use Rattle.dx_shown.specs.Session.{initial, statements}
 use Rattle.dx_sessions.specs.Does.{devices}
 use Rattle.dx_sessions.specs.SessionView.{state_of}
-use Rattle.dx_sessions.proofs.Performing.{SoFar}
+use Rattle.dx_sessions.proofs.Sessions.{SoFar}
 use Rattle.dx_sessions.proofs.performing.perform.Given as goal
 
 abbrev pub invariant-loop-statement : goal.invariant-loop-statement

@@ -4,7 +4,7 @@ use Rattle.dx_shown.specs.Made.{coursed}
 use Rattle.dx_shown.specs.Session.{stepped_often}
 use Rattle.dx_sessions.specs.Does.{IsDone, OverSound, devices}
 use Rattle.dx_sessions.specs.SessionView.{state_of}
-use Rattle.dx_sessions.proofs.sequencing.Session.step_often.Given as goal
+use Rattle.dx_sessions.proofs.session.Session.step_often.Given as goal
 
 abbrev pub invariant-loop : goal.invariant-loop
 invariant-loop g l = record {
