@@ -4,6 +4,7 @@
 mod assigning;
 mod ended;
 mod executing;
+mod laws;
 mod performing;
 mod sequencing;
 mod session;
@@ -11,5 +12,6 @@ mod setting;
 
 pub use dx_making::End;
 pub use dx_telling::Listings;
+pub use laws::cuts_leave_fronts;
 pub use performing::perform;
 pub use session::Session;

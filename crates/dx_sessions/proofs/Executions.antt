@@ -1,9 +1,13 @@
 -- One execution on the devices, with what is told behind it.
-use Rattle.std.proofs.Common.{◌≡◌, ℕ, List, [], ◌∷◌, ◌++◌, Option, Some, None, Bool, true, false, ◌||◌, is_some, Result, Ok, Err, refl, sym, ap, ap₂, subst, ◌∙◌, append_assoc, append-nil}
+use Rattle.std.proofs.Common.{◌≡◌, ℕ, List, [], ◌∷◌, ◌++◌, Option, Some, None, Bool, true, false, ◌||◌, is_some, option_map, Result, Ok, Err, refl, sym, ap, ap₂, subst, ◌∙◌, append_assoc, append-nil}
 use Rattle.dx_io.specs.Devices.{FileMap as InputFiles, Grows, GrowsInto}
 use Rattle.dx_io.proofs.Growing.{grows_by_nothing, grows_on, grows_on_into, grows_into}
+use Rattle.dx_ast.specs.declared.statements.Stmt.{Stmt as CodeStmt}
+use Rattle.dx_ast.specs.Plain.{plain_stmt}
 use Rattle.dx_ast.specs.Syntax.{Stmt}
 use Rattle.dx_ending.specs.Putting.{ArePut}
+use Rattle.dx_macros.specs.declared.dictionary.Dictionary.{Dictionary}
+use Rattle.dx_macros.specs.DictionaryView.{dictionary_of}
 use Rattle.dx_machine.specs.Machine.{Task, tasks_of}
 use Rattle.dx_getting.specs.Stands.{Answers}
 use Rattle.dx_getting.specs.Told.{Told, Adds, AddsSome}
@@ -17,7 +21,9 @@ use Rattle.dx_engine.specs.Keeping.{kept_of, IsSoundState}
 use Rattle.dx_engine.specs.Executing.{Devices, NonePut}
 use Rattle.dx_engine.specs.declared.state.State.{State}
 use Rattle.dx_shown.specs.Made.{Coursed, coursed}
-use Rattle.dx_shown.specs.Session.{Shown, Executes, executed, State as SessionState}
+use Rattle.dx_sequencer.specs.Sequencer as seq
+use Rattle.dx_sequencer.specs.Sequencer.{frames_of}
+use Rattle.dx_shown.specs.Session.{Shown, Executes, executed, with_kept, State as SessionState}
 use Rattle.dx_shown.specs.Listed.{all_exports, all_tasks, any_error}
 use Rattle.dx_making.specs.Failing.{FailsAs}
 use Rattle.dx_making.specs.Making.{IsMade, IsCutEarly, IsCutLate, SomeArePut, MakesSo}
@@ -27,7 +33,7 @@ use Rattle.dx_making.specs.declared.failing.Failing.{Failing}
 use Rattle.dx_making.specs.declared.failing.Failing.TheVariants.{Faulty, Refused}
 use Rattle.dx_telling.specs.Shown.{behind_of, shown_texts}
 use Rattle.dx_telling.specs.declared.listings.Listings.{Listings}
-use Rattle.dx_sessions.specs.Does.{OverSound, IsWhole, IsFront, IsCutShort, IsDone, ShowsSo, devices}
+use Rattle.dx_sessions.specs.Does.{OverSound, IsWhole, IsFront, IsCutShort, IsDone, OthersStay, ShowsSo}
 use Rattle.dx_sessions.specs.Ended.{is_error}
 use Rattle.dx_sessions.specs.Executes.{IsExecuted, ExecutesSo}
 use Rattle.dx_sessions.specs.SessionView.{state_of}
@@ -97,7 +103,7 @@ front_by l c was now printed puts told = record {
 }
 
 some_put : (c : Coursed) (st st' : State) (was now : Devices) → SomeArePut c st was st' now → GrowsInto was.puts now.puts c.execution.exports
-some_put c st st' was now some = (some.front, some.rest, some.split, some.made.puts)
+some_put c st st' was now some = (some.front, some.rest, some.split, some.made.told)
 
 printed_whole : (c : Coursed) (was now : Devices) → Grows was.written now.written c.execution.printed → GrowsInto was.written now.written c.execution.printed
 printed_whole c was now grown = (c.execution.printed, [], sym (append-nil c.execution.printed), grown)
@@ -118,15 +124,24 @@ or_false : (b : Bool) → b ≡ b || false
 or_false true = refl
 or_false false = refl
 
+abbrev pub made_in : Fixed → Session → Stmt → Coursed × Kept
+made_in x old s = coursed x (state_of old).dictionary (frames_of (state_of old).sequencer) s (state_of old).kept
+
 -- an execution of a statement with what is current
-pub shows : (x : Fixed) (l : Listings) (old new : Session) (s : Stmt) (was now : Devices) (r : Result Ended End) (st' : State)
-    → new.dictionary ≡ old.dictionary → new.sequencer ≡ old.sequencer → new.sequence ≡ old.sequence → new.state ≡ st'
-    → ExecutesSo x l (coursed x (state_of old).dictionary (frames_in old) s (kept_of old.state)) was r st' now
+pub shows : (x : Fixed) (l : Listings) (old new : Session) (s : Stmt) (was now : Devices) (r : Result Ended End)
+    → OthersStay old new → ExecutesSo x l (made_in x old s) was r new.state now
     → ShowsSo x l (executed (coursed x) (state_of old) s) was r new now
-shows x l old new s was now (Ok ended) st' dictionary sequencer sequence state h = record {
+shows x l old new s was now (Ok ended) stay h = record {
   whole = h.whole;
-  erred = h.error ∙ or_false (is_some (executed_in x old s).0.execution.error);
-  state = cc;
-  sound = subst (IsSoundState x) (sym state) h.sound;
+  erred = h.error ∙ or_false (is_some (made_in x old s).0.execution.error);
+  state = same_state x old new s stay h.kept;
+  sound = h.sound;
 }
-shows x l old new s was now (Err end) st' dictionary sequencer sequence state h = cut_in_one l (Executes (executed_in x old s).0) was now h
+  where
+  same_state : (x : Fixed) (old new : Session) (s : Stmt) → OthersStay old new → kept_of new.state ≡ (made_in x old s).1 → state_of new ≡ with_kept (made_in x old s).1 (state_of old)
+  same_state x old new s stay kept =
+      ap (λ (d : Dictionary). let y : SessionState Kept = record { dictionary = dictionary_of d; sequencer = new.sequencer; sequence = option_map plain_stmt new.sequence; kept = kept_of new.state } in y) stay.dictionary
+      ∙ ap (λ (q : seq.State). let y : SessionState Kept = record { dictionary = dictionary_of old.dictionary; sequencer = q; sequence = option_map plain_stmt new.sequence; kept = kept_of new.state } in y) stay.sequencer
+      ∙ ap (λ (c : Option CodeStmt). let y : SessionState Kept = record { dictionary = dictionary_of old.dictionary; sequencer = old.sequencer; sequence = option_map plain_stmt c; kept = kept_of new.state } in y) stay.sequence
+      ∙ ap (λ (k : Kept). with_kept k (state_of old)) kept
+shows x l old new s was now (Err end) stay h = cut_in_one l (Executes (made_in x old s).0) was now h
