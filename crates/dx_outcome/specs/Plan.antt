@@ -22,9 +22,13 @@ pub data Plan : Type 0 where
 abbrev pub workload_name : Name
 workload_name = codes "workload"
 
+-- one file
+abbrev pub alone : Name → List ℕ → FileMap
+alone own text name = if bytes_eq name own then Some text else None
+
 -- the text of a workload is the one file there is
 abbrev pub workload_file : ℕ → FileMap
-workload_file n name = if bytes_eq name workload_name then Some (workload_text n) else None
+workload_file n = alone workload_name (workload_text n)
 
 -- a workload asks for no file of the folder
 abbrev pub LoadsJob : FileMap → Job → Loading → Type 0
