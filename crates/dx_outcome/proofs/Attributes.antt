@@ -1,5 +1,5 @@
 -- The cache attributes of all calls that a lawful statement comes to are at most 2.
-use Rattle.std.proofs.Common.{◌≡◌, ℕ, zero, suc, List, [], ◌∷◌, ◌++◌, Option, Some, None, Bool, true, false, refl, sym, ap, ◌∙◌, subst}
+use Rattle.std.proofs.Common.{◌≡◌, ◌≤◌, ℕ, zero, suc, List, [], ◌∷◌, ◌++◌, Option, Some, None, Bool, true, false, refl, sym, ap, ◌∙◌, subst}
 use Rattle.std.specs.Prelude.{drop, nat_lt, if◌then◌else◌}
 use Rattle.std.specs.List.{filter}
 use Rattle.std.specs.Str.{bytes_eq}
@@ -66,13 +66,13 @@ abbrev AreLawfulGiven : List Given → Type 0
 AreLawfulGiven [] = Unit {0}
 AreLawfulGiven (g ∷ gs) = IsLawfulTree g.tree × AreLawfulGiven gs
 
+this_or : (b : Bool) (t u : Option Tree) → MayBeLawful t → MayBeLawful u → MayBeLawful (if b then t else u)
+this_or true t u p q = p
+this_or false t u p q = q
+
 by_name : (gs : List Given) (p : Text) → AreLawfulGiven gs → MayBeLawful (given_by_name gs p)
 by_name [] p h = tt
-by_name (g ∷ rest) p h = by (is_named g.name p)
-  where
-    by : (b : Bool) → MayBeLawful (if b then Some g.tree else given_by_name rest p)
-    by true = h.0
-    by false = by_name rest p h.1
+by_name (g ∷ rest) p h = this_or (is_named g.name p) (Some g.tree) (given_by_name rest p) h.0 (by_name rest p h.1)
 
 plain_given : (n : Option Text) (t : Tree) → IsLawfulTree t → MayBeLawful (unnamed n t)
 plain_given None t h = h
@@ -279,20 +279,20 @@ definition_lawful steps macros frames top (t ∷ ts) zero all names h = within_l
 definition_lawful steps macros frames top (t ∷ ts) (suc i) all names h = definition_lawful steps macros frames top ts i all names h.1
 
 scope_lawful : (steps : ℕ) (macros : Macros) (frames : Frames) (ts : List TopText) → AreLawfulMacros macros → AreLawfulDefinitions ts → (i : ℕ) → IsLawfulScope (scope_within steps macros frames ts i)
-scope_lawful steps macros frames ts all h zero name = tt
+scope_lawful steps macros frames ts all h zero = λ name. tt
 scope_lawful steps macros frames ts all h (suc i) =
     let top = scope_within steps macros frames ts i in
     let names = scope_lawful steps macros frames ts all h i in
     let t = definition ts i in
     targets_lawful t.targets 0 (expand_within steps macros frames top t).result top (definition_lawful steps macros frames top ts i all names h).result names
 
+kept_lawful : (b : Bool) (c : CallTree) (cs : List CallTree) → sound.IsLawfulCall c → AreLawfulCalls cs → AreLawfulCalls (if b then c ∷ cs else cs)
+kept_lawful true c cs h all = (h, all)
+kept_lawful false c cs h all = all
+
 filtered_lawful : (cs : List CallTree) → AreLawfulCalls cs → AreLawfulCalls (effects_among cs)
 filtered_lawful [] h = tt
-filtered_lawful (c ∷ cs) h = by (is_effect (function_of c))
-  where
-    by : (b : Bool) → AreLawfulCalls (if b then c ∷ effects_among cs else effects_among cs)
-    by true = (h.0, filtered_lawful cs h.1)
-    by false = filtered_lawful cs h.1
+filtered_lawful (c ∷ cs) h = kept_lawful (is_effect (function_of c)) c (effects_among cs) h.0 (filtered_lawful cs h.1)
 
 text_lawful : (d : Dictionary) (frames : Frames) (t : TopText) → IsLawfulDictionary d → IsLawfulText t → AreLawfulCalls (effects_among (kept_of max_macro_steps d frames (Some t)))
 text_lawful d frames t all h =

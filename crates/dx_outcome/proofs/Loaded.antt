@@ -15,7 +15,7 @@ use Rattle.dx_include.specs.declared.loaded.Loaded.{Loaded}
 use Rattle.dx_include.specs.Loading.{Name, Loading, Loads, GoesOn, Splices, LoadsText, LoadsUnlessLong, LoadsFile, LoadsWithin, IsLoading, nothing, refused, behind, with_statement, with_text, is_too_long}
 use Rattle.dx_words.specs.declared.words.Job.{Job}
 use Rattle.dx_words.specs.declared.words.Job.TheVariants.{Session, Workload}
-use Rattle.dx_outcome.specs.Plan.{Plan, NoLine, Refuses, Performs, IsPlan, LoadsJob}
+use Rattle.dx_outcome.specs.Plan.{Plan, NoLine, Refuses, Performs, IsPlan, LoadsJob, workload_file, workload_name}
 use Rattle.dx_outcome.specs.Plan.IsPlan.{no_line, refused as is_refused, performed}
 
 abbrev IsLawfulSoFar : Loaded → Type 0
@@ -37,12 +37,7 @@ goes_on reads (Err why) next l h f g = subst (λ (m : Loading). EndsLawful m.end
 splices : (loads : Loads) → AreLawfulLoads loads → (ss : List Stmt) → AreLawful (plain_stmts ss) → (so_far : Loaded) (l : Loading) → IsLawfulSoFar so_far → Splices loads ss so_far l → EndsLawful l.ends
 splices loads f [] a so_far l h g = subst (λ (m : Loading). EndsLawful m.ends) (sym g) h
 splices loads f (stmt.Include name ∷ others) a so_far l h g = goes_on g.0.reads g.0.ends (Splices loads others) l (f so_far name g.0 h g.1) (λ next m q r. splices loads f others a.1 next m q r) g.2
-splices loads f (stmt.Assign x ∷ others) a so_far l h g = splices loads f others a.1 (with_statement so_far (stmt.Assign x)) l (lawful_push so_far.statements (stmt.Assign x) h a.0) g
-splices loads f (stmt.Call x ∷ others) a so_far l h g = splices loads f others a.1 (with_statement so_far (stmt.Call x)) l (lawful_push so_far.statements (stmt.Call x) h a.0) g
-splices loads f (stmt.Macro x ∷ others) a so_far l h g = splices loads f others a.1 (with_statement so_far (stmt.Macro x)) l (lawful_push so_far.statements (stmt.Macro x) h a.0) g
-splices loads f (stmt.SetFrame v x ∷ others) a so_far l h g = splices loads f others a.1 (with_statement so_far (stmt.SetFrame v x)) l (lawful_push so_far.statements (stmt.SetFrame v x) h a.0) g
-splices loads f (stmt.Word x ∷ others) a so_far l h g = splices loads f others a.1 (with_statement so_far (stmt.Word x)) l (lawful_push so_far.statements (stmt.Word x) h a.0) g
-splices loads f (stmt.Sequence x ∷ others) a so_far l h g = splices loads f others a.1 (with_statement so_far (stmt.Sequence x)) l (lawful_push so_far.statements (stmt.Sequence x) h a.0) g
+splices loads f (s ∷ others) a so_far l h g = splices loads f others a.1 (with_statement so_far s) l (lawful_push so_far.statements s h a.0) g
 
 short : (so_far : Loaded) (text : List ℕ) → is_too_long so_far text ≡ false → length text ≤ 16777216
 short so_far text h = grind (arith, nat_tests, h)
@@ -65,7 +60,7 @@ within (suc levels) files so_far name l h g = loads_file (LoadsWithin levels fil
 
 job_lawful : (files : FileMap) (job : Job) (l : Loading) → LoadsJob files job l → EndsLawful l.ends
 job_lawful files (Session name) l g = within 16 files nothing name l tt g
-job_lawful files (Workload n) l g = subst (λ (m : Loading). EndsLawful m.ends) (sym g.2) (within 16 _ nothing _ g.0 tt g.1)
+job_lawful files (Workload n) l g = subst (λ (m : Loading). EndsLawful m.ends) (sym g.2) (within 16 (workload_file n) nothing workload_name g.0 tt g.1)
 
 abbrev IsLawfulPlan : Plan → Type 0
 IsLawfulPlan NoLine = Unit {0}
