@@ -70,7 +70,7 @@ all_within x (PlayTooLong ∷ rest) h = all_within x rest h
 all_within x (FrameRange ∷ rest) h = all_within x rest h
 
 performed_within : (x : Fixed) (ss : Stmts) → AreLawful ss → AllWithin x.budget (of_executions (λ (entries : List Cached). entries ∷ []) (statements (keeping x) (initial none_kept) ss).shown)
-performed_within x ss h = all_within x _ (all_fine Kept (List Cached) (IsSoundKept x) (IsWithin x) (keeping x) (keeps x) none_kept ss h (none_sound x))
+performed_within x ss h = all_within x (statements (keeping x) (initial none_kept) ss).shown (all_fine Kept (List Cached) (IsSoundKept x) (IsWithin x) (keeping x) (keeps x) none_kept ss h (none_sound x))
 
 stays_within : (answer : Answers) (files : FileMap) (p : Plan) → IsLawfulPlan p → StaysWithin answer files p
 stays_within answer files NoLine h = tt

@@ -62,7 +62,7 @@ job_lawful : (files : FileMap) (job : Job) (l : Loading) → LoadsJob files job 
 job_lawful files (Session name) l g = within 16 files nothing name l tt g
 job_lawful files (Workload n) l g = subst (λ (m : Loading). EndsLawful m.ends) (sym g.2) (within 16 (workload_file n) nothing workload_name g.0 tt g.1)
 
-abbrev IsLawfulPlan : Plan → Type 0
+abbrev pub IsLawfulPlan : Plan → Type 0
 IsLawfulPlan NoLine = Unit {0}
 IsLawfulPlan (Refuses reads why) = Unit {0}
 IsLawfulPlan (Performs reads said ss) = AreLawful ss
