@@ -1,0 +1,5 @@
+pub mod Ranges
+pub mod Seen
+pub mod Ending
+pub mod Meaning
+pub mod Causes
