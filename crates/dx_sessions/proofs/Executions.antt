@@ -61,8 +61,8 @@ into_by_nothing told now a same = ([], a, refl, same ∙ grows_by_nothing told)
 
 fails : (e : Option Error) (failing : Option Failing) → FailsAs e failing → is_some failing ≡ is_some e
 fails e None h = ap is_some (sym h)
-fails e (Some (Faulty site fault)) h = ap is_some (sym h.2.1)
-fails e (Some (Refused site code)) h = ap is_some (sym h.2.1)
+fails e (Some (Faulty site fault)) h = ap is_some (sym h.1)
+fails e (Some (Refused site code)) h = ap is_some (sym h.1)
 
 -- ---- an execution that is made
 

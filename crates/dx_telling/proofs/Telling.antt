@@ -22,8 +22,8 @@ both a b = a ++ b
 
 error_is : (e : Option Error) (failing : Option Failing) → FailsAs e failing → failing_text failing ≡ error_text e
 error_is e None h = sym (ap error_text h)
-error_is e (Some (Faulty site fault)) h = ap (λ (b : List ℕ). error_line b (fault_text fault)) h.1.1 ∙ sym (ap error_text h.1.0)
-error_is e (Some (Refused site code)) h = ap (λ (b : List ℕ). error_line b (code_text code)) h.1.1 ∙ sym (ap error_text h.1.0)
+error_is e (Some (Faulty site fault)) h = ap (λ (b : List ℕ). error_line b (fault_text fault)) h.2 ∙ sym (ap error_text h.1)
+error_is e (Some (Refused site code)) h = ap (λ (b : List ℕ). error_line b (code_text code)) h.2 ∙ sym (ap error_text h.1)
 
 event_is : (e : Event) → event_line (shown_event e) ≡ trace_line (traced e)
 event_is (RanAt site task) = refl
@@ -44,5 +44,5 @@ happened_is (Some (Faulty site fault)) told es h = sym (ap trace_text h)
 pub told_is : (asked : Listings) (c : Coursed) (failing : Option Failing) (told : List ToldEvent) (links : Linked) → Tells c failing told links →
     told_behind asked failing told links.links ≡ behind_of asked c
 told_is asked c failing told links t =
-    ap₂ both (error_is c.execution.error failing t.error)
-    (ap₂ both (ap (if_asked asked.trace) (happened_is failing told c.events t.events)) (ap (λ (ls : Links). if_asked asked.links (links_text ls)) t.objects))
+    ap₂ both (ap₂ both (error_is c.execution.error failing t.error) (ap (if_asked asked.trace) (happened_is failing told c.events t.events)))
+    (ap (λ (ls : Links). if_asked asked.links (links_text ls)) t.objects)

@@ -16,7 +16,7 @@ texts_of_append asked (x ∷ xs) ys =
     ∙ sym (append_assoc (text_of asked x) (shown_texts asked xs) (shown_texts asked ys))
 
 abbrev text_by : Listings → Execution → List ℕ → Current → List ℕ
-text_by asked x trace behind = x.printed ++ error_text x.error ++ trace ++ if_asked asked.links (links_text behind.links)
+text_by asked x trace behind = x.printed ++ (error_text x.error ++ trace ++ if_asked asked.links (links_text behind.links))
 
 -- where no trace is asked for, it makes no difference what happened
 pub untraced : (asked : Listings) (c d : Coursed) → asked.trace ≡ false → c.execution ≡ d.execution → c.behind ≡ d.behind →

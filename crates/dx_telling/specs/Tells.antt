@@ -23,7 +23,7 @@ abbrev pub objects_in : LinkMap → Links
 objects_in links = map (λ (l : Key × Holding). (l.0, l.1.value)) links
 
 -- what is wrong with a call, what happened, and the links
-pub record Tells (c : Coursed) (failing : Option Failing) (events : List ToldEvent) (links : Linked) : Type 0 where
+pub record Tells (c : Coursed) (failing : Option Failing) (told : List ToldEvent) (links : Linked) : Type 0 where
   pub error : FailsAs c.execution.error failing
-  pub events : EventsTell failing events c.events
+  pub events : EventsTell failing told c.events
   pub objects : objects_in links.links ≡ c.behind.links
