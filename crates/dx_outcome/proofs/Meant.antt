@@ -40,7 +40,10 @@ meant_alike answer files said ss = ap (λ (d : Done Current Meant). d.shown) (se
 -- ---- texts, files and errors
 
 text_alike : (links : Bool) (s : Shown Coursed) → text_of (record { trace = false; links = links }) s ≡ meant_text links (shown_by meant_of_one s)
-text_alike links (Executes c) = refl
+text_alike links (Executes c) =
+    let error = error_text c.execution.error in
+    let listed = if_asked links (links_text c.behind.links) in
+    ap (λ (t : List ℕ). c.execution.printed ++ (t ++ listed)) (append-nil error) ∙ sym (append_assoc c.execution.printed error listed)
 text_alike links PlayTooLong = refl
 text_alike links FrameRange = refl
 
