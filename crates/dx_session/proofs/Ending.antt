@@ -7,20 +7,21 @@ use Rattle.dx_engine.specs.Executing.{Devices}
 use Rattle.dx_getting.specs.Stands.{Answers}
 use Rattle.dx_getting.specs.Told.{Told, told, AddsSome}
 use Rattle.dx_getting.proofs.TellLaws.{adds_none, some_all}
-use Rattle.dx_include.specs.Answers.{Loads, Refuses, statements_of}
+use Rattle.dx_include.specs.Answers.{LoadCause, Loads, Refuses, statements_of}
 use Rattle.dx_include.specs.Loading.{Name, Loading}
 use Rattle.dx_include.specs.declared.fail.LoadFail.{LoadFail}
 use Rattle.dx_include.specs.declared.fail.LoadFail.TheVariants as fail
 use Rattle.dx_include.specs.declared.loaded.Loaded.{Loaded}
-use Rattle.dx_io.specs.Devices.{FileMap, Grows, GrowsInto, Writes, with_more}
+use Rattle.dx_io.specs.Devices.{FileMap, Grows, GrowsInto, Rose, Writes}
 use Rattle.dx_io.proofs.Growing.{with_more-nil, grows_by_nothing}
 use Rattle.dx_making.specs.declared.end.End.{End}
 use Rattle.dx_outcome.specs.Computed.{of_ends, of_loading}
 use Rattle.dx_outcome.specs.Ends.{IsWhole, IsPart, IsCutShort, IsFront, in_loading, behind_loading, with_reads}
-use Rattle.dx_outcome.specs.Lines.{refusal_line}
+use Rattle.dx_outcome.specs.Lines.{refusal_line, usage_line}
 use Rattle.dx_outcome.specs.Outcome.{Seen, Outcome, line_alone, outcome}
-use Rattle.dx_outcome.specs.Plan.{Plan, Refuses as PlanRefuses, Performs}
+use Rattle.dx_outcome.specs.Plan.{Plan, NoLine, Refuses as PlanRefuses, Performs}
 use Rattle.dx_session.specs.Ends.{Ends, SeesSo, end_of}
+use Rattle.dx_session.specs.Loads.{LoadsOwn}
 use Rattle.dx_sessions.specs.Does.{devices}
 use Rattle.dx_words.specs.declared.words.Words.{Words}
 
@@ -128,3 +129,32 @@ module _ (answer : Answers) (files : FileMap) (said : Words) where
   cut_ends l why end was asked is h =
       let part = front_asked l why end was.told.asked asked is h in
       in_loading part.0 part.1 (ends_reads l.reads l.ends ∙ part.2) (ap (λ (a : Option (List Name)). devices was.told.done a was.written was.puts) part.3)
+
+-- ---- no line, and nothing at all
+
+pub usage_ends : (answer : Answers) (files : FileMap) (r : Result ℕ End) (was : Devices) (written : Option (List ℕ)) → Writes was.written written usage_line r → IfOk r (λ own. own ≡ 3)
+    → Ends r (outcome answer files NoLine) was (with_written was written)
+usage_ends answer files r was written writes is =
+    sees_ends r (outcome answer files NoLine) was (with_written was written)
+    (subst (λ (d : Devices). SeesSo r (line_alone usage_line ∷ []) 3 d (with_written was written)) (sym (no_reads was)) (line_sees usage_line 3 was written r writes is))
+
+pub at_once : (o : Outcome) (was : Devices) → IsFront o was was
+at_once o was = in_loading [] o.reads refl (sym (no_reads was))
+
+-- ---- the text of a workload
+
+own_loads : (l : Loading) (r : Result (List Stmt) LoadFail) (old new : Option (List Name)) → Loads l r old new → (r ≡ Err fail.ReadFault → ⊥) → LoadsOwn l r
+own_loads l (Ok statements) old new h never = h.0
+own_loads l (Err fail.ReadFault) old new h never = never refl
+own_loads l (Err fail.Memory) old new h never = tt
+own_loads l (Err (fail.Missing n)) old new h never = h.0
+own_loads l (Err (fail.Nested n)) old new h never = h.0
+own_loads l (Err (fail.TooLong n)) old new h never = h.0
+own_loads l (Err (fail.Syntax n e)) old new h never = h.0
+
+none_rose : Rose 0 0 → ⊥
+none_rose h = absurd (omega (arith, h))
+
+-- its reads have no faults
+pub alone_loads : (l : Loading) (r : Result (List Stmt) LoadFail) (old new : Option (List Name)) → Loads l r old new → LoadCause 0 0 r → LoadsOwn l r
+alone_loads l r old new h cause = own_loads l r old new h (λ e. none_rose (cause.failed e))

@@ -1,5 +1,3 @@
-pub mod Ranges
 pub mod Seen
 pub mod Ending
 pub mod Meaning
-pub mod Causes

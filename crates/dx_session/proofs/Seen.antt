@@ -63,7 +63,7 @@ cut_seen asked shown was now h = record {
   next = all_seen asked h.next;
   rest = all_seen asked h.rest;
   all = ap (all_seen asked) h.all ∙ map-append (seen_of asked) h.before (h.next ++ h.rest) ∙ ap (λ xs. all_seen asked h.before ++ xs) (map-append (seen_of asked) h.next h.rest);
-  few = subst (λ (n : ℕ). n ≤ 1) (sym (length-map (seen_of asked) h.next)) h.few;
+  few = subst (λ (n : ℕ). n ≤ 1) (sym (length-map h.next (seen_of asked))) h.few;
   between = h.between;
   whole = whole_seen asked h.before was h.between h.whole;
   part = part_seen asked h.next h.between now h.front;
@@ -74,6 +74,14 @@ abbrev pub with_status : Result Bool End → Result ℕ End
 with_status (Ok erred) = Ok (status_of erred)
 with_status (Err end) = Err end
 
-pub sees_shown : (asked : Listings) (shown : List (Shown Coursed)) (was now : Devices) (r : Result Bool End) → PerformsSo asked shown was r now → SeesSo (with_status r) (all_seen asked shown) (status_of (any_error shown)) was now
-sees_shown asked shown was now (Ok erred) h = (ap status_of h.1, whole_seen asked shown was now h.0)
-sees_shown asked shown was now (Err end) h = cut_seen asked shown was now h
+pub sees_shown : (asked at_hand : Listings) (shown : List (Shown Coursed)) (was now : Devices) (r : Result Bool End) → at_hand ≡ asked → PerformsSo at_hand shown was r now → SeesSo (with_status r) (all_seen asked shown) (status_of (any_error shown)) was now
+sees_shown asked at_hand shown was now r same h = sees_so r (subst (λ (l : Listings). PerformsSo l shown was r now) same h)
+  where
+    sees_so : (r : Result Bool End) → PerformsSo asked shown was r now → SeesSo (with_status r) (all_seen asked shown) (status_of (any_error shown)) was now
+    sees_so (Ok erred) h = (ap status_of h.1, whole_seen asked shown was now h.0)
+    sees_so (Err end) h = cut_seen asked shown was now h
+
+pub sees_performed : (asked at_hand : Listings) (shown : List (Shown Coursed)) (was now : Devices) (erred : Bool) (status : ℕ) → at_hand ≡ asked → status ≡ status_of erred → PerformsSo at_hand shown was (Ok erred) now → SeesSo (Ok status) (all_seen asked shown) (status_of (any_error shown)) was now
+sees_performed asked at_hand shown was now erred status same is h =
+    let sees = sees_shown asked at_hand shown was now (Ok erred) same h in
+    (is ∙ sees.0, sees.1)

@@ -7,7 +7,8 @@ ghost use Rattle.dx_include.specs.Answers.{LoadCause, Loads};
 ghost use Rattle.dx_include.specs.Computed.{loading_of};
 ghost use Rattle.dx_outcome.specs.Computed.{job_loading};
 ghost use Rattle.dx_outcome.specs.Plan.{alone, workload_file, workload_name};
-ghost use Rattle.dx_session.specs.Loads.{IsInRange, LoadsOwn};
+ghost use Rattle.dx_session.specs.Loads.{LoadsOwn};
+ghost use Rattle.dx_words.specs.Range.{IsInRange};
 
 use crate::workload;
 use crate::workload::WorkloadFile;

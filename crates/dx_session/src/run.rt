@@ -13,7 +13,7 @@ ghost use Rattle.dx_outcome.specs.Meaning.{AreDemanded, EndsAsMeant, IsMeaning, 
 ghost use Rattle.dx_outcome.specs.Outcome.{IsOutcome, Outcome, line_alone, listings_of, outcome, seen_of, shown_of, status_of};
 ghost use Rattle.dx_outcome.specs.Plan.{IsPlan, Plan};
 ghost use Rattle.dx_session.specs.Ends.{Ends, SeesSo, end_of, end_status};
-ghost use Rattle.dx_session.specs.Loads.{IsInRange};
+ghost use Rattle.dx_words.specs.Range.{IsInRange};
 ghost use Rattle.dx_sessions.specs.Does.{devices};
 ghost use Rattle.dx_shown.specs.Listed.{any_error};
 ghost use Rattle.dx_words.specs.Line.{texts, words_of};

@@ -1,16 +1,15 @@
--- The workload of a line has 1 to 100,000 executions.
+-- A workload that a line names has 1 to 100,000 executions.
 use Rattle.std.proofs.Common.{◌≡◌, ◌≤◌, ℕ, List, [], ◌∷◌, Bool, true, false, Option, Some, None, is_some, refl, subst, arith}
 use Rattle.std.specs.Prelude.{◌&&◌, nat_le, if◌then◌else◌}
 use Rattle.std.proofs.lemmas.Bool.Decides.{nat_tests}
 use Rattle.dx_words.specs.declared.line.Line.{Line}
 use Rattle.dx_words.specs.declared.line.Reading.{Reading}
 use Rattle.dx_words.specs.declared.line.Reading.TheVariants.{Options, Budget, Executions, Sessions}
-use Rattle.dx_words.specs.declared.words.Words.{Words}
 use Rattle.dx_words.specs.declared.words.Job.{Job}
 use Rattle.dx_words.specs.declared.words.Job.TheVariants.{Session, Workload}
-use Rattle.dx_words.specs.Line.{Said, trace, links, memory, workload, is_session, ends_options, said, nothing, with_trace, with_links, with_budget, with_job, with_workload, with_said, with_word, line_from, with_usual, whole, words_of}
+use Rattle.dx_words.specs.Line.{Said, trace, links, memory, workload, is_session, ends_options, said, with_trace, with_links, with_budget, with_job, with_workload, with_said, with_word, line_from}
 use Rattle.dx_words.specs.Values.{digits_of, within, budget_of, executions_of}
-use Rattle.dx_session.specs.Loads.{IsInRange}
+use Rattle.dx_words.specs.Range.{IsInRange}
 
 abbrev MayRange : Option ℕ → Type 0
 MayRange None = Unit {0}
@@ -89,17 +88,5 @@ line_fits (w ∷ ws) Budget = budget_fits (budget_of w) (line_from Options ws) (
 line_fits (w ∷ ws) Executions = workload_fits (executions_of w) (line_from Options ws) (executions_fit w) (line_fits ws Options)
 line_fits (w ∷ ws) Sessions = job_fits (Session w) (line_from Sessions ws) tt (line_fits ws Sessions)
 
-abbrev WordsFit : Option Words → Type 0
-WordsFit None = Unit {0}
-WordsFit (Some w) = IsInRange w.job
-
-usual_fits : (l : Line) (o : Option Job) (w : Words) → JobFits o → with_usual l o ≡ Some w → IsInRange w.job
-usual_fits l None w h e = absurd cc
-usual_fits l (Some job) w h e = subst WordsFit e h
-
-whole_fits : (o : Option Line) (w : Words) → LineFits o → whole o ≡ Some w → IsInRange w.job
-whole_fits None w h e = absurd cc
-whole_fits (Some l) w h e = usual_fits l l.job w h e
-
-pub in_range : (words : List (List ℕ)) (w : Words) → words_of words ≡ Some w → IsInRange w.job
-in_range words w e = whole_fits (line_from Options words) w (line_fits words Options) e
+pub in_range : (words : List (List ℕ)) (l : Line) (job : Job) → line_from Options words ≡ Some l → l.job ≡ Some job → IsInRange job
+in_range words l job e is = subst JobFits is (subst LineFits e (line_fits words Options))
