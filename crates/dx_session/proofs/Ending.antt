@@ -102,18 +102,6 @@ module _ (answer : Answers) (files : FileMap) (said : Words) where
   ends_reads reads (Ok loaded) = refl
   ends_reads reads (Err why) = refl
 
-  loaded_plan : (reads : List Name) (ends : Result Loaded LoadFail) (statements : List Stmt) → statements_of ends ≡ Ok statements → of_ends said reads ends ≡ Performs reads said (plain_stmts statements)
-  loaded_plan reads (Ok loaded) statements e = let same : loaded.statements ≡ statements = cc in ap (λ (ss : List Stmt). Performs reads said (plain_stmts ss)) same
-  loaded_plan reads (Err why) statements e = absurd cc
-
-  -- all was loaded
-  pub loaded_ends : (r : Result ℕ End) (l : Loading) (statements : List Stmt) (was : Devices) (asked : Option (List Name)) (now : Devices) → statements_of l.ends ≡ Ok statements → Grows was.told.asked asked l.reads
-      → let o = outcome answer files (Performs l.reads said (plain_stmts statements)) in SeesSo r o.seen o.status (devices was.told.done asked was.written was.puts) now
-      → Ends r (outcome answer files (of_loading said l)) was now
-  loaded_ends r l statements was asked now e grown h =
-      subst (λ (p : Plan). Ends r (outcome answer files p) was now) (sym (loaded_plan l.reads l.ends statements e))
-      (behind_reads r (outcome answer files (Performs l.reads said (plain_stmts statements))) was asked now grown h)
-
   -- it was refused
   pub refused_ends : (r : Result ℕ End) (l : Loading) (why : LoadFail) (was : Devices) (asked : Option (List Name)) (written : Option (List ℕ)) → end_of why ≡ None → Refuses l why was.told.asked asked
       → Writes was.written written (refusal_line why) r → IfOk r (λ own. own ≡ 2) → Ends r (outcome answer files (of_loading said l)) was (devices was.told.done asked written was.puts)

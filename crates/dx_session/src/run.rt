@@ -45,14 +45,16 @@ pub fn run_dxi<F: Files, X: Exports, O: Sink, L: Library>(
     // Over files that tell their content. What is printed and put, what is asked for and run, and the status, are those of the line's
     // outcome; where the call is cut short, they are a front of that.
     ensures session { (map : FileMap) → F.content files.old ≡ Some map →
-        (o : Outcome) × IsOutcome (texts words.now.items) map L.answer o
-        × EndsAs result o (devices (L.done lib.old) (F.asked files.old) (O.written out.old) (X.puts exports.old)) (devices (L.done lib.new) (F.asked files.new) (O.written out.new) (X.puts exports.new)) }
+        let was = devices (L.done lib.old) (F.asked files.old) (O.written out.old) (X.puts exports.old) in
+        let now = devices (L.done lib.new) (F.asked files.new) (O.written out.new) (X.puts exports.new) in
+        (o : Outcome) × IsOutcome (texts words.now.items) map L.answer o × EndsAs result o was now }
 
-    // And so, on a line without `--trace`, the bytes printed, and on each line the files put and the status, are those of the
-    // language's meaning, evaluated afresh.
+    // And so the files put and the status, and on a line without `--trace` the bytes printed, are those of the language's meaning,
+    // evaluated afresh.
     ensures meaning { (map : FileMap) → F.content files.old ≡ Some map →
-        (m : Meaning) × IsMeaning (texts words.now.items) map L.answer m
-        × EndsAsMeant result m (devices (L.done lib.old) (F.asked files.old) (O.written out.old) (X.puts exports.old)) (devices (L.done lib.new) (F.asked files.new) (O.written out.new) (X.puts exports.new)) }
+        let was = devices (L.done lib.old) (F.asked files.old) (O.written out.old) (X.puts exports.old) in
+        let now = devices (L.done lib.new) (F.asked files.new) (O.written out.new) (X.puts exports.new) in
+        (m : Meaning) × IsMeaning (texts words.now.items) map L.answer m × EndsAsMeant result m was now }
 
     // No module runs that this meaning doesn't demand.
     ensures demand { (map : FileMap) → F.content files.old ≡ Some map →
