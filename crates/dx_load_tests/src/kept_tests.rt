@@ -33,17 +33,22 @@ fn a_budget_changes_no_text(rt: HostRuntime) -> Result<(), Fail> {
 
 #[test]
 fn links_are_listed_behind_each_execution(rt: HostRuntime) -> Result<(), Fail> {
-    let text = "SetGlobal(1, \"n\"); SetGlobal(GetGlobal(0, \"n\"), \"n\"); SetGlobal(NULL, \"n\");";
+    let text =
+        "SetGlobal(1, \"n\"); SetGlobal(GetGlobal(0, \"n\"), \"n\"); SetGlobal(NULL, \"n\");";
     let got = seen(rt.alloc(), &["--links", "s.net"], &[("s.net", text)], NONE)?;
-    let one = "links 1\nlink global \"n\"\nobject 1 class array type int rank 0 items 1 data follows\n1\nend\n";
+    let one =
+        "links 1\nlink global \"n\"\nobject 1 class array type int rank 0 items 1 data follows\n1\nend\n";
     let all = format!(in rt.alloc(); "{one}{one}links 0\n")?;
     assert!(rt; got.status == 0);
     assert!(rt; got.printed.as_slice() == all.as_bytes());
     Ok(())
 }
 
-const AGAIN: &str = "Export(7, \"o\"); Print(Import(\"o\"), \"d\"); Export(Import(\"i\"), \"p\"); Echo(1);";
+const AGAIN: &str =
+    "Export(7, \"o\"); Print(Import(\"o\"), \"d\"); Export(Import(\"i\"), \"p\"); Echo(1);";
+
 const NATIVE: &str = "object 1 class array type int rank 0 items 1 data follows\n7\nend\n";
+
 const SEVEN: &str = "array plain int rank 0 items 1\n7\n";
 
 #[test]
@@ -66,7 +71,8 @@ fn each_put_and_read_fails_in_turn(rt: HostRuntime) -> Result<(), Fail> {
             put,
         };
         let got = seen(alloc, &["s.net"], &texts, fail)?;
-        let same = got.printed.as_slice() == printed.as_bytes() && got.puts.as_slice() == puts.as_bytes();
+        let same = got.printed.as_slice() == printed.as_bytes()
+            && got.puts.as_slice() == puts.as_bytes();
         if got.status != status || !same {
             return Err(Fail::from(printed));
         }

@@ -37,11 +37,7 @@ pub fn files(alloc: Global, texts: &[(&str, &str)], fail: u64) -> Result<MemFile
         let text = Bytes::copy_of(alloc, text.as_bytes())?;
         let _ = pairs.push((name, text)).is_ok();
     }
-    Ok(MemFiles::new(
-        alloc,
-        NamedBytes::from_vec(pairs),
-        numbers(alloc, fail)?,
-    ))
+    Ok(MemFiles::new(alloc, NamedBytes::from_vec(pairs), numbers(alloc, fail)?))
 }
 
 fn numbers(alloc: Global, fail: u64) -> Result<CallNumbers, AllocError> {

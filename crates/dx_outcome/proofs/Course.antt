@@ -44,9 +44,10 @@ abbrev pub RunsDemanded : Coursed → Type 0
 RunsDemanded c = IsPartOf (runs_of c.events) (asked c.execution.demanded)
 
 makes_unless : (x : Fixed) (fault : Option Fault) (calls : List CallTree) (k : Kept) → AreLawfulCalls calls → IsSoundKept x k → RunsDemanded (coursed_unless x fault calls k).0 × IsSoundKept x (coursed_unless x fault calls k).1
-makes_unless x None calls k h s =
-    (executions_in_order x k calls h s.links s.entries,
-    record { links = links_stay_right x k calls s.links; entries = entries_stay_sound x k calls h s.entries })
+makes_unless x None calls k h s = (
+  executions_in_order x k calls h s.links s.entries,
+  record { links = links_stay_right x k calls s.links; entries = entries_stay_sound x k calls h s.entries },
+)
 makes_unless x (Some f) calls k h s = (part_none, s)
 
 makes : (x : Fixed) (d : Dictionary) (frames : Frames) (s : Stmt) (k : Kept) → IsLawfulDictionary d → IsLawful s → IsSoundKept x k → RunsDemanded (coursed x d frames s k).0 × IsSoundKept x (coursed x d frames s k).1

@@ -57,6 +57,7 @@ pub is_the_outcome : (words : List (List ℕ)) (files : FileMap) (answer : Answe
 is_the_outcome words files answer o h = h.2 ∙ ap (outcome answer files) (is_the_plan words files h.0 h.1)
 
 pub one_outcome : OneOutcome
-one_outcome words files answer =
-    ((outcome answer files (plan_of words files), (plan_of words files, is_plan words files, refl)),
-    λ o p a b. is_the_outcome words files answer o a ∙ sym (is_the_outcome words files answer p b))
+one_outcome words files answer = (
+  (outcome answer files (plan_of words files), (plan_of words files, is_plan words files, refl)),
+  λ o p a b. is_the_outcome words files answer o a ∙ sym (is_the_outcome words files answer p b),
+)

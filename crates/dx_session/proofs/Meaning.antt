@@ -69,13 +69,15 @@ ends_as_meant status o m was now meant h = by (is_cut status) h
   where
     by : (b : Bool) → MatchBool b (IsFront o was now) ((status ≡ o.status) × IsWhole o.seen (with_reads was o.reads) now)
         → MatchBool b (IfSaid m.text (GrowsInto was.written now.written) × GrowsInto was.puts now.puts m.exports) ((status ≡ m.status) × IfSaid m.text (Grows was.written now.written) × Grows was.puts now.puts m.exports)
-    by true front =
-        (said_so (GrowsInto was.written now.written) (texts_of o.seen) m.text meant.text (front_texts o was now front),
-        subst (GrowsInto was.puts now.puts) meant.exports (front_exports o was now front))
-    by false whole =
-        (whole.0 ∙ meant.status,
-        said_so (Grows was.written now.written) (texts_of o.seen) m.text meant.text whole.1.printed,
-        subst (Grows was.puts now.puts) meant.exports whole.1.puts)
+    by true front = (
+      said_so (GrowsInto was.written now.written) (texts_of o.seen) m.text meant.text (front_texts o was now front),
+      subst (GrowsInto was.puts now.puts) meant.exports (front_exports o was now front),
+    )
+    by false whole = (
+      whole.0 ∙ meant.status,
+      said_so (Grows was.written now.written) (texts_of o.seen) m.text meant.text whole.1.printed,
+      subst (Grows was.puts now.puts) meant.exports whole.1.puts,
+    )
 
 -- ---- runs that are demanded
 

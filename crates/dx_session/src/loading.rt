@@ -21,11 +21,7 @@ use dx_workload::workload_text;
 use std::alloc::Global;
 
 /// Loads the session that is named, or the text of the workload, which asks for no file of the folder.
-pub(crate) fn load_job<F: Files>(
-    alloc: Global,
-    job: &Job,
-    files: &mut F,
-) -> Result<Stmts, LoadFail>
+pub(crate) fn load_job<F: Files>(alloc: Global, job: &Job, files: &mut F) -> Result<Stmts, LoadFail>
     requires range { IsInRange job.now }
     ensures loading { (map : FileMap) → F.content files.old ≡ Some map →
         Loads (job_loading map job.now) result (F.asked files.old) (F.asked files.new) }

@@ -217,7 +217,16 @@ fn perform_job<F: Files, X: Exports, O: Sink, L: Library>(
     ensures write_cause { Cause WriteFault (O.faults out.old) (O.faults out.new) result }
     ensures export_cause { Cause ExportFault (X.faults exports.old) (X.faults exports.new) result }
 {
-    match perform(alloc, statements, said.budget, listings(said), files, exports, out, lib) {
+    match perform(
+        alloc,
+        statements,
+        said.budget,
+        listings(said),
+        files,
+        exports,
+        out,
+        lib,
+    ) {
         Ok(erred) => Ok(exit_status(erred)),
         Err(end) => Err(end),
     }
