@@ -1,5 +1,5 @@
 //! Sessions with modules, links, exports and a cache.
-use crate::outcome::{Failing, NONE, seen};
+use crate::outcome::{Failing, NONE, run_line};
 use std::test::Fail;
 
 const TWICE: &str = "x = Compute(\"1 + 1\"); Print(x, \"d\"); Print(x, \"d\");";
@@ -23,7 +23,7 @@ fn a_budget_changes_no_text(rt: HostRuntime) -> Result<(), Fail> {
         ),
     ] {
         let all = format!(in alloc; "{two}{first}{two}{second}")?;
-        let got = seen(alloc, line, &[("s.net", TWICE)], NONE)?;
+        let got = run_line(alloc, line, &[("s.net", TWICE)], NONE)?;
         if got.status != 0 || got.printed.as_slice() != all.as_bytes() {
             return Err(Fail::from(first));
         }
@@ -35,7 +35,7 @@ fn a_budget_changes_no_text(rt: HostRuntime) -> Result<(), Fail> {
 fn links_are_listed_behind_each_execution(rt: HostRuntime) -> Result<(), Fail> {
     let text =
         "SetGlobal(1, \"n\"); SetGlobal(GetGlobal(0, \"n\"), \"n\"); SetGlobal(NULL, \"n\");";
-    let got = seen(rt.alloc(), &["--links", "s.net"], &[("s.net", text)], NONE)?;
+    let got = run_line(rt.alloc(), &["--links", "s.net"], &[("s.net", text)], NONE)?;
     let one =
         "links 1\nlink global \"n\"\nobject 1 class array type int rank 0 items 1 data follows\n1\nend\n";
     let all = format!(in rt.alloc(); "{one}{one}links 0\n")?;
@@ -70,7 +70,7 @@ fn each_put_and_read_fails_in_turn(rt: HostRuntime) -> Result<(), Fail> {
             write: 0,
             put,
         };
-        let got = seen(alloc, &["s.net"], &texts, fail)?;
+        let got = run_line(alloc, &["s.net"], &texts, fail)?;
         let same = got.printed.as_slice() == printed.as_bytes()
             && got.puts.as_slice() == puts.as_bytes();
         if got.status != status || !same {
@@ -84,11 +84,11 @@ fn each_put_and_read_fails_in_turn(rt: HostRuntime) -> Result<(), Fail> {
 fn a_workload_asks_for_no_file(rt: HostRuntime) -> Result<(), Fail> {
     let alloc = rt.alloc();
     let texts = [("workload", "Echo(1);")];
-    let got = seen(alloc, &["--workload", "1"], &texts, NONE)?;
+    let got = run_line(alloc, &["--workload", "1"], &texts, NONE)?;
     assert!(rt; got.status == 0);
     assert!(rt; got.asked == 0);
     assert!(rt; got.printed.as_slice() == b"array plain int rank 0 items 1\n68\n".as_slice());
-    let refused = seen(alloc, &["--workload", "0"], &texts, NONE)?;
+    let refused = run_line(alloc, &["--workload", "0"], &texts, NONE)?;
     assert!(rt; refused.status == 3);
     Ok(())
 }

@@ -64,7 +64,7 @@ fn listed(alloc: Global, exports: &MemExports) -> Result<Vec<u8>, AllocError> {
 }
 
 // What comes of a line over these files.
-pub fn seen(
+pub fn run_line(
     alloc: Global,
     line: &[&str],
     texts: &[(&str, &str)],
@@ -99,7 +99,7 @@ pub fn outcome(
     read: u64,
     write: u64,
 ) -> Result<(u8, Vec<u8>, usize), Fail> {
-    let seen = seen(
+    let seen = run_line(
         alloc,
         line,
         texts,

@@ -1,10 +1,8 @@
 -- The cache attributes of all calls that a lawful statement comes to are at most 2.
-use Rattle.std.proofs.Common.{◌≡◌, ◌≤◌, ℕ, zero, suc, List, [], ◌∷◌, ◌++◌, Option, Some, None, Bool, true, false, refl, sym, ap, ◌∙◌, subst}
+use Rattle.std.proofs.Common.{◌≡◌, ◌≤◌, ℕ, zero, suc, List, [], ◌∷◌, ◌++◌, Option, Some, None, Bool, true, false, refl, subst}
 use Rattle.std.specs.Prelude.{drop, nat_lt, if◌then◌else◌}
-use Rattle.std.specs.List.{filter}
 use Rattle.std.specs.Str.{bytes_eq}
 use Rattle.dx_base.specs.declared.function.Function.{Function}
-use Rattle.dx_base.specs.declared.function.Function.TheVariants as function
 use Rattle.dx_ast.specs.declared.constants.Const.{Const}
 use Rattle.dx_ast.specs.declared.sequencing.Frames.{Frames}
 use Rattle.dx_ast.specs.declared.statements.Param.{Param}
@@ -14,11 +12,11 @@ use Rattle.dx_ast.specs.Limits.{max_macro_steps}
 use Rattle.dx_ast.specs.Table.{row_of, function_named}
 use Rattle.dx_ast.specs.Syntax.{Expr, Constant, Name, Frame, CallOf, Call, MakeCall, Args, NoArg, AndArg, Stmt, Assigns, Calls, Defines, Includes, Sets, Says, Sequences, Macro, MakeMacro, Stmts, NoStmt, AndStmt}
 use Rattle.dx_definitions.specs.TopTexts.{TopText, definition}
-use Rattle.dx_macros.specs.Dictionary.{Macros, Dictionary, callee, top_text, empty, with_macro, defining, with_definition, macro_name}
-use Rattle.dx_macros.specs.Expansion.{Scope, no_scope, Expanded, only, null_tree, Given, ArgsExpanded, is_named, given_by_name, unnamed, given_by_place, or_else, or_tree, given_for, further, inputs, default_tree, with_name, assigned, with_params, Under, spot_of_call, function_result, is_kept, own_kept, call_expanded, expand_expr, expand_call, expand_args, expand_statement, scope_after, results_in, before_body, expand_body, enter_macro, under_top, top_spot, expand_within, scope_within, kept_of, effects_among, is_effect, function_of, effects}
+use Rattle.dx_macros.specs.Dictionary.{Macros, Dictionary, callee, empty, with_macro, defining, with_definition, macro_name}
+use Rattle.dx_macros.specs.Expansion.{Scope, Expanded, only, null_tree, Given, ArgsExpanded, is_named, given_by_name, unnamed, given_by_place, or_else, or_tree, given_for, further, inputs, default_tree, with_name, assigned, with_params, Under, spot_of_call, function_result, is_kept, own_kept, call_expanded, expand_expr, expand_call, expand_args, expand_statement, scope_after, results_in, expand_body, enter_macro, under_top, top_spot, expand_within, scope_within, kept_of, effects_among, is_effect, function_of, effects}
 use Rattle.dx_macros.specs.Names.{calls_in, calls_after}
 use Rattle.dx_macros.specs.Site.{Step, Spot, next_step}
-use Rattle.dx_macros.specs.Tree.{Place, Tree, ConstantTree, ResultTree, CallTree, TreeCall, Trees, NoTree, AndTree}
+use Rattle.dx_macros.specs.Tree.{Place, Tree, ConstantTree, ResultTree, CallTree, TreeCall}
 use Rattle.dx_performing.specs.SoundEntries as sound
 use Rattle.dx_performing.specs.SoundEntries.{IsLawfulTree, AreLawfulTrees, AreLawfulCalls}
 use Rattle.dx_signatures.specs.Callees.{Callee, Unknown, CallsMacro, CallsFunction, callee_by}

@@ -1,5 +1,5 @@
 -- What is true of each execution that the cache machine makes from what is sound.
-use Rattle.std.proofs.Common.{◌≡◌, ◌≤◌, List, [], ◌∷◌, Option, Some, None, arith}
+use Rattle.std.proofs.Common.{◌≤◌, List, [], ◌∷◌, Option, Some, None, arith}
 use Rattle.dx_ast.specs.declared.sequencing.Frames.{Frames}
 use Rattle.dx_ast.specs.Lawful.{IsLawful, AreLawful}
 use Rattle.dx_ast.specs.Syntax.{Stmt, Stmts}
@@ -26,7 +26,7 @@ use Rattle.dx_shown.specs.Made.{Coursed, coursed, coursed_unless}
 use Rattle.dx_shown.specs.Session.{Shown, Executes, PlayTooLong, FrameRange, initial, statements}
 use Rattle.dx_outcome.specs.Budget.{keeping, AllWithin, StaysWithin}
 use Rattle.dx_outcome.specs.Laws.{EntriesStayWithin}
-use Rattle.dx_outcome.specs.Plan.{Plan, NoLine, Refuses, Performs, IsPlan}
+use Rattle.dx_outcome.specs.Plan.{Plan, NoLine, Refuses, Performs}
 use Rattle.dx_outcome.proofs.Attributes.{IsLawfulDictionary, effects_lawful}
 use Rattle.dx_outcome.proofs.Folding.{AllFine, all_fine}
 use Rattle.dx_outcome.proofs.Loaded.{IsLawfulPlan, plan_lawful}

@@ -1,5 +1,5 @@
 -- Where each execution made from what is good is fine and leaves what is good, so are all that a session shows.
-use Rattle.std.proofs.Common.{◌≡◌, ℕ, zero, suc, List, [], ◌∷◌, ◌++◌, Bool, true, false, Option, Some, None, refl}
+use Rattle.std.proofs.Common.{ℕ, zero, suc, List, [], ◌∷◌, ◌++◌, Bool, true, false, Option, Some, None}
 use Rattle.std.specs.Prelude.{ℤ, is_some, if◌then◌else◌}
 use Rattle.dx_ast.specs.declared.sequencing.FrameVar.{FrameVar}
 use Rattle.dx_ast.specs.declared.sequencing.Frames.{Frames}

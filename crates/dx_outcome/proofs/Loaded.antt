@@ -1,18 +1,16 @@
 -- What is loaded is lawful.
-use Rattle.std.proofs.Common.{◌≡◌, ℕ, zero, suc, ◌+◌, ◌≤◌, length, List, [], ◌∷◌, ◌++◌, Option, Some, None, Bool, true, false, Result, Ok, Err, refl, sym, ap, ◌∙◌, subst, inl, inr, arith}
-use Rattle.std.specs.Prelude.{nat_lt}
+use Rattle.std.proofs.Common.{◌≡◌, ℕ, zero, suc, ◌≤◌, length, List, [], ◌∷◌, Option, Some, None, Bool, true, false, Result, Ok, Err, refl, sym, subst, inl, inr, arith}
 use Rattle.std.proofs.lemmas.Bool.Decides.{nat_tests}
 use Rattle.dx_io.specs.Devices.{FileMap}
 use Rattle.dx_ast.specs.declared.statements.Stmt.{Stmt}
 use Rattle.dx_ast.specs.declared.statements.Stmt.TheVariants as stmt
-use Rattle.dx_ast.specs.Plain.{plain_stmt, plain_stmts}
-use Rattle.dx_ast.specs.Lawful.{IsLawful, AreLawful}
-use Rattle.dx_ast.specs.Script.{IsScript}
+use Rattle.dx_ast.specs.Plain.{plain_stmts}
+use Rattle.dx_ast.specs.Lawful.{AreLawful}
 use Rattle.dx_script_laws.proofs.LawfulScripts.{lawful}
 use Rattle.dx_include.proofs.LawfulParts.{lawful_push}
 use Rattle.dx_include.specs.declared.fail.LoadFail.{LoadFail}
 use Rattle.dx_include.specs.declared.loaded.Loaded.{Loaded}
-use Rattle.dx_include.specs.Loading.{Name, Loading, Loads, GoesOn, Splices, LoadsText, LoadsUnlessLong, LoadsFile, LoadsWithin, IsLoading, nothing, refused, behind, with_statement, with_text, is_too_long}
+use Rattle.dx_include.specs.Loading.{Name, Loading, Loads, GoesOn, Splices, LoadsText, LoadsUnlessLong, LoadsFile, LoadsWithin, nothing, with_statement, with_text, is_too_long}
 use Rattle.dx_words.specs.declared.words.Job.{Job}
 use Rattle.dx_words.specs.declared.words.Job.TheVariants.{Session, Workload}
 use Rattle.dx_outcome.specs.Plan.{Plan, NoLine, Refuses, Performs, IsPlan, LoadsJob, workload_file, workload_name}

@@ -1,31 +1,28 @@
 -- What a line comes to is what the meaning gives for it.
-use Rattle.std.proofs.Common.{◌≡◌, ℕ, List, [], ◌∷◌, ◌++◌, map, Bool, true, false, Option, Some, None, refl, sym, ap, ap₂, ◌∙◌, subst, append_assoc, append-nil}
+use Rattle.std.proofs.Common.{◌≡◌, ℕ, List, [], ◌∷◌, ◌++◌, map, Bool, true, false, Some, None, refl, sym, ap, ap₂, ◌∙◌, subst, append_assoc, append-nil}
 use Rattle.std.specs.Prelude.{is_some, ◌||◌, if◌then◌else◌}
 use Rattle.dx_ast.specs.Syntax.{Stmts}
-use Rattle.dx_ast.specs.Lawful.{AreLawful}
 use Rattle.dx_getting.specs.Stands.{Answers}
 use Rattle.dx_getting.proofs.TellLaws.{runs-append}
 use Rattle.dx_io.specs.Devices.{FileMap}
 use Rattle.dx_looking.specs.Setting.{fixed}
-use Rattle.dx_machine.specs.Machine.{Task, tasks_of, runs_in}
+use Rattle.dx_machine.specs.Machine.{tasks_of, runs_in}
 use Rattle.dx_meaning.specs.Outcome.{Use}
-use Rattle.dx_objects.specs.Runs.{Ran}
-use Rattle.dx_performing.specs.Course.{Fixed}
-use Rattle.dx_performing.specs.Execution.{Export, Current}
-use Rattle.dx_performing.specs.Kept.{Kept, current, new as none_kept}
-use Rattle.dx_shown.specs.Alike.{shown_by, done_by, meant_of as meant_of_one}
+use Rattle.dx_performing.specs.Execution.{Current}
+use Rattle.dx_performing.specs.Kept.{new as none_kept}
+use Rattle.dx_shown.specs.Alike.{shown_by, meant_of as meant_of_one}
 use Rattle.dx_shown.specs.Listed.{of_executions, any_error}
-use Rattle.dx_shown.specs.Made.{Meant, Coursed, meant, coursed}
-use Rattle.dx_shown.specs.Session.{Shown, Executes, PlayTooLong, FrameRange, Done, initial, statements}
+use Rattle.dx_shown.specs.Made.{Meant, Coursed}
+use Rattle.dx_shown.specs.Session.{Shown, Executes, PlayTooLong, FrameRange, Done, initial}
 use Rattle.dx_shown.proofs.Alike.{sessions_are_meant}
-use Rattle.dx_telling.specs.Behind.{error_text, if_asked, links_text, trace_text}
+use Rattle.dx_telling.specs.Behind.{error_text, if_asked, links_text}
 use Rattle.dx_telling.specs.Shown.{text_of}
 use Rattle.dx_telling.specs.declared.listings.Listings.{Listings}
 use Rattle.dx_words.specs.declared.words.Words.{Words}
-use Rattle.dx_outcome.specs.Laws.{IsMeant, OutcomesAreMeant, RunsAreDemanded}
-use Rattle.dx_outcome.specs.Meaning.{Meaning, IfSaid, meant_text, meant_texts, some_error, nothing, meant_of, meaning, AreSplit}
-use Rattle.dx_outcome.specs.Outcome.{Seen, Outcome, seen_of, listings_of, shown_of, status_of, outcome, texts_of, exports_of, runs_of}
-use Rattle.dx_outcome.specs.Plan.{Plan, NoLine, Refuses, Performs, IsPlan}
+use Rattle.dx_outcome.specs.Laws.{OutcomesAreMeant, RunsAreDemanded}
+use Rattle.dx_outcome.specs.Meaning.{IfSaid, meant_text, meant_texts, some_error, meant_of, meaning, AreSplit}
+use Rattle.dx_outcome.specs.Outcome.{seen_of, listings_of, shown_of, status_of, outcome, texts_of, exports_of, runs_of}
+use Rattle.dx_outcome.specs.Plan.{Plan, NoLine, Refuses, Performs}
 use Rattle.dx_outcome.proofs.Course.{RunsDemanded, runs_demanded}
 use Rattle.dx_outcome.proofs.Folding.{AllFine}
 use Rattle.dx_outcome.proofs.Loaded.{IsLawfulPlan, plan_lawful}

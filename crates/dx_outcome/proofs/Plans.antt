@@ -1,5 +1,5 @@
 -- The plan that is computed is the one that a line has.
-use Rattle.std.proofs.Common.{◌≡◌, ℕ, List, [], Option, Some, None, Result, Ok, Err, refl, sym, ap, ◌∙◌}
+use Rattle.std.proofs.Common.{◌≡◌, ℕ, List, Option, Some, None, Result, Ok, Err, refl, sym, ap, ◌∙◌}
 use Rattle.dx_io.specs.Devices.{FileMap}
 use Rattle.dx_include.specs.declared.fail.LoadFail.{LoadFail}
 use Rattle.dx_include.specs.declared.loaded.Loaded.{Loaded}
@@ -11,11 +11,11 @@ use Rattle.dx_words.specs.declared.words.Words.{Words}
 use Rattle.dx_words.specs.declared.words.Job.{Job}
 use Rattle.dx_words.specs.declared.words.Job.TheVariants.{Session, Workload}
 use Rattle.dx_words.specs.Line.{words_of}
-use Rattle.dx_outcome.specs.Plan.{Plan, NoLine, Refuses, Performs, workload_name, workload_file, LoadsJob, IsPlan}
+use Rattle.dx_outcome.specs.Plan.{Plan, workload_name, workload_file, LoadsJob, IsPlan}
 use Rattle.dx_outcome.specs.Plan.IsPlan.{no_line, refused, performed}
 use Rattle.dx_outcome.specs.Computed.{own_loading, job_loading, of_ends, of_loading, of_words, plan_of}
 use Rattle.dx_outcome.specs.Outcome.{Outcome, outcome, IsOutcome}
-use Rattle.dx_outcome.specs.Laws.{IsOne, OnePlan, OneOutcome}
+use Rattle.dx_outcome.specs.Laws.{OnePlan, OneOutcome}
 
 -- ---- jobs
 

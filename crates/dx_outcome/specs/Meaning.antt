@@ -1,6 +1,6 @@
 -- What the language's meaning gives for a line of words, evaluated afresh at each execution. Nothing is kept but definitions, links,
 -- written files and frames, so the budget isn't among what it is given.
-use Rattle.std.specs.Prelude.{◌≡◌, ℕ, List, [], ◌∷◌, ◌++◌, map, Option, Some, None, is_some, Bool, true, false, ◌||◌, if◌then◌else◌}
+use Rattle.std.specs.Prelude.{◌≡◌, ℕ, List, [], ◌∷◌, ◌++◌, Option, Some, None, is_some, Bool, true, false, ◌||◌, if◌then◌else◌}
 use Rattle.std.specs.Bool.{MatchBool}
 use Rattle.dx_cache.specs.Cached.{IsPartOf}
 use Rattle.dx_demanded.specs.Ordered.{asked}
@@ -17,7 +17,6 @@ use Rattle.dx_shown.specs.Made.{Meant, meant}
 use Rattle.dx_shown.specs.Session.{Shown, Executes, PlayTooLong, FrameRange, initial, statements}
 use Rattle.dx_telling.specs.Behind.{error_text, if_asked, links_text}
 use Rattle.dx_telling.specs.Shown.{play_too_long, frame_range}
-use Rattle.dx_words.specs.declared.words.Words.{Words}
 use Rattle.dx_outcome.specs.Ends.{is_cut}
 use Rattle.dx_outcome.specs.Lines.{usage_line, refusal_line}
 use Rattle.dx_outcome.specs.Outcome.{status_of}

@@ -1,13 +1,11 @@
 -- How a call ends: with a line alone, cut short in loading, or behind it.
-use Rattle.std.proofs.Common.{◌≡◌, ℕ, List, [], ◌∷◌, ◌++◌, Option, Some, None, refl, sym, ap, ◌∙◌, subst, append-nil, arith}
+use Rattle.std.proofs.Common.{◌≡◌, ℕ, List, [], ◌∷◌, Option, Some, None, refl, sym, ap, ◌∙◌, subst, append-nil, arith}
 use Rattle.std.specs.Prelude.{Result, Ok, Err, IfOk}
-use Rattle.dx_ast.specs.Plain.{plain_stmts}
 use Rattle.dx_ast.specs.declared.statements.Stmt.{Stmt}
 use Rattle.dx_engine.specs.Executing.{Devices}
 use Rattle.dx_getting.specs.Stands.{Answers}
-use Rattle.dx_getting.specs.Told.{Told, told, AddsSome}
 use Rattle.dx_getting.proofs.TellLaws.{adds_none, some_all}
-use Rattle.dx_include.specs.Answers.{LoadCause, Loads, Refuses, statements_of}
+use Rattle.dx_include.specs.Answers.{LoadCause, Loads, Refuses}
 use Rattle.dx_include.specs.Loading.{Name, Loading}
 use Rattle.dx_include.specs.declared.fail.LoadFail.{LoadFail}
 use Rattle.dx_include.specs.declared.fail.LoadFail.TheVariants as fail
@@ -16,10 +14,10 @@ use Rattle.dx_io.specs.Devices.{FileMap, Grows, GrowsInto, Rose, Writes}
 use Rattle.dx_io.proofs.Growing.{with_more-nil, grows_by_nothing}
 use Rattle.dx_making.specs.declared.end.End.{End}
 use Rattle.dx_outcome.specs.Computed.{of_ends, of_loading}
-use Rattle.dx_outcome.specs.Ends.{IsWhole, IsPart, IsCutShort, IsFront, in_loading, behind_loading, with_reads}
+use Rattle.dx_outcome.specs.Ends.{IsWhole, IsCutShort, IsFront, in_loading, behind_loading, with_reads}
 use Rattle.dx_outcome.specs.Lines.{refusal_line, usage_line}
-use Rattle.dx_outcome.specs.Outcome.{Seen, Outcome, line_alone, outcome}
-use Rattle.dx_outcome.specs.Plan.{Plan, NoLine, Refuses as PlanRefuses, Performs}
+use Rattle.dx_outcome.specs.Outcome.{Outcome, line_alone, outcome}
+use Rattle.dx_outcome.specs.Plan.{Plan, NoLine, Refuses as PlanRefuses}
 use Rattle.dx_session.specs.Ends.{Ends, SeesSo, end_of}
 use Rattle.dx_session.specs.Loads.{LoadsOwn}
 use Rattle.dx_sessions.specs.Does.{devices}

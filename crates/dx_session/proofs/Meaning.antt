@@ -8,8 +8,7 @@ use Rattle.dx_io.proofs.Growing.{grows_by_nothing, grows_on_into}
 use Rattle.dx_machine.specs.Machine.{Task, runs_in}
 use Rattle.dx_meaning.specs.Outcome.{Use}
 use Rattle.dx_objects.specs.Runs.{Ran}
-use Rattle.dx_performing.specs.Execution.{Export}
-use Rattle.dx_outcome.specs.Ends.{IsWhole, IsPart, IsCutShort, IsFront, in_loading, behind_loading, with_reads, is_cut, EndsAs}
+use Rattle.dx_outcome.specs.Ends.{IsWhole, IsCutShort, IsFront, in_loading, behind_loading, with_reads, is_cut, EndsAs}
 use Rattle.dx_outcome.specs.Laws.{IsMeant}
 use Rattle.dx_outcome.specs.Meaning.{Meaning, IfSaid, EndsAsMeant, AreSplit, AreDemanded}
 use Rattle.dx_outcome.specs.Outcome.{Seen, Outcome, texts_of, exports_of, runs_of}

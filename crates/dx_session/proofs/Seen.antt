@@ -1,15 +1,14 @@
 -- What a session shows, as it is seen.
-use Rattle.std.proofs.Common.{◌≡◌, ℕ, ◌≤◌, length, List, [], ◌∷◌, ◌++◌, map, refl, sym, ap, ap₂, ◌∙◌, subst}
+use Rattle.std.proofs.Common.{◌≡◌, ℕ, ◌≤◌, List, [], ◌∷◌, ◌++◌, map, refl, sym, ap, ap₂, ◌∙◌, subst}
 use Rattle.std.specs.Prelude.{Result, Ok, Err, Bool}
 use Rattle.std.proofs.lemmas.List.{map-append, length-map}
 use Rattle.dx_engine.specs.Executing.{Devices}
 use Rattle.dx_getting.specs.Told.{Adds, AddsSome}
 use Rattle.dx_io.specs.Devices.{Grows, GrowsInto}
-use Rattle.dx_machine.specs.Machine.{Task, tasks_of}
+use Rattle.dx_machine.specs.Machine.{tasks_of}
 use Rattle.dx_making.specs.declared.end.End.{End}
 use Rattle.dx_outcome.specs.Ends.{IsWhole, IsPart, IsCutShort}
 use Rattle.dx_outcome.specs.Outcome.{Seen, seen_of, texts_of, exports_of, runs_of, status_of}
-use Rattle.dx_performing.specs.Execution.{Export}
 use Rattle.dx_session.specs.Ends.{SeesSo}
 use Rattle.dx_sessions.specs.Does as does
 use Rattle.dx_sessions.specs.Does.{PerformsSo}

@@ -1,4 +1,4 @@
-use Rattle.std.proofs.Common.{◌≡◌, ◌∙◌, None, ℕ, List, refl, subst, sym}
+use Rattle.std.proofs.Common.{◌∙◌, None, ℕ, List, refl, subst}
 use Rattle.dx_include.specs.Computed.{loading_of}
 use Rattle.dx_outcome.specs.Plan.{alone, workload_name}
 use Rattle.dx_session.specs.Loads.{LoadsOwn}
