@@ -8,6 +8,8 @@ mod device_tests;
 #[cfg(test)]
 mod frame_tests;
 #[cfg(test)]
+mod kept_tests;
+#[cfg(test)]
 mod limit_tests;
 #[cfg(test)]
 mod load_tests;

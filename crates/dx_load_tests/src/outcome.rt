@@ -1,9 +1,33 @@
 //! Runs of whole sessions over files in memory.
 use dx_base::Bytes;
-use dx_io::{CallNumbers, MemFiles, MemSink, NamedBytes};
+use dx_io::{CallNumbers, MemExports, MemFiles, MemSink, NamedBytes};
+use dx_modules::Modules;
 use dx_session::run_dxi;
 use std::alloc::{AllocError, Global};
 use std::test::Fail;
+
+// The number of the read, of the write and of the put that fail; 0 for none.
+#[derive(Clone, Copy)]
+pub struct Failing {
+    pub read: u64,
+    pub write: u64,
+    pub put: u64,
+}
+
+pub const NONE: Failing = Failing {
+    read: 0,
+    write: 0,
+    put: 0,
+};
+
+// What comes of a line: the status, what is printed, how many names are asked for, and the files that are put, in order.
+#[derive(Drop)]
+pub struct Seen {
+    pub status: u8,
+    pub printed: Vec<u8>,
+    pub asked: usize,
+    pub puts: Vec<u8>,
+}
 
 // Files with these names and texts, one of whose reads fails where its number isn't 0.
 pub fn files(alloc: Global, texts: &[(&str, &str)], fail: u64) -> Result<MemFiles, AllocError> {
@@ -13,8 +37,11 @@ pub fn files(alloc: Global, texts: &[(&str, &str)], fail: u64) -> Result<MemFile
         let text = Bytes::copy_of(alloc, text.as_bytes())?;
         let _ = pairs.push((name, text)).is_ok();
     }
-    let fail = CallNumbers::from_vec([fail].to_vec(alloc)?);
-    Ok(MemFiles::new(alloc, NamedBytes::from_vec(pairs), fail))
+    Ok(MemFiles::new(alloc, NamedBytes::from_vec(pairs), numbers(alloc, fail)?))
+}
+
+fn numbers(alloc: Global, fail: u64) -> Result<CallNumbers, AllocError> {
+    Ok(CallNumbers::from_vec([fail].to_vec(alloc)?))
 }
 
 fn words(alloc: Global, texts: &[&str]) -> Result<Vec<String>, Fail> {
@@ -25,8 +52,46 @@ fn words(alloc: Global, texts: &[&str]) -> Result<Vec<String>, Fail> {
     Ok(words)
 }
 
-// What comes of a line over these files: the status, what is printed, and how many names are asked for. A read and a
-// write of these numbers fail.
+// The puts one behind the other, each as its name, a colon and its content.
+fn listed(alloc: Global, exports: &MemExports) -> Result<Vec<u8>, AllocError> {
+    let mut all = Vec::new(alloc);
+    for (name, content) in exports.puts() {
+        all.extend_from_slice(name.bytes())?;
+        all.extend_from_slice(b":")?;
+        all.extend_from_slice(content.bytes())?;
+    }
+    Ok(all)
+}
+
+// What comes of a line over these files.
+pub fn run_line(
+    alloc: Global,
+    line: &[&str],
+    texts: &[(&str, &str)],
+    fail: Failing,
+) -> Result<Seen, Fail> {
+    let words = words(alloc, line)?;
+    let mut files = files(alloc, texts, fail.read)?;
+    let mut exports = MemExports::new(alloc, numbers(alloc, fail.put)?);
+    let mut out = MemSink::new(alloc, numbers(alloc, fail.write)?);
+    let mut modules = Modules::new();
+    let status = run_dxi(
+        alloc,
+        &words,
+        &mut files,
+        &mut exports,
+        &mut out,
+        &mut modules,
+    );
+    Ok(Seen {
+        status,
+        printed: out.bytes().to_vec(alloc)?,
+        asked: files.asked().len(),
+        puts: listed(alloc, &exports)?,
+    })
+}
+
+// The status, what is printed, and how many names are asked for. A read and a write of these numbers fail.
 pub fn outcome(
     alloc: Global,
     line: &[&str],
@@ -34,12 +99,23 @@ pub fn outcome(
     read: u64,
     write: u64,
 ) -> Result<(u8, Vec<u8>, usize), Fail> {
-    let words = words(alloc, line)?;
-    let mut files = files(alloc, texts, read)?;
-    let fail = CallNumbers::from_vec([write].to_vec(alloc)?);
-    let mut out = MemSink::new(alloc, fail);
-    let status = run_dxi(alloc, &words, &mut files, &mut out);
-    Ok((status, out.bytes().to_vec(alloc)?, files.asked().len()))
+    let seen = run_line(
+        alloc,
+        line,
+        texts,
+        Failing {
+            read,
+            write,
+            put: 0,
+        },
+    )?;
+    let Seen {
+        status,
+        printed,
+        asked,
+        puts: _,
+    } = seen;
+    Ok((status, printed, asked))
 }
 
 // Whether a session prints this text and ends with this status.

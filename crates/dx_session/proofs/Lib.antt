@@ -1,3 +1,3 @@
+pub mod Seen
 pub mod Ending
-pub mod Folding
-pub mod Outcomes
+pub mod Meaning

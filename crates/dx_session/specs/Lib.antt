@@ -1,4 +1,2 @@
-pub mod Computed
 pub mod Ends
-pub mod Lines
-pub mod Outcome
+pub mod Loads

@@ -1,9 +1,11 @@
-//! A whole session: the words of the command line, the file that they name, and what is printed.
+//! A whole line of words: which session or workload it names, its loading, and its statements over what is kept, up to the status with
+//! which the program ends.
 #![tactic(auto)]
 
 mod lines;
+mod loading;
 mod run;
+mod workload;
 
-pub use dx_execution::End;
-pub use dx_statements::Session;
-pub use run::{one_outcome, run_dxi};
+pub use dx_making::End;
+pub use run::run_dxi;

@@ -1,43 +1,73 @@
-ghost use Rattle.std.specs.Prelude.{◌≡◌, ◌⊎◌, List, [], ℕ, Some, None, IfOk, IsErrOf, IsTrue, option_map};
+//! What the program does with its words, and the status with which it ends.
+ghost use Rattle.std.specs.Prelude.{◌≡◌, ◌⊎◌, ◌∷◌, [], None, Some, IfOk, IsErrOf, IsTrue, map as each};
 ghost use Rattle.dx_ast.specs.Lawful.{AreLawful};
 ghost use Rattle.dx_ast.specs.Plain.{plain_stmts};
-ghost use Rattle.dx_io.specs.Devices.{FileMap, Rose, Writes};
-ghost use Rattle.dx_include.specs.Answers.{LoadCause, Loads};
-ghost use Rattle.dx_include.specs.Computed.{loading_of};
-ghost use Rattle.dx_session.specs.Computed.{of_loading, outcome_of};
-ghost use Rattle.dx_execution.specs.Ends.{PrintCause};
-ghost use Rattle.dx_session.specs.Ends.{end_of};
-ghost use Rattle.dx_session.specs.Lines.{refusal_line};
-ghost use Rattle.dx_session.specs.Outcome.{Outcome, IsOutcome, Ends, EndsAs, IsWhole, is_cut, texts, line, session as session_of, status_of};
+ghost use Rattle.dx_io.specs.Devices.{Cause, FileMap, Rose, Writes};
+ghost use Rattle.dx_looking.specs.Setting.{fixed};
+ghost use Rattle.dx_making.specs.declared.end.End.TheVariants.{ReadFault, WriteFault, ExportFault};
+ghost use Rattle.dx_outcome.specs.Budget.{StaysWithin};
+ghost use Rattle.dx_outcome.specs.Computed.{job_loading, of_loading, plan_of};
+ghost use Rattle.dx_outcome.specs.Ends.{EndsAs, IsWholeStatus, is_cut};
+ghost use Rattle.dx_outcome.specs.Lines.{refusal_line, usage_line};
+ghost use Rattle.dx_outcome.specs.Meaning.{AreDemanded, EndsAsMeant, IsMeaning, Meaning};
+ghost use Rattle.dx_outcome.specs.Outcome.{IsOutcome, Outcome, line_alone, listings_of, outcome, seen_of, shown_of, status_of};
+ghost use Rattle.dx_outcome.specs.Plan.{IsPlan, Plan};
+ghost use Rattle.dx_session.specs.Ends.{Ends, SeesSo, end_of, end_status};
+ghost use Rattle.dx_words.specs.Range.{IsInRange};
+ghost use Rattle.dx_sessions.specs.Does.{devices};
+ghost use Rattle.dx_shown.specs.Listed.{any_error};
+ghost use Rattle.dx_words.specs.Line.{texts, words_of};
 
 use crate::lines;
+use crate::loading::load_job;
 use dx_ast::Stmts;
-use dx_base::Bytes;
-use dx_execution::End;
-use dx_include::{LoadFail, load};
-use dx_io::{Files, Sink, write_all};
-use dx_statements::Session;
+use dx_include::LoadFail;
+use dx_io::{Exports, Files, Sink, write_all};
+use dx_making::End;
+use dx_objects::Library;
+use dx_sessions::perform;
+use dx_telling::Listings;
+use dx_words::{Words, WordsFail, read_words};
 use std::alloc::Global;
 
-const USAGE: &[u8] = b"usage: dxi [--memory BYTES] [--trace] [--links] (SESSION | --workload N)\n";
-
-/// Runs the session that the words name, and answers the status of the program.
-pub fn run_dxi<F: Files, O: Sink>(
+/// Runs the session or the workload that the words name, and answers the status of the program.
+///
+/// 0 where the session was performed and no error line was due, 1 where one was; 2 where loading was refused; 3 where the words are no
+/// line; 4, 5 and 6 where a file couldn't be read, the output not be written, or a file not be put; 7 where memory ran out.
+pub fn run_dxi<F: Files, X: Exports, O: Sink, L: Library>(
     alloc: Global,
     words: &Vec<String>,
     files: &mut F,
+    exports: &mut X,
     out: &mut O,
+    lib: &mut L,
 ) -> u8
-    // What is printed, what is asked for and the status are those of the session's outcome; where it is cut
-    // short, what is printed and asked for are a front of that.
+    // Over files that tell their content. What is printed and put, what is asked for and run, and the status, are those of the line's
+    // outcome; where the call is cut short, they are a front of that.
     ensures session { (map : FileMap) → F.content files.old ≡ Some map →
-        (o : Outcome) × IsOutcome (texts words.now.items) map o
-        × EndsAs result o (O.written out.old) (O.written out.new) (F.asked files.old) (F.asked files.new) }
+        let was = devices (L.done lib.old) (F.asked files.old) (O.written out.old) (X.puts exports.old) in
+        let now = devices (L.done lib.new) (F.asked files.new) (O.written out.new) (X.puts exports.new) in
+        (o : Outcome) × IsOutcome (texts words.now.items) map L.answer o × EndsAs result o was now }
 
-    // Also over files that tell nothing.
-    ensures statuses { IsTrue (is_cut result) ⊎ IsWhole result }
-    ensures usage { result ≡ 3 → line (texts words.now.items) ≡ None }
-    ensures no_line { line (texts words.now.items) ≡ None → IsTrue (is_cut result) ⊎ (result ≡ 3) }
+    // And so the files put and the status, and on a line without `--trace` the bytes printed, are those of the language's meaning,
+    // evaluated afresh.
+    ensures meaning { (map : FileMap) → F.content files.old ≡ Some map →
+        let was = devices (L.done lib.old) (F.asked files.old) (O.written out.old) (X.puts exports.old) in
+        let now = devices (L.done lib.new) (F.asked files.new) (O.written out.new) (X.puts exports.new) in
+        (m : Meaning) × IsMeaning (texts words.now.items) map L.answer m × EndsAsMeant result m was now }
+
+    // No module runs that this meaning doesn't demand.
+    ensures demand { (map : FileMap) → F.content files.old ≡ Some map →
+        (m : Meaning) × IsMeaning (texts words.now.items) map L.answer m × AreDemanded m.demanded (L.done lib.old) (L.done lib.new) }
+
+    // The stated sizes of what the cache keeps never exceed the budget.
+    ensures budget { (map : FileMap) → F.content files.old ≡ Some map →
+        (p : Plan) → IsPlan (texts words.now.items) map p → StaysWithin L.answer map p }
+
+    // Also over files that tell nothing. The call came to its end, or was cut short.
+    ensures statuses { IsTrue (is_cut result) ⊎ IsWholeStatus result }
+    ensures usage { result ≡ 3 → words_of (texts words.now.items) ≡ None }
+    ensures no_line { words_of (texts words.now.items) ≡ None → IsTrue (is_cut result) ⊎ (result ≡ 3) }
 
     // No file changes.
     ensures same { F.content files.new ≡ F.content files.old }
@@ -45,90 +75,99 @@ pub fn run_dxi<F: Files, O: Sink>(
     // A fault is answered only where the device's count has risen.
     ensures read_fault { result ≡ 4 → Rose (F.faults files.old) (F.faults files.new) }
     ensures write_fault { result ≡ 5 → Rose (O.faults out.old) (O.faults out.new) }
+    ensures export_fault { result ≡ 6 → Rose (X.faults exports.old) (X.faults exports.new) }
 {
-    status_of(alloc, words, files, out)
+    run(alloc, words, files, exports, out, lib)
 }
 
-fn status_of<F: Files, O: Sink>(
+// The same, by the outcome as it is computed.
+fn run<F: Files, X: Exports, O: Sink, L: Library>(
     alloc: Global,
     words: &Vec<String>,
     files: &mut F,
+    exports: &mut X,
     out: &mut O,
+    lib: &mut L,
 ) -> u8
-    ensures session { (map : FileMap) → F.content files.old ≡ Some map →
-        EndsAs result (outcome_of (texts words.now.items) map)
-        (O.written out.old) (O.written out.new) (F.asked files.old) (F.asked files.new) }
-    ensures statuses { IsTrue (is_cut result) ⊎ IsWhole result }
-    ensures usage { result ≡ 3 → line (texts words.now.items) ≡ None }
-    ensures no_line { line (texts words.now.items) ≡ None → IsTrue (is_cut result) ⊎ (result ≡ 3) }
+    ensures ends { (map : FileMap) → F.content files.old ≡ Some map →
+        EndsAs result (outcome L.answer map (plan_of (texts words.now.items) map)) (devices (L.done lib.old) (F.asked files.old) (O.written out.old) (X.puts exports.old)) (devices (L.done lib.new) (F.asked files.new) (O.written out.new) (X.puts exports.new)) }
+    ensures statuses { IsTrue (is_cut result) ⊎ IsWholeStatus result }
+    ensures usage { result ≡ 3 → words_of (texts words.now.items) ≡ None }
+    ensures no_line { words_of (texts words.now.items) ≡ None → IsTrue (is_cut result) ⊎ (result ≡ 3) }
     ensures same { F.content files.new ≡ F.content files.old }
     ensures read_fault { result ≡ 4 → Rose (F.faults files.old) (F.faults files.new) }
     ensures write_fault { result ≡ 5 → Rose (O.faults out.old) (O.faults out.new) }
+    ensures export_fault { result ≡ 6 → Rose (X.faults exports.old) (X.faults exports.new) }
 {
-    match session(alloc, words, files, out) {
+    match answer_words(alloc, words, files, exports, out, lib) {
         Ok(status) => status,
         Err(End::ReadFault) => 4,
         Err(End::WriteFault) => 5,
+        Err(End::ExportFault) => 6,
         Err(End::Memory) => 7,
     }
 }
 
-// The session that the words name, if they are a line.
-fn session_name(words: &Vec<String>) -> Option<&[u8]>
-    ensures { option_map (λ name. name.now) result ≡ line (texts words.now.items) }
-{
-    match words.as_slice() {
-        [word] => {
-            let word = word.as_bytes();
-            (!word.starts_with(b"-") || word == b"-".as_slice()).then_some(word)
-        }
-        _ => None,
-    }
-}
-
-fn session<F: Files, O: Sink>(
+// Reads the words, and does what they say.
+fn answer_words<F: Files, X: Exports, O: Sink, L: Library>(
     alloc: Global,
     words: &Vec<String>,
     files: &mut F,
+    exports: &mut X,
     out: &mut O,
+    lib: &mut L,
 ) -> Result<u8, End>
-    ensures session { (map : FileMap) → F.content files.old ≡ Some map →
-        Ends result (outcome_of (texts words.now.items) map)
-        (O.written out.old) (O.written out.new) (F.asked files.old) (F.asked files.new) }
-    ensures own_status { IfOk result IsWhole }
-    ensures usage { IfOk result (λ status. status ≡ 3 → line (texts words.now.items) ≡ None) }
-    ensures no_line { line (texts words.now.items) ≡ None → IfOk result (λ status. status ≡ 3) }
+    ensures ends { (map : FileMap) → F.content files.old ≡ Some map →
+        Ends result (outcome L.answer map (plan_of (texts words.now.items) map)) (devices (L.done lib.old) (F.asked files.old) (O.written out.old) (X.puts exports.old)) (devices (L.done lib.new) (F.asked files.new) (O.written out.new) (X.puts exports.new)) }
+    ensures status { IfOk result IsWholeStatus }
+    ensures usage { IfOk result (λ status. status ≡ 3 → words_of (texts words.now.items) ≡ None) }
+    ensures no_line { words_of (texts words.now.items) ≡ None → IfOk result (λ status. status ≡ 3) }
     ensures same { F.content files.new ≡ F.content files.old }
-    ensures read_fault { IsErrOf result End.ReadFault → Rose (F.faults files.old) (F.faults files.new) }
-    ensures write_fault { IsErrOf result End.WriteFault → Rose (O.faults out.old) (O.faults out.new) }
+    ensures read_cause { Cause ReadFault (F.faults files.old) (F.faults files.new) result }
+    ensures write_cause { Cause WriteFault (O.faults out.old) (O.faults out.new) result }
+    ensures export_cause { Cause ExportFault (X.faults exports.old) (X.faults exports.new) result }
 {
-    match session_name(words) {
-        None => {
-            write_all(out, USAGE)?;
-            Ok(3)
-        }
-        Some(name) => load_and_perform(alloc, name, files, out),
+    match read_words(alloc, words) {
+        Ok(said) => run_job(alloc, &said, files, exports, out, lib),
+        Err(WordsFail::Refused) => print_alone(lines::usage(), 3, out),
+        Err(WordsFail::Memory) => Err(End::Memory),
     }
 }
 
-// Loads the session of this name, and performs its statements.
-fn load_and_perform<F: Files, O: Sink>(
-    alloc: Global,
-    name: &[u8],
-    files: &mut F,
-    out: &mut O,
-) -> Result<u8, End>
-    ensures session { (map : FileMap) → F.content files.old ≡ Some map →
-        Ends result (of_loading (loading_of map name.now))
-        (O.written out.old) (O.written out.new) (F.asked files.old) (F.asked files.new) }
-    ensures own_status { IfOk result (λ status. (status ≡ 0) ⊎ (status ≡ 1) ⊎ (status ≡ 2)) }
-    ensures same { F.content files.new ≡ F.content files.old }
-    ensures read_fault { IsErrOf result End.ReadFault → Rose (F.faults files.old) (F.faults files.new) }
-    ensures write_fault { IsErrOf result End.WriteFault → Rose (O.faults out.old) (O.faults out.new) }
+// Prints a line alone, with this status.
+fn print_alone<O: Sink>(line: &[u8], status: u8, out: &mut O) -> Result<u8, End>
+    ensures prints { Writes (O.written out.old) (O.written out.new) line.now result }
+    ensures status { IfOk result (λ own. own ≡ status) }
+    ensures cause { Cause WriteFault (O.faults out.old) (O.faults out.new) result }
+    ensures no_read { IsErrOf result ReadFault → ⊥ }
+    ensures no_export { IsErrOf result ExportFault → ⊥ }
 {
-    let name = Bytes::copy_of(alloc, name)?;
-    match load_session(alloc, files, &name) {
-        Ok(statements) => perform(alloc, statements, files, out),
+    match write_all(out, line) {
+        Ok(()) => Ok(status),
+        Err(fail) => Err(End::from(fail)),
+    }
+}
+
+// Loads what the words name, and performs it.
+fn run_job<F: Files, X: Exports, O: Sink, L: Library>(
+    alloc: Global,
+    said: &Words,
+    files: &mut F,
+    exports: &mut X,
+    out: &mut O,
+    lib: &mut L,
+) -> Result<u8, End>
+    requires range { IsInRange said.now.job }
+    ensures ends { (map : FileMap) → F.content files.old ≡ Some map →
+        Ends result (outcome L.answer map (of_loading said.now (job_loading map said.now.job))) (devices (L.done lib.old) (F.asked files.old) (O.written out.old) (X.puts exports.old)) (devices (L.done lib.new) (F.asked files.new) (O.written out.new) (X.puts exports.new)) }
+    ensures status { IfOk result (λ status. (status ≡ 0) ⊎ (status ≡ 1) ⊎ (status ≡ 2)) }
+    ensures same { F.content files.new ≡ F.content files.old }
+    ensures read_cause { Cause ReadFault (F.faults files.old) (F.faults files.new) result }
+    ensures write_cause { Cause WriteFault (O.faults out.old) (O.faults out.new) result }
+    ensures export_cause { Cause ExportFault (X.faults exports.old) (X.faults exports.new) result }
+{
+    match load_job(alloc, &said.job, files) {
+        Ok(statements) => perform_job(alloc, said, statements, files, exports, out, lib),
         Err(why) => match cut_by(&why) {
             Some(end) => Err(end),
             None => refuse(alloc, &why, out),
@@ -147,62 +186,65 @@ fn cut_by(why: &LoadFail) -> Option<End>
     }
 }
 
-// Loads the session, as it is computed.
-fn load_session<F: Files>(alloc: Global, files: &mut F, name: &Bytes) -> Result<Stmts, LoadFail>
-    ensures loading { (map : FileMap) → F.content files.old ≡ Some map →
-        Loads (loading_of map name.now) result (F.asked files.old) (F.asked files.new) }
-    ensures lawful { IfOk result (λ statements. AreLawful (plain_stmts statements)) }
-    ensures same { F.content files.new ≡ F.content files.old }
-    ensures cause { LoadCause (F.faults files.old) (F.faults files.new) result }
-{
-    load(alloc, files, name)
-}
-
+// Prints why nothing is loaded.
 fn refuse<O: Sink>(alloc: Global, why: &LoadFail, out: &mut O) -> Result<u8, End>
-    ensures writes { Writes (O.written out.old) (O.written out.new) (refusal_line why.now) result }
-    ensures status { IfOk result (λ status. status ≡ 2) }
-    ensures own_status { IfOk result (λ status. (status ≡ 0) ⊎ (status ≡ 1) ⊎ (status ≡ 2)) }
-    ensures cause { PrintCause (O.faults out.old) (O.faults out.new) result }
+    ensures prints { Writes (O.written out.old) (O.written out.new) (refusal_line why.now) result }
+    ensures status { IfOk result (λ own. own ≡ 2) }
+    ensures cause { Cause WriteFault (O.faults out.old) (O.faults out.new) result }
+    ensures no_read { IsErrOf result ReadFault → ⊥ }
+    ensures no_export { IsErrOf result ExportFault → ⊥ }
 {
     let line = lines::refusal(alloc, why)?;
-    write_all(out, &line)?;
-    Ok(2)
+    print_alone(&line, 2, out)
 }
 
-// Performs the statements from the beginning of a session on.
-fn perform<F: Files, O: Sink>(
+// Performs what was loaded.
+fn perform_job<F: Files, X: Exports, O: Sink, L: Library>(
     alloc: Global,
+    said: &Words,
     statements: Stmts,
     files: &mut F,
+    exports: &mut X,
     out: &mut O,
+    lib: &mut L,
 ) -> Result<u8, End>
-    requires { AreLawful (plain_stmts statements) }
-    ensures writes { Writes (O.written out.old) (O.written out.new) (session_of statements).text result }
-    ensures status { IfOk result (λ status. status ≡ status_of (session_of statements).erred) }
-    ensures own_status { IfOk result (λ status. (status ≡ 0) ⊎ (status ≡ 1) ⊎ (status ≡ 2)) }
-    ensures asked { F.asked files.new ≡ F.asked files.old }
+    requires lawful { AreLawful (plain_stmts statements) }
+    ensures sees { (map : FileMap) → F.content files.old ≡ Some map →
+        SeesSo result (each (seen_of (listings_of said.now)) (shown_of L.answer map said.now (plain_stmts statements))) (status_of (any_error (shown_of L.answer map said.now (plain_stmts statements)))) (devices (L.done lib.old) (F.asked files.old) (O.written out.old) (X.puts exports.old)) (devices (L.done lib.new) (F.asked files.new) (O.written out.new) (X.puts exports.new)) }
+    ensures status { IfOk result (λ status. (status ≡ 0) ⊎ (status ≡ 1)) }
     ensures same { F.content files.new ≡ F.content files.old }
-    ensures reads { F.faults files.new ≡ F.faults files.old }
-    ensures cause { PrintCause (O.faults out.old) (O.faults out.new) result }
+    ensures read_cause { Cause ReadFault (F.faults files.old) (F.faults files.new) result }
+    ensures write_cause { Cause WriteFault (O.faults out.old) (O.faults out.new) result }
+    ensures export_cause { Cause ExportFault (X.faults exports.old) (X.faults exports.new) result }
 {
-    let mut session = Session::new(alloc);
-    let mut erred = false;
-    for statement in statements.into_vec() {
-        erred |= session.statement(alloc, statement, files, out)?;
+    match perform(
+        alloc,
+        statements,
+        said.budget,
+        listings(said),
+        files,
+        exports,
+        out,
+        lib,
+    ) {
+        Ok(erred) => Ok(exit_status(erred)),
+        Err(end) => Err(end),
     }
-    Ok(exit_status(erred))
+}
+
+fn listings(said: &Words) -> Listings
+    ensures { result ≡ listings_of said.now }
+{
+    Listings {
+        trace: said.trace,
+        links: said.links,
+    }
 }
 
 // 1 exactly where an error line was due.
 fn exit_status(erred: bool) -> u8
     ensures is { result ≡ status_of erred }
-    ensures own { (result ≡ 0) ⊎ (result ≡ 1) ⊎ (result ≡ 2) }
+    ensures own { (result ≡ 0) ⊎ (result ≡ 1) }
 {
     if erred { 1 } else { 0 }
 }
-
-/// A session has one outcome.
-pub fn one_outcome()
-    ensures { (words : List (List ℕ)) (files : FileMap) (o p : Outcome) →
-        IsOutcome words files o → IsOutcome words files p → o ≡ p }
-{}

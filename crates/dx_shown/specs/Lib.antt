@@ -1,3 +1,4 @@
 pub mod Session
 pub mod Made
+pub mod Listed
 pub mod Alike

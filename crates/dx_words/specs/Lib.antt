@@ -1,3 +1,4 @@
 pub mod Command
 pub mod Line
 pub mod Values
+pub mod Range

@@ -1,6 +1,7 @@
 // What a list of words says to the program.
 ghost use Rattle.std.specs.Prelude.{◌≡◌, None, Some, IfOk, IsErrOf};
 ghost use Rattle.dx_words.specs.Line.{line_from, texts, words_of};
+ghost use Rattle.dx_words.specs.Range.{IsInRange};
 
 use crate::line::{Line, Reading};
 use dx_base::Bytes;
@@ -57,6 +58,9 @@ const USUAL_BUDGET: u64 = 67_108_864;
 pub fn read_words(alloc: Global, words: &Vec<String>) -> Result<Words, WordsFail>
     ensures ok { IfOk result (λ said. words_of (texts words.now.items) ≡ Some said) }
     ensures refused { IsErrOf result WordsFail.Refused → words_of (texts words.now.items) ≡ None }
+
+    // A workload has 1 to 100,000 executions.
+    ensures range { IfOk result (λ said. IsInRange said.job) }
 {
     let line = read_line(alloc, words)?;
     let Line {

@@ -1,8 +1,9 @@
-//! The program: it hands the words of its command line, the files of its folder and the standard output to a session,
-//! and ends with the session's status.
+//! The program: it hands the words of its command line, the files of its folder, the standard output and the modules to `run_dxi`, and
+//! ends with the status that it answers.
 #![tactic(auto)]
 
-use dx_io::{FolderFiles, StdSink};
+use dx_io::{FolderExports, FolderFiles, StdSink};
+use dx_modules::Modules;
 use dx_session::run_dxi;
 use std::alloc::{AllocError, AllocGlobal};
 use std::env;
@@ -10,14 +11,23 @@ use std::io::{self, ErrorKind};
 use std::process::ExitCode;
 use std::rt::Env;
 
-/// The status where memory ran out before the session began.
+/// The status where memory ran out before the words were read.
 const OUT_OF_MEMORY: u8 = 7;
 
 fn main(rt: HostRuntime) -> ExitCode {
     let mut files = FolderFiles::new(&rt);
+    let mut exports = FolderExports::new(&rt);
     let mut out = StdSink::new(io::writer(&rt));
+    let mut modules = Modules::new();
     let status = match words(&rt) {
-        Ok(words) => run_dxi(rt.alloc(), &words, &mut files, &mut out),
+        Ok(words) => run_dxi(
+            rt.alloc(),
+            &words,
+            &mut files,
+            &mut exports,
+            &mut out,
+            &mut modules,
+        ),
         Err(AllocError) => OUT_OF_MEMORY,
     };
     ExitCode::from(status)

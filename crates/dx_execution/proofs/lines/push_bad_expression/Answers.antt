@@ -1,5 +1,0 @@
-use Rattle.std.proofs.Common.{append_assoc}
-use Rattle.dx_execution.proofs.lines.push_bad_expression.Goals as goal
-
-pub returns : goal.returns
-returns c = rw append_assoc at (rw c.in_ok-extend_from_slice.ensures.items at c.push_number.ensures)

@@ -1,0 +1,94 @@
+//! Sessions with modules, links, exports and a cache.
+use crate::outcome::{Failing, NONE, run_line};
+use std::test::Fail;
+
+const TWICE: &str = "x = Compute(\"1 + 1\"); Print(x, \"d\"); Print(x, \"d\");";
+
+#[test]
+fn a_budget_changes_no_text(rt: HostRuntime) -> Result<(), Fail> {
+    let alloc = rt.alloc();
+    let two = "array plain int rank 0 items 1\n2\n";
+    for (line, first, second) in [
+        (["s.net"].as_slice(), "", ""),
+        (["--memory", "0", "s.net"].as_slice(), "", ""),
+        (
+            ["--trace", "--memory=67", "s.net"].as_slice(),
+            "trace run x/Compute:1\n",
+            "trace run x/Compute:1\n",
+        ),
+        (
+            ["--trace", "--memory=68", "s.net"].as_slice(),
+            "trace run x/Compute:1\ntrace keep x/Compute:1 68\n",
+            "trace hit x/Compute:1\n",
+        ),
+    ] {
+        let all = format!(in alloc; "{two}{first}{two}{second}")?;
+        let got = run_line(alloc, line, &[("s.net", TWICE)], NONE)?;
+        if got.status != 0 || got.printed.as_slice() != all.as_bytes() {
+            return Err(Fail::from(first));
+        }
+    }
+    Ok(())
+}
+
+#[test]
+fn links_are_listed_behind_each_execution(rt: HostRuntime) -> Result<(), Fail> {
+    let text =
+        "SetGlobal(1, \"n\"); SetGlobal(GetGlobal(0, \"n\"), \"n\"); SetGlobal(NULL, \"n\");";
+    let got = run_line(rt.alloc(), &["--links", "s.net"], &[("s.net", text)], NONE)?;
+    let one =
+        "links 1\nlink global \"n\"\nobject 1 class array type int rank 0 items 1 data follows\n1\nend\n";
+    let all = format!(in rt.alloc(); "{one}{one}links 0\n")?;
+    assert!(rt; got.status == 0);
+    assert!(rt; got.printed.as_slice() == all.as_bytes());
+    Ok(())
+}
+
+const AGAIN: &str =
+    "Export(7, \"o\"); Print(Import(\"o\"), \"d\"); Export(Import(\"i\"), \"p\"); Echo(1);";
+
+const NATIVE: &str = "object 1 class array type int rank 0 items 1 data follows\n7\nend\n";
+
+const SEVEN: &str = "array plain int rank 0 items 1\n7\n";
+
+#[test]
+fn each_put_and_read_fails_in_turn(rt: HostRuntime) -> Result<(), Fail> {
+    let alloc = rt.alloc();
+    let texts = [("s.net", AGAIN), ("i", NATIVE)];
+    let one = format!(in alloc; "o:{NATIVE}")?;
+    let both = format!(in alloc; "o:{NATIVE}p:{NATIVE}")?;
+    let all = format!(in alloc; "{SEVEN}1\n")?;
+    for (read, put, status, printed, puts) in [
+        (0, 0, 0, all.as_str(), both.as_str()),
+        (0, 1, 6, "", ""),
+        (0, 2, 6, SEVEN, one.as_str()),
+        (1, 0, 4, "", ""),
+        (2, 0, 4, SEVEN, one.as_str()),
+    ] {
+        let fail = Failing {
+            read,
+            write: 0,
+            put,
+        };
+        let got = run_line(alloc, &["s.net"], &texts, fail)?;
+        let same = got.printed.as_slice() == printed.as_bytes()
+            && got.puts.as_slice() == puts.as_bytes();
+        if got.status != status || !same {
+            return Err(Fail::from(printed));
+        }
+    }
+    Ok(())
+}
+
+#[test]
+fn a_workload_asks_for_no_file(rt: HostRuntime) -> Result<(), Fail> {
+    let alloc = rt.alloc();
+    let texts = [("workload", "Echo(1);")];
+    let got = run_line(alloc, &["--workload", "1"], &texts, NONE)?;
+    assert!(rt; got.status == 0);
+    assert!(rt; got.asked == 0);
+    assert!(rt; got.printed.as_slice() == b"array plain int rank 0 items 1\n68\n".as_slice());
+    let refused = run_line(alloc, &["--workload", "0"], &texts, NONE)?;
+    assert!(rt; refused.status == 3);
+    Ok(())
+}

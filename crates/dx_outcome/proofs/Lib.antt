@@ -1,0 +1,7 @@
+pub mod Plans
+pub mod Loaded
+pub mod Attributes
+pub mod Folding
+pub mod Course
+pub mod Split
+pub mod Meant

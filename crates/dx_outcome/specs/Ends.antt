@@ -1,0 +1,55 @@
+-- How a call ends: with all of an outcome, or cut short by a device or by want of memory, with a front of it.
+use Rattle.std.specs.Prelude.{◌≡◌, ◌⊎◌, ℕ, ◌≤◌, length, List, ◌++◌, Bool, ◌||◌, ◌==◌}
+use Rattle.std.specs.Bool.{MatchBool}
+use Rattle.dx_io.specs.Devices.{Grows, GrowsInto, with_more}
+use Rattle.dx_engine.specs.Executing.{Devices}
+use Rattle.dx_getting.specs.Told.{Adds, AddsSome, told}
+use Rattle.dx_include.specs.Loading.{Name}
+use Rattle.dx_outcome.specs.Outcome.{Seen, Outcome, texts_of, exports_of, runs_of}
+
+-- the status of a call that was cut short
+abbrev pub is_cut : ℕ → Bool
+is_cut status = (status == 4) || (status == 5) || (status == 6) || (status == 7)
+
+-- the status of a call that came to its end
+abbrev pub IsWholeStatus : ℕ → Type 0
+IsWholeStatus status = (status ≡ 0) ⊎ (status ≡ 1) ⊎ (status ≡ 2) ⊎ (status ≡ 3)
+
+-- ---- what devices tell
+
+-- behind these reads
+abbrev pub with_reads : Devices → List Name → Devices
+with_reads was reads = record { told = told was.told.done (with_more was.told.asked reads); written = was.written; puts = was.puts }
+
+-- all of these texts were printed, their files put, and their runs and reads told
+pub record IsWhole (seen : List Seen) (was now : Devices) : Type 0 where
+  pub printed : Grows was.written now.written (texts_of seen)
+  pub puts : Grows was.puts now.puts (exports_of seen)
+  pub told : Adds was.told now.told (runs_of seen)
+
+-- a front of each
+pub record IsPart (seen : List Seen) (was now : Devices) : Type 0 where
+  pub printed : GrowsInto was.written now.written (texts_of seen)
+  pub puts : GrowsInto was.puts now.puts (exports_of seen)
+  pub told : AddsSome was.told now.told (runs_of seen)
+
+-- so much was seen whole, and a part of what comes next, if anything does
+pub record IsCutShort (seen : List Seen) (was now : Devices) : Type 0 where
+  pub before : List Seen
+  pub next : List Seen
+  pub rest : List Seen
+  pub all : seen ≡ before ++ (next ++ rest)
+  pub few : length next ≤ 1
+  pub between : Devices
+  pub whole : IsWhole before was between
+  pub part : IsPart next between now
+
+-- ---- the two ways to end
+
+-- loading asked for so many of its files, or for all of them, and then the rest was cut short
+pub data IsFront (o : Outcome) (was now : Devices) : Type 0 where
+  in_loading : (front rest : List Name) → o.reads ≡ front ++ rest → now ≡ with_reads was front → IsFront o was now
+  behind_loading : IsCutShort o.seen (with_reads was o.reads) now → IsFront o was now
+
+abbrev pub EndsAs : ℕ → Outcome → Devices → Devices → Type 0
+EndsAs status o was now = MatchBool (is_cut status) (IsFront o was now) ((status ≡ o.status) × IsWhole o.seen (with_reads was o.reads) now)

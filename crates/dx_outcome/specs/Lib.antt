@@ -1,0 +1,8 @@
+pub mod Lines
+pub mod Plan
+pub mod Computed
+pub mod Outcome
+pub mod Ends
+pub mod Meaning
+pub mod Budget
+pub mod Laws

@@ -1,0 +1,147 @@
+-- One execution on the devices, with what is told behind it.
+use Rattle.std.proofs.Common.{◌≡◌, ℕ, List, [], ◌∷◌, ◌++◌, Option, Some, None, Bool, true, false, ◌||◌, is_some, option_map, Result, Ok, Err, refl, sym, ap, ap₂, subst, ◌∙◌, append_assoc, append-nil}
+use Rattle.dx_io.specs.Devices.{FileMap as InputFiles, Grows, GrowsInto}
+use Rattle.dx_io.proofs.Growing.{grows_by_nothing, grows_on, grows_on_into, grows_into}
+use Rattle.dx_ast.specs.declared.statements.Stmt.{Stmt as CodeStmt}
+use Rattle.dx_ast.specs.Plain.{plain_stmt}
+use Rattle.dx_ast.specs.Syntax.{Stmt}
+use Rattle.dx_ending.specs.Putting.{ArePut}
+use Rattle.dx_macros.specs.declared.dictionary.Dictionary.{Dictionary}
+use Rattle.dx_macros.specs.DictionaryView.{dictionary_of}
+use Rattle.dx_machine.specs.Machine.{Task, tasks_of}
+use Rattle.dx_getting.specs.Stands.{Answers}
+use Rattle.dx_getting.specs.Told.{Told, Adds, AddsSome}
+use Rattle.dx_getting.proofs.TellLaws.{some_all, some_later}
+use Rattle.dx_looking.specs.Setting.{fixed}
+use Rattle.dx_performing.specs.Course.{Fixed}
+use Rattle.dx_performing.specs.Execution.{Error, Export}
+use Rattle.dx_performing.specs.Kept.{Kept}
+use Rattle.dx_engine.specs.Beginning.{FromState}
+use Rattle.dx_engine.specs.Keeping.{kept_of, IsSoundState}
+use Rattle.dx_engine.specs.Executing.{Devices, NonePut}
+use Rattle.dx_engine.specs.declared.state.State.{State}
+use Rattle.dx_shown.specs.Made.{Coursed, coursed}
+use Rattle.dx_sequencer.specs.Sequencer as seq
+use Rattle.dx_sequencer.specs.Sequencer.{frames_of}
+use Rattle.dx_shown.specs.Session.{Shown, Executes, executed, with_kept, State as SessionState}
+use Rattle.dx_shown.specs.Listed.{all_exports, all_tasks, any_error}
+use Rattle.dx_making.specs.Failing.{FailsAs}
+use Rattle.dx_making.specs.Making.{IsMade, IsCutEarly, IsCutLate, SomeArePut, MakesSo}
+use Rattle.dx_making.specs.declared.end.End.{End}
+use Rattle.dx_making.specs.declared.end.End.TheVariants.{ReadFault, WriteFault, ExportFault, Memory}
+use Rattle.dx_making.specs.declared.failing.Failing.{Failing}
+use Rattle.dx_making.specs.declared.failing.Failing.TheVariants.{Faulty, Refused}
+use Rattle.dx_telling.specs.Shown.{behind_of, shown_texts}
+use Rattle.dx_telling.specs.declared.listings.Listings.{Listings}
+use Rattle.dx_sessions.specs.Does.{OverSound, IsWhole, IsFront, IsCutShort, IsDone, OthersStay, ShowsSo}
+use Rattle.dx_sessions.specs.Ended.{is_error}
+use Rattle.dx_sessions.specs.Executes.{IsExecuted, ExecutesSo}
+use Rattle.dx_sessions.specs.SessionView.{state_of}
+use Rattle.dx_sessions.specs.declared.ended.Ended.{Ended}
+use Rattle.dx_sessions.specs.declared.session.Session.{Session}
+use Rattle.dx_sessions.proofs.Folding.{cut_in_one}
+
+-- ---- what modules answer, the files and the budget
+
+pub over_from : (answer : Answers) (content : Option InputFiles) (st : State) (P : Fixed → Type 0) → FromState answer content st P → OverSound answer content st P
+over_from answer content st P from x answers files sound =
+    let same : fixed answer x.file st.cache.budget ≡ x =
+    ap₂ (λ (a : Answers) (b : ℕ). let y : Fixed = record { answer = a; file = x.file; budget = b } in y) (sym answers) (sym sound.budget) in
+    subst P same (from x.file files (subst (λ (y : Fixed). IsSoundState y st) (sym same) sound))
+
+-- ---- fronts
+
+into_more : {A : Type 0} (told now : Option (List A)) (a b : List A) → GrowsInto told now a → GrowsInto told now (a ++ b)
+into_more told now a b (front, rest, split, grown) = (front, rest ++ b, ap (λ xs. xs ++ b) split ∙ append_assoc front rest b, grown)
+
+into_by_nothing : {A : Type 0} (told now : Option (List A)) (a : List A) → now ≡ told → GrowsInto told now a
+into_by_nothing told now a same = ([], a, refl, same ∙ grows_by_nothing told)
+
+-- ---- the failure
+
+fails : (e : Option Error) (failing : Option Failing) → FailsAs e failing → is_some failing ≡ is_some e
+fails e None h = ap is_some (sym h)
+fails e (Some (Faulty site fault)) h = ap is_some (sym h.1)
+fails e (Some (Refused site code)) h = ap is_some (sym h.1)
+
+-- ---- an execution that is made
+
+-- what is told of the devices behind its effects, and behind what is told of it
+pub made_whole : (x : Fixed) (l : Listings) (st st' : State) (made : Coursed × Kept) (was mid now : Devices) (failing : Option Failing) (ended : Ended)
+    → IsMade x st made was failing st' mid → Grows mid.written now.written (behind_of l made.0) → now.told ≡ mid.told → now.puts ≡ mid.puts → is_error ended ≡ is_some failing
+    → IsExecuted x l made was ended st' now
+made_whole x l st st' made was mid now failing ended m grown told puts error = record {
+  whole = record {
+    printed = subst (Grows was.written now.written) (sym (append-nil (made.0.execution.printed ++ behind_of l made.0))) (grows_on was.written mid.written now.written made.0.execution.printed (behind_of l made.0) m.printed grown);
+    puts = subst (λ (p : Option (List Export)). Grows was.puts p (made.0.execution.exports ++ [])) (sym puts) (subst (Grows was.puts mid.puts) (sym (append-nil made.0.execution.exports)) m.puts);
+    told = subst (λ (t : Told). Adds was.told t (tasks_of made.0.events ++ [])) (sym told) (subst (Adds was.told mid.told) (sym (append-nil (tasks_of made.0.events))) m.told);
+  };
+  error = error ∙ fails made.0.execution.error failing m.error;
+  kept = m.kept;
+  sound = m.sound;
+}
+
+-- a front of what is told of it was written
+pub made_front : (x : Fixed) (l : Listings) (st st' : State) (made : Coursed × Kept) (was mid now : Devices) (failing : Option Failing)
+    → IsMade x st made was failing st' mid → GrowsInto mid.written now.written (behind_of l made.0) → now.told ≡ mid.told → now.puts ≡ mid.puts
+    → IsFront l (Executes made.0 ∷ []) was now
+made_front x l st st' made was mid now failing m grown told puts = record {
+  printed = into_more was.written now.written (made.0.execution.printed ++ behind_of l made.0) [] (grows_on_into was.written mid.written now.written made.0.execution.printed (behind_of l made.0) m.printed grown);
+  puts = subst (λ (p : Option (List Export)). GrowsInto was.puts p (made.0.execution.exports ++ [])) (sym puts) (grows_into was.puts mid.puts made.0.execution.exports [] m.puts);
+  told = subst (λ (t : Told). AddsSome was.told t (tasks_of made.0.events ++ [])) (sym told) (some_all was.told mid.told (tasks_of made.0.events) [] (tasks_of made.0.events ++ []) m.told refl);
+}
+
+-- ---- one that is cut short
+
+front_by : (l : Listings) (c : Coursed) (was now : Devices)
+    → GrowsInto was.written now.written c.execution.printed → GrowsInto was.puts now.puts c.execution.exports → AddsSome was.told now.told (tasks_of c.events)
+    → IsFront l (Executes c ∷ []) was now
+front_by l c was now printed puts told = record {
+  printed = into_more was.written now.written (c.execution.printed ++ behind_of l c) [] (into_more was.written now.written c.execution.printed (behind_of l c) printed);
+  puts = into_more was.puts now.puts c.execution.exports [] puts;
+  told = some_later was.told now.told (tasks_of c.events) [] (tasks_of c.events ++ []) told refl;
+}
+
+some_put : (c : Coursed) (st st' : State) (was now : Devices) → SomeArePut c st was st' now → GrowsInto was.puts now.puts c.execution.exports
+some_put c st st' was now some = (some.front, some.rest, some.split, some.made.told)
+
+printed_whole : (c : Coursed) (was now : Devices) → Grows was.written now.written c.execution.printed → GrowsInto was.written now.written c.execution.printed
+printed_whole c was now grown = (c.execution.printed, [], sym (append-nil c.execution.printed), grown)
+
+told_whole : (c : Coursed) (was now : Devices) → Adds was.told now.told (tasks_of c.events) → AddsSome was.told now.told (tasks_of c.events)
+told_whole c was now told = some_all was.told now.told (tasks_of c.events) [] (tasks_of c.events) told (sym (append-nil (tasks_of c.events)))
+
+pub cut_front : (x : Fixed) (l : Listings) (st st' : State) (made : Coursed × Kept) (was now : Devices) (end : End)
+    → MakesSo x st made was (Err end) st' now → IsFront l (Executes made.0 ∷ []) was now
+cut_front x l st st' made was now ReadFault (early, none) = front_by l made.0 was now early.printed (into_by_nothing was.puts now.puts made.0.execution.exports none.puts) early.told
+cut_front x l st st' made was now WriteFault (early, none) = front_by l made.0 was now early.printed (into_by_nothing was.puts now.puts made.0.execution.exports none.puts) early.told
+cut_front x l st st' made was now ExportFault late = front_by l made.0 was now (printed_whole made.0 was now late.printed) (some_put made.0 st st' was now late.puts) (told_whole made.0 was now late.told)
+cut_front x l st st' made was now Memory (early, some) = front_by l made.0 was now early.printed (some_put made.0 st st' was now some) early.told
+
+-- ---- in a session
+
+or_false : (b : Bool) → b ≡ b || false
+or_false true = refl
+or_false false = refl
+
+abbrev pub made_in : Fixed → Session → Stmt → Coursed × Kept
+made_in x old s = coursed x (state_of old).dictionary (frames_of (state_of old).sequencer) s (state_of old).kept
+
+-- an execution of a statement with what is current
+pub shows : (x : Fixed) (l : Listings) (old new : Session) (s : Stmt) (was now : Devices) (r : Result Ended End)
+    → OthersStay old new → ExecutesSo x l (made_in x old s) was r new.state now
+    → ShowsSo x l (executed (coursed x) (state_of old) s) was r new now
+shows x l old new s was now (Ok ended) stay h = record {
+  whole = h.whole;
+  erred = h.error ∙ or_false (is_some (made_in x old s).0.execution.error);
+  state = same_state x old new s stay h.kept;
+  sound = h.sound;
+}
+  where
+  same_state : (x : Fixed) (old new : Session) (s : Stmt) → OthersStay old new → kept_of new.state ≡ (made_in x old s).1 → state_of new ≡ with_kept (made_in x old s).1 (state_of old)
+  same_state x old new s stay kept =
+      ap (λ (d : Dictionary). let y : SessionState Kept = record { dictionary = dictionary_of d; sequencer = new.sequencer; sequence = option_map plain_stmt new.sequence; kept = kept_of new.state } in y) stay.dictionary
+      ∙ ap (λ (q : seq.State). let y : SessionState Kept = record { dictionary = dictionary_of old.dictionary; sequencer = q; sequence = option_map plain_stmt new.sequence; kept = kept_of new.state } in y) stay.sequencer
+      ∙ ap (λ (c : Option CodeStmt). let y : SessionState Kept = record { dictionary = dictionary_of old.dictionary; sequencer = old.sequencer; sequence = option_map plain_stmt c; kept = kept_of new.state } in y) stay.sequence
+      ∙ ap (λ (k : Kept). with_kept k (state_of old)) kept
+shows x l old new s was now (Err end) stay h = cut_in_one l (Executes (made_in x old s).0) was now h

@@ -1,0 +1,10 @@
+pub mod Folding
+pub mod Doing
+pub mod Executions
+pub mod Stepping
+pub mod Fronts
+pub mod Joining
+pub mod Lawfulness
+pub mod Beginning
+pub mod Sessions
+pub mod Refusing

@@ -1,0 +1,118 @@
+-- Plays and frame settings that are refused, which have a line alone; and those that aren't.
+use Rattle.std.proofs.Common.{◌≡◌, ℕ, ◌≤◌, ℤ, List, [], ◌∷◌, ◌++◌, Option, Bool, true, false, ◌||◌, IsTrue, Result, Ok, Err, refl, sym, ap, subst, ◌∙◌, append-nil}
+use Rattle.std.specs.Prelude.{if◌then◌else◌}
+use Rattle.dx_io.specs.Devices.{Grows, GrowsInto}
+use Rattle.dx_io.proofs.Growing.{grows_by_nothing}
+use Rattle.dx_ast.specs.declared.sequencing.FrameVar.{FrameVar}
+use Rattle.dx_getting.specs.Told.{Told, Adds, AddsSome}
+use Rattle.dx_getting.proofs.TellLaws.{adds_none}
+use Rattle.dx_sequencer.specs.Sequencer as seq
+use Rattle.dx_sequencer.specs.Sequencer.{IsPlay, IsLongPlay, at_play, is_too_long, is_refused, max_steps, play_steps}
+use Rattle.dx_sequencer.proofs.Playing.{is_long, is_short, steps_are}
+use Rattle.dx_performing.specs.Course.{Fixed}
+use Rattle.dx_performing.specs.Execution.{Export}
+use Rattle.dx_performing.specs.Kept.{Kept}
+use Rattle.dx_engine.specs.Keeping.{IsSoundState}
+use Rattle.dx_engine.specs.Executing.{Devices}
+use Rattle.dx_shown.specs.Made.{Coursed, coursed}
+use Rattle.dx_shown.specs.Session.{Done, Making, Shown, Executes, PlayTooLong, FrameRange, State, refused, silently, with_sequencer, set, played, stepped_often}
+use Rattle.dx_shown.specs.Listed.{all_exports, all_tasks, any_error}
+use Rattle.dx_making.specs.declared.end.End.{End}
+use Rattle.dx_telling.specs.Shown.{text_of, shown_texts}
+use Rattle.dx_telling.specs.declared.listings.Listings.{Listings}
+use Rattle.dx_sessions.specs.Does.{IsWhole, IsFront, IsCutShort, IsDone, DoesSo}
+use Rattle.dx_sessions.specs.SessionView.{state_of}
+use Rattle.dx_sessions.specs.declared.session.Session.{Session}
+use Rattle.dx_sessions.proofs.Folding.{none_whole, cut_in_one}
+use Rattle.dx_sessions.proofs.Doing.{silently_done}
+
+abbrev pub IsRefusal : Shown Coursed → Type 0
+IsRefusal (Executes c) = ⊥
+IsRefusal PlayTooLong = Unit {0}
+IsRefusal FrameRange = Unit {0}
+
+-- nothing but text changes
+pub record TextAlone (was now : Devices) : Type 0 where
+  pub told : now.told ≡ was.told
+  pub puts : now.puts ≡ was.puts
+
+none_told : (was now : Told) → now ≡ was → Adds was now []
+none_told was now same = subst (λ (t : Told). Adds was t []) (sym same) (adds_none was)
+
+none_put : (was now : Option (List Export)) → now ≡ was → Grows was now []
+none_put was now same = subst (λ (p : Option (List Export)). Grows was p []) (sym same) (grows_by_nothing was)
+
+some_told : (was now : Told) → now ≡ was → AddsSome was now []
+some_told was now same = let none = none_told was now same in record { front = []; rest = []; whole = refl; done = none.done; next = []; is_next = tt; asked = none.asked }
+
+-- a line
+pub line_whole : (l : Listings) (s : Shown Coursed) (was now : Devices) → IsRefusal s → Grows was.written now.written (shown_texts l (s ∷ [])) → TextAlone was now → IsWhole l (s ∷ []) was now
+line_whole l (Executes c) was now r grown alone = absurd r
+line_whole l PlayTooLong was now r grown alone = record { printed = grown; puts = none_put was.puts now.puts alone.puts; told = none_told was.told now.told alone.told }
+line_whole l FrameRange was now r grown alone = record { printed = grown; puts = none_put was.puts now.puts alone.puts; told = none_told was.told now.told alone.told }
+
+pub line_cut : (l : Listings) (s : Shown Coursed) (was now : Devices) → IsRefusal s → GrowsInto was.written now.written (shown_texts l (s ∷ [])) → TextAlone was now → IsCutShort l (s ∷ []) was now
+line_cut l (Executes c) was now r grown alone = absurd r
+line_cut l PlayTooLong was now r grown alone = cut_in_one l PlayTooLong was now (record { printed = grown; puts = ([], [], refl, none_put was.puts now.puts alone.puts); told = some_told was.told now.told alone.told })
+line_cut l FrameRange was now r grown alone = cut_in_one l FrameRange was now (record { printed = grown; puts = ([], [], refl, none_put was.puts now.puts alone.puts); told = some_told was.told now.told alone.told })
+
+-- ---- plays
+
+played_by : (make : Making Kept Coursed) (st : State Kept) (long : Bool) → is_too_long (at_play st.sequencer) ≡ long
+    → played make st ≡ (if long then refused PlayTooLong st else stepped_often make (play_steps (at_play st.sequencer)) (with_sequencer (at_play st.sequencer) st))
+played_by make st long is = ap (λ (b : Bool). if b then refused PlayTooLong st else stepped_often make (play_steps (at_play st.sequencer)) (with_sequencer (at_play st.sequencer) st)) is
+
+long_play : (make : Making Kept Coursed) (st : State Kept) → IsLongPlay (at_play st.sequencer) → played make st ≡ refused PlayTooLong st
+long_play make st long = played_by make st true (is_long (at_play st.sequencer) long)
+
+pub long_done : (x : Fixed) (l : Listings) (st : State Kept) (new : Session) (was now : Devices) → IsLongPlay (at_play st.sequencer) → state_of new ≡ st → IsSoundState x new.state
+    → Grows was.written now.written (shown_texts l (PlayTooLong ∷ [])) → TextAlone was now → IsDone x l (played (coursed x) st) was true new now
+long_done x l st new was now long same sound grown alone =
+    subst (λ (d : Done Kept Coursed). IsDone x l d was true new now) (sym (long_play (coursed x) st long))
+    (record { whole = line_whole l PlayTooLong was now tt grown alone; erred = refl; state = same; sound = sound })
+
+pub long_cut : (x : Fixed) (l : Listings) (st : State Kept) (was now : Devices) → IsLongPlay (at_play st.sequencer)
+    → GrowsInto was.written now.written (shown_texts l (PlayTooLong ∷ [])) → TextAlone was now → IsCutShort l (played (coursed x) st).shown was now
+long_cut x l st was now long grown alone =
+    subst (λ (d : Done Kept Coursed). IsCutShort l d.shown was now) (sym (long_play (coursed x) st long)) (line_cut l PlayTooLong was now tt grown alone)
+
+short_play : (make : Making Kept Coursed) (st : State Kept) (n : ℕ) → IsPlay (at_play st.sequencer) n → n ≤ max_steps → played make st ≡ stepped_often make n (with_sequencer (at_play st.sequencer) st)
+short_play make st n play few =
+    played_by make st false (is_short (at_play st.sequencer) n play few) ∙ ap (λ (m : ℕ). stepped_often make m (with_sequencer (at_play st.sequencer) st)) (steps_are (at_play st.sequencer) n play few)
+
+pub short_does : (x : Fixed) (l : Listings) (st started : State Kept) (new : Session) (n : ℕ) (was now : Devices) (r : Result Bool End)
+    → IsPlay (at_play st.sequencer) n → n ≤ max_steps → started ≡ with_sequencer (at_play st.sequencer) st
+    → DoesSo x l (stepped_often (coursed x) n started) was r new now → DoesSo x l (played (coursed x) st) was r new now
+short_does x l st started new n was now r play few same done =
+    subst (λ (d : Done Kept Coursed). DoesSo x l d was r new now) (ap (stepped_often (coursed x) n) same ∙ sym (short_play (coursed x) st n play few)) done
+
+-- ---- settings
+
+abbrev set_by : Bool → State Kept → State Kept → Done Kept Coursed
+set_by b st later = if b then refused FrameRange st else silently later
+
+set_errs : (b : Bool) (st later : State Kept) → any_error (set_by b st later).shown ≡ b
+set_errs true st later = refl
+set_errs false st later = refl
+
+set_whole : (b : Bool) (l : Listings) (st later : State Kept) (was now : Devices) → Grows was.written now.written (shown_texts l (set_by b st later).shown) → TextAlone was now → IsWhole l (set_by b st later).shown was now
+set_whole true l st later was now grown alone = line_whole l FrameRange was now tt grown alone
+set_whole false l st later was now grown alone = record { printed = grown; puts = none_put was.puts now.puts alone.puts; told = none_told was.told now.told alone.told }
+
+pub set_done_so : (x : Fixed) (l : Listings) (v : FrameVar) (n : ℤ) (st : State Kept) (new : Session) (was now : Devices) (failed : Bool)
+    → failed ≡ is_refused v n → state_of new ≡ (set {Kept} {Coursed} v n st).state → IsSoundState x new.state → Grows was.written now.written (shown_texts l (set {Kept} {Coursed} v n st).shown) → TextAlone was now
+    → IsDone x l (set v n st) was failed new now
+set_done_so x l v n st new was now failed is state sound grown alone = record {
+  whole = set_whole (is_refused v n) l st (with_sequencer (seq.with_var v n st.sequencer) st) was now grown alone;
+  erred = is ∙ sym (set_errs (is_refused v n) st (with_sequencer (seq.with_var v n st.sequencer) st));
+  state = state;
+  sound = sound;
+}
+
+set_cut_by : (b : Bool) (l : Listings) (st later : State Kept) (was now : Devices) → IsTrue b → GrowsInto was.written now.written (shown_texts l (FrameRange ∷ [])) → TextAlone was now → IsCutShort l (set_by b st later).shown was now
+set_cut_by true l st later was now is grown alone = line_cut l FrameRange was now tt grown alone
+set_cut_by false l st later was now is grown alone = absurd is
+
+pub set_cut : (l : Listings) (v : FrameVar) (n : ℤ) (st : State Kept) (was now : Devices) → IsTrue (is_refused v n) → GrowsInto was.written now.written (shown_texts l (FrameRange ∷ [])) → TextAlone was now
+    → IsCutShort l (set {Kept} {Coursed} v n st).shown was now
+set_cut l v n st was now is grown alone = set_cut_by (is_refused v n) l st (with_sequencer (seq.with_var v n st.sequencer) st) was now is grown alone

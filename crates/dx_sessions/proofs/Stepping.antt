@@ -1,0 +1,66 @@
+-- So many steps one after the other.
+use Rattle.std.proofs.Common.{◌≡◌, ℕ, zero, suc, ◌+◌, ◌<◌, ◌-◌, List, [], ◌++◌, Bool, ◌||◌, Result, Ok, Err, refl, sym, ap, subst, ◌∙◌, append_assoc, append-nil, arith}
+use Rattle.dx_performing.specs.Course.{Fixed}
+use Rattle.dx_performing.specs.Kept.{Kept}
+use Rattle.dx_engine.specs.Executing.{Devices}
+use Rattle.dx_shown.specs.Made.{Coursed, coursed}
+use Rattle.dx_shown.specs.Session.{Done, Making, Shown, State, and_then, silently, stepped, stepped_often}
+use Rattle.dx_shown.specs.Listed.{any_error}
+use Rattle.dx_making.specs.declared.end.End.{End}
+use Rattle.dx_telling.specs.declared.listings.Listings.{Listings}
+use Rattle.dx_sessions.specs.Does.{IsWhole, IsCutShort, IsDone, DoesSo}
+use Rattle.dx_sessions.specs.SessionView.{state_of}
+use Rattle.dx_sessions.specs.declared.session.Session.{Session}
+use Rattle.dx_sessions.proofs.Doing.{done_on, cut_behind}
+use Rattle.dx_sessions.proofs.Folding.{cut_with_more}
+
+-- ---- one step more
+
+abbrev behind : {K X : Type 0} → List (Shown X) → Done K X → Done K X
+behind shown d = record { shown = shown ++ d.shown; state = d.state }
+
+behind_twice : {K X : Type 0} (a b : List (Shown X)) (d : Done K X) → behind a (behind b d) ≡ behind (a ++ b) d
+behind_twice a b d = ap (λ shown. record { shown = shown; state = d.state }) (sym (append_assoc a b d.shown))
+
+pub one_more : {K X : Type 0} (make : Making K X) (n : ℕ) (st : State K) → stepped_often make (suc n) st ≡ and_then (stepped_often make n st) (stepped make)
+one_more make zero st = ap (λ shown. record { shown = shown; state = (stepped make st).state }) (append-nil (stepped make st).shown)
+one_more make (suc n) st =
+    let first = stepped make st in
+    let others = stepped_often make n first.state in
+    ap (behind first.shown) (one_more make n first.state) ∙ behind_twice first.shown others.shown (stepped make others.state)
+
+-- what fewer steps show comes first in what more show
+pub fewer : {K X : Type 0} (make : Making K X) (st : State K) (n left all : ℕ) → n + left ≡ all → (rest : List (Shown X)) × ((stepped_often make all st).shown ≡ (stepped_often make n st).shown ++ rest)
+fewer make st n zero all e =
+    let same : all ≡ n = omega arith in
+    ([], ap (λ (m : ℕ). (stepped_often make m st).shown) same ∙ sym (append-nil (stepped_often make n st).shown))
+fewer {K} {X} make st n (suc left) all e =
+    let before = fewer make st n left (n + left) refl in
+    let last = (stepped make (stepped_often make (n + left) st).state).shown in
+    let same : all ≡ suc (n + left) = omega arith in (
+      before.0 ++ last,
+      ap (λ (m : ℕ). (stepped_often make m st).shown) same ∙ ap (λ (d : Done K X). d.shown) (one_more make (n + left) st) ∙ ap (λ (xs : List (Shown X)). xs ++ last) before.1
+      ∙ append_assoc (stepped_often make n st).shown before.0 last,
+    )
+
+-- ---- on the devices
+
+-- so many steps were made, and then one more
+pub step_more : (x : Fixed) (l : Listings) (n : ℕ) (old : State Kept) (mid new : Session) (was between now : Devices) (erred failed : Bool)
+    → IsDone x l (stepped_often (coursed x) n old) was erred mid between → IsDone x l (stepped (coursed x) (state_of mid)) between failed new now
+    → IsDone x l (stepped_often (coursed x) (suc n) old) was (erred || failed) new now
+step_more x l n old mid new was between now erred failed first next =
+    subst (λ (d : Done Kept Coursed). IsDone x l d was (erred || failed) new now) (sym (one_more (coursed x) n old))
+    (done_on x l (stepped_often (coursed x) n old) (stepped (coursed x)) mid new was between now erred failed first next)
+
+-- one of them was cut short
+pub step_cut : (x : Fixed) (l : Listings) (n all : ℕ) (old : State Kept) (mid : Session) (was between now : Devices) (erred : Bool) → n < all
+    → IsDone x l (stepped_often (coursed x) n old) was erred mid between → IsCutShort l (stepped (coursed x) (state_of mid)).shown between now
+    → IsCutShort l (stepped_often (coursed x) all old).shown was now
+step_cut x l n all old mid was between now erred lt first cut =
+    let one : IsCutShort l (stepped_often (coursed x) (suc n) old).shown was now =
+    subst (λ (d : Done Kept Coursed). IsCutShort l d.shown was now) (sym (one_more (coursed x) n old))
+    (cut_behind x l (stepped_often (coursed x) n old) (stepped (coursed x)) mid was between now erred first cut) in
+    let left : suc n + (all - suc n) ≡ all = omega arith in
+    let more = fewer (coursed x) old (suc n) (all - suc n) all left in
+    subst (λ (shown : List (Shown Coursed)). IsCutShort l shown was now) (sym more.1) (cut_with_more l (stepped_often (coursed x) (suc n) old).shown more.0 was now one)

@@ -1,0 +1,33 @@
+use Rattle.std.proofs.Common.{◌≡◌, ◌≤◌, Some, length}
+use Rattle.std.specs.Vec.Iter.{into_iter_items, into_iter_len}
+use Rattle.dx_ast.specs.Lawful.{AreLawful}
+use Rattle.dx_ast.specs.Plain.{plain_stmts}
+use Rattle.dx_io.specs.Devices.{FileMap}
+use Rattle.dx_looking.specs.Setting.{fixed}
+use Rattle.dx_performing.specs.Kept.{new as none_kept}
+use Rattle.dx_engine.specs.Keeping.{StateFits}
+use Rattle.dx_shown.specs.Made.{coursed}
+use Rattle.dx_shown.specs.Session.{initial, statements}
+use Rattle.dx_sessions.specs.Does.{devices}
+use Rattle.dx_sessions.specs.SessionView.{state_of}
+use Rattle.dx_sessions.proofs.Sessions.{SoFar}
+use Rattle.dx_sessions.proofs.performing.perform.Given as goal
+
+abbrev pub invariant-loop-statement : goal.invariant-loop-statement
+invariant-loop-statement g l = record {
+  can : (goal.iterator-loop-statement g).can_next l.statement-iterator;
+  finite : (goal.iterator-loop-statement g).is_finite l.statement-iterator;
+  len : into_iter_len l.statement-iterator ≡ length (into_iter_items l.statement-iterator);
+  lawful : AreLawful (plain_stmts (into_iter_items l.statement-iterator));
+  fits : StateFits l.session.state;
+  listings : l.session.listings ≡ l.fn.listings;
+  same : g.F.Files.content l.files ≡ g.F.Files.content l.initial.files;
+  reads : g.F.Files.faults l.initial.files ≤ g.F.Files.faults l.files;
+  puts : g.X.Exports.faults l.initial.exports ≤ g.X.Exports.faults l.exports;
+  writes : g.O.Sink.faults l.initial.out ≤ g.O.Sink.faults l.out;
+  so_far : (map : FileMap) → g.F.Files.content l.initial.files ≡ Some map →
+      SoFar (fixed g.L.Library.answer map l.fn.budget) l.fn.listings (statements (coursed (fixed g.L.Library.answer map l.fn.budget)) (initial none_kept) (plain_stmts l.fn.statements))
+      (statements (coursed (fixed g.L.Library.answer map l.fn.budget)) (state_of l.session) (plain_stmts (into_iter_items l.statement-iterator)))
+      (devices (g.L.Library.done l.initial.lib) (g.F.Files.asked l.initial.files) (g.O.Sink.written l.initial.out) (g.X.Exports.puts l.initial.exports)) l.erred l.session
+      (devices (g.L.Library.done l.lib) (g.F.Files.asked l.files) (g.O.Sink.written l.out) (g.X.Exports.puts l.exports));
+}

@@ -1,0 +1,100 @@
+-- What a call did of what is to be shown: all of it, or as much as was done before it was cut short.
+use Rattle.std.specs.Prelude.{◌≡◌, ℕ, ◌≤◌, ℤ, length, List, [], ◌∷◌, ◌++◌, Option, Some, Result, Ok, Err, Bool, IsTrue}
+use Rattle.dx_ast.specs.declared.sequencing.FrameVar.{FrameVar}
+use Rattle.dx_ast.specs.Syntax.{Stmt, Assigns}
+use Rattle.dx_io.specs.declared.fails.SinkFail.{SinkFail}
+use Rattle.dx_io.specs.Devices.{FileMap as InputFiles, Grows, GrowsInto}
+use Rattle.dx_objects.specs.Runs.{Ran}
+use Rattle.dx_getting.specs.Stands.{Answers}
+use Rattle.dx_getting.specs.Told.{Adds, AddsSome, told}
+use Rattle.dx_performing.specs.Course.{Fixed}
+use Rattle.dx_performing.specs.Execution.{Export}
+use Rattle.dx_performing.specs.Kept.{Kept}
+use Rattle.dx_engine.specs.Keeping.{IsSoundState}
+use Rattle.dx_engine.specs.Executing.{Devices}
+use Rattle.dx_engine.specs.declared.state.State.{State}
+use Rattle.dx_shown.specs.Made.{Coursed}
+use Rattle.dx_shown.specs.Listed.{all_exports, all_tasks, any_error}
+use Rattle.dx_sequencer.specs.Sequencer.{is_refused}
+use Rattle.dx_shown.specs.Session.{Shown, FrameRange, Done, State as SessionState, with_assignment, set}
+use Rattle.dx_making.specs.declared.end.End.{End}
+use Rattle.dx_telling.specs.Shown.{shown_texts}
+use Rattle.dx_telling.specs.declared.listings.Listings.{Listings}
+use Rattle.dx_sessions.specs.Ended.{is_error}
+use Rattle.dx_sessions.specs.SessionView.{state_of}
+use Rattle.dx_sessions.specs.declared.ended.Ended.{Ended}
+use Rattle.dx_sessions.specs.declared.session.Session.{Session}
+
+-- what is told of the devices
+abbrev pub devices : Option (List Ran) → Option (List (List ℕ)) → Option (List ℕ) → Option (List Export) → Devices
+devices done asked written puts = record { told = told done asked; written = written; puts = puts }
+
+-- for files that tell their content, what modules answer, and a sound state
+abbrev pub OverSound : Answers → Option InputFiles → State → (Fixed → Type 0) → Type 0
+OverSound answer content st P = (x : Fixed) → x.answer ≡ answer → content ≡ Some x.file → IsSoundState x st → P x
+
+-- all of it was printed, put and told
+pub record IsWhole (listings : Listings) (shown : List (Shown Coursed)) (was now : Devices) : Type 0 where
+  pub printed : Grows was.written now.written (shown_texts listings shown)
+  pub puts : Grows was.puts now.puts (all_exports shown)
+  pub told : Adds was.told now.told (all_tasks shown)
+
+-- a front of it was printed, a front put, and a front told
+pub record IsFront (listings : Listings) (shown : List (Shown Coursed)) (was now : Devices) : Type 0 where
+  pub printed : GrowsInto was.written now.written (shown_texts listings shown)
+  pub puts : GrowsInto was.puts now.puts (all_exports shown)
+  pub told : AddsSome was.told now.told (all_tasks shown)
+
+-- so much was shown whole, and a front of what comes next, if anything does
+pub record IsCutShort (listings : Listings) (shown : List (Shown Coursed)) (was now : Devices) : Type 0 where
+  pub before : List (Shown Coursed)
+  pub next : List (Shown Coursed)
+  pub rest : List (Shown Coursed)
+  pub all : shown ≡ before ++ (next ++ rest)
+  pub few : length next ≤ 1
+  pub between : Devices
+  pub whole : IsWhole listings before was between
+  pub front : IsFront listings next between now
+
+-- all of it was done, and the state behind it is sound again
+pub record IsDone (x : Fixed) (listings : Listings) (done : Done Kept Coursed) (was : Devices) (erred : Bool) (new : Session) (now : Devices) : Type 0 where
+  pub whole : IsWhole listings done.shown was now
+  pub erred : erred ≡ any_error done.shown
+  pub state : state_of new ≡ done.state
+  pub sound : IsSoundState x new.state
+
+abbrev pub DoesSo : Fixed → Listings → Done Kept Coursed → Devices → Result Bool End → Session → Devices → Type 0
+DoesSo x listings done was (Ok erred) new now = IsDone x listings done was erred new now
+DoesSo x listings done was (Err end) new now = IsCutShort listings done.shown was now
+
+-- the same of an execution
+abbrev pub ShowsSo : Fixed → Listings → Done Kept Coursed → Devices → Result Ended End → Session → Devices → Type 0
+ShowsSo x listings done was (Ok ended) new now = IsDone x listings done was (is_error ended) new now
+ShowsSo x listings done was (Err end) new now = IsCutShort listings done.shown was now
+
+-- macros, definitions, the sequencer and the sequence call are as before
+pub record OthersStay (old new : Session) : Type 0 where
+  pub dictionary : new.dictionary ≡ old.dictionary
+  pub sequencer : new.sequencer ≡ old.sequencer
+  pub sequence : new.sequence ≡ old.sequence
+  pub listings : new.listings ≡ old.listings
+
+-- where an assignment has joined
+abbrev pub joining : Stmt → SessionState Kept → SessionState Kept
+joining (Assigns targets e) st = with_assignment targets e st
+joining other st = st
+
+abbrev pub set_done : FrameVar → ℤ → Session → Done Kept Coursed
+set_done v n old = set v n (state_of old)
+
+-- a variable of the sequencer is set, or the line of a delta that is refused is printed, or a front of it
+abbrev pub SetsSo : FrameVar → ℤ → Session → Session → Option (List ℕ) → Option (List ℕ) → Result Bool SinkFail → Type 0
+SetsSo v n old new was now (Ok refused) =
+    (refused ≡ is_refused v n) × (new.state ≡ old.state) × (new.listings ≡ old.listings)
+    × (state_of new ≡ (set_done v n old).state) × Grows was now (shown_texts old.listings (set_done v n old).shown)
+SetsSo v n old new was now (Err fail) = IsTrue (is_refused v n) × (new.listings ≡ old.listings) × GrowsInto was now (shown_texts old.listings (FrameRange ∷ []))
+
+-- the same of a whole session, of which no state is left
+abbrev pub PerformsSo : Listings → List (Shown Coursed) → Devices → Result Bool End → Devices → Type 0
+PerformsSo listings shown was (Ok erred) now = IsWhole listings shown was now × (erred ≡ any_error shown)
+PerformsSo listings shown was (Err end) now = IsCutShort listings shown was now

@@ -1,0 +1,16 @@
+-- What the code says of how an execution ended.
+use Rattle.std.specs.Prelude.{Bool, true, false}
+use Rattle.dx_sessions.specs.declared.ended.Ended.{Ended}
+use Rattle.dx_sessions.specs.declared.ended.Ended.TheVariants.{Whole, Refused, Faulty}
+
+-- an error line was due
+abbrev pub is_error : Ended → Bool
+is_error Whole = false
+is_error Refused = true
+is_error Faulty = true
+
+-- the statement has a static fault
+abbrev pub is_faulty : Ended → Bool
+is_faulty Whole = false
+is_faulty Refused = false
+is_faulty Faulty = true

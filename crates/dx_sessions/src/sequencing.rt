@@ -1,0 +1,175 @@
+//! The words of the sequencer: steps and plays, which execute the sequence call, and the others.
+ghost use Rattle.std.specs.Prelude.{◌≡◌, OnOk};
+ghost use Rattle.dx_io.specs.Devices.{Cause};
+ghost use Rattle.dx_engine.specs.Keeping.{StateFits};
+ghost use Rattle.dx_shown.specs.Made.{coursed};
+ghost use Rattle.dx_shown.specs.Session as spec;
+ghost use Rattle.dx_making.specs.declared.end.End.TheVariants.{ReadFault, WriteFault, ExportFault};
+ghost use Rattle.dx_sessions.specs.Does.{DoesSo, OverSound, devices};
+ghost use Rattle.dx_sessions.specs.Switches.{Switches};
+
+use crate::executing::execute;
+use crate::session::Session;
+use dx_ast::Word;
+use dx_io::{Exports, Files, Sink, write_all};
+use dx_making::End;
+use dx_objects::Library;
+use dx_sequencer::Step;
+use dx_telling::play_too_long;
+use std::alloc::Global;
+
+impl Session {
+    ghost use Rattle.dx_sessions.specs.SessionView.{state_of};
+
+    /// Does what a word of the sequencer says.
+    pub(crate) fn tell<F: Files, X: Exports, O: Sink, L: Library>(
+        &mut self,
+        alloc: Global,
+        w: Word,
+        files: &mut F,
+        exports: &mut X,
+        out: &mut O,
+        lib: &mut L,
+    ) -> Result<bool, End>
+        requires fits { StateFits self.old.state }
+        ensures same { F.content files.new ≡ F.content files.old }
+        ensures listings { self.new.listings ≡ self.old.listings }
+        ensures read_cause { Cause ReadFault (F.faults files.old) (F.faults files.new) result }
+        ensures write_cause { Cause WriteFault (O.faults out.old) (O.faults out.new) result }
+        ensures export_cause { Cause ExportFault (X.faults exports.old) (X.faults exports.new) result }
+        ensures fits { OnOk result (StateFits self.new.state) }
+        ensures does { OverSound L.answer (F.content files.old) self.old.state (λ x. DoesSo x self.old.listings (spec.told (coursed x) w (state_of self.old)) (devices (L.done lib.old) (F.asked files.old) (O.written out.old) (X.puts exports.old)) result self.new (devices (L.done lib.new) (F.asked files.new) (O.written out.new) (X.puts exports.new))) }
+    {
+        match w {
+            Word::Play => self.play(alloc, files, exports, out, lib),
+            Word::Step => self.step(alloc, files, exports, out, lib),
+            _ => {
+                self.switch(w);
+                Ok(false)
+            }
+        }
+    }
+
+    // Does what a word says that executes nothing.
+    fn switch(&mut self, w: Word)
+        ensures switches { Switches w (state_of self.old) (state_of self.new) }
+        ensures state { self.new.state ≡ self.old.state }
+        ensures listings { self.new.listings ≡ self.old.listings }
+    {
+        match w {
+            Word::Play | Word::Step => {}
+            Word::Stop => self.sequencer.stop(),
+            Word::Forward => self.sequencer.forward(),
+            Word::Backward => self.sequencer.backward(),
+            Word::LoopOn => self.sequencer.set_loop(true),
+            Word::LoopOff => self.sequencer.set_loop(false),
+            Word::PalindromeOn => self.sequencer.set_palindrome(true),
+            Word::PalindromeOff => self.sequencer.set_palindrome(false),
+        }
+    }
+
+    // Makes a step, which executes the sequence call where it has a frame.
+    fn step<F: Files, X: Exports, O: Sink, L: Library>(
+        &mut self,
+        alloc: Global,
+        files: &mut F,
+        exports: &mut X,
+        out: &mut O,
+        lib: &mut L,
+    ) -> Result<bool, End>
+        requires fits { StateFits self.old.state }
+        ensures same { F.content files.new ≡ F.content files.old }
+        ensures listings { self.new.listings ≡ self.old.listings }
+        ensures read_cause { Cause ReadFault (F.faults files.old) (F.faults files.new) result }
+        ensures write_cause { Cause WriteFault (O.faults out.old) (O.faults out.new) result }
+        ensures export_cause { Cause ExportFault (X.faults exports.old) (X.faults exports.new) result }
+        ensures fits { OnOk result (StateFits self.new.state) }
+        ensures does { OverSound L.answer (F.content files.old) self.old.state (λ x. DoesSo x self.old.listings (spec.stepped (coursed x) (state_of self.old)) (devices (L.done lib.old) (F.asked files.old) (O.written out.old) (X.puts exports.old)) result self.new (devices (L.done lib.new) (F.asked files.new) (O.written out.new) (X.puts exports.new))) }
+    {
+        match self.sequencer.step() {
+            Step::Ended => Ok(false),
+            Step::Frame(_) => self.execute_sequence(alloc, files, exports, out, lib),
+        }
+    }
+
+    // Executes the sequence call, if there is one, as if it stood at this place.
+    fn execute_sequence<F: Files, X: Exports, O: Sink, L: Library>(
+        &mut self,
+        alloc: Global,
+        files: &mut F,
+        exports: &mut X,
+        out: &mut O,
+        lib: &mut L,
+    ) -> Result<bool, End>
+        requires fits { StateFits self.old.state }
+        ensures same { F.content files.new ≡ F.content files.old }
+        ensures listings { self.new.listings ≡ self.old.listings }
+        ensures read_cause { Cause ReadFault (F.faults files.old) (F.faults files.new) result }
+        ensures write_cause { Cause WriteFault (O.faults out.old) (O.faults out.new) result }
+        ensures export_cause { Cause ExportFault (X.faults exports.old) (X.faults exports.new) result }
+        ensures fits { OnOk result (StateFits self.new.state) }
+        ensures does { OverSound L.answer (F.content files.old) self.old.state (λ x. DoesSo x self.old.listings (spec.sequence_executed (coursed x) (state_of self.old).sequence (state_of self.old)) (devices (L.done lib.old) (F.asked files.old) (O.written out.old) (X.puts exports.old)) result self.new (devices (L.done lib.new) (F.asked files.new) (O.written out.new) (X.puts exports.new))) }
+    {
+        let frames = self.sequencer.frames();
+        match &self.sequence {
+            None => Ok(false),
+            Some(s) => match execute(alloc, &self.dictionary, &frames, s, self.listings, &mut self.state, files, exports, out, lib) {
+                Ok(ended) => Ok(ended.is_error()),
+                Err(end) => Err(end),
+            },
+        }
+    }
+
+    // Makes a step for each frame up to the last inside, or prints the line of a play of too many steps.
+    fn play<F: Files, X: Exports, O: Sink, L: Library>(
+        &mut self,
+        alloc: Global,
+        files: &mut F,
+        exports: &mut X,
+        out: &mut O,
+        lib: &mut L,
+    ) -> Result<bool, End>
+        requires fits { StateFits self.old.state }
+        ensures same { F.content files.new ≡ F.content files.old }
+        ensures listings { self.new.listings ≡ self.old.listings }
+        ensures read_cause { Cause ReadFault (F.faults files.old) (F.faults files.new) result }
+        ensures write_cause { Cause WriteFault (O.faults out.old) (O.faults out.new) result }
+        ensures export_cause { Cause ExportFault (X.faults exports.old) (X.faults exports.new) result }
+        ensures fits { OnOk result (StateFits self.new.state) }
+        ensures does { OverSound L.answer (F.content files.old) self.old.state (λ x. DoesSo x self.old.listings (spec.played (coursed x) (state_of self.old)) (devices (L.done lib.old) (F.asked files.old) (O.written out.old) (X.puts exports.old)) result self.new (devices (L.done lib.new) (F.asked files.new) (O.written out.new) (X.puts exports.new))) }
+    {
+        match self.sequencer.begin_play() {
+            None => match write_all(out, play_too_long()) {
+                Ok(()) => Ok(true),
+                Err(fail) => Err(End::from(fail)),
+            },
+            Some(steps) => self.step_often(alloc, steps, files, exports, out, lib),
+        }
+    }
+
+    // Makes so many steps. One whose execution fails doesn't end them.
+    fn step_often<F: Files, X: Exports, O: Sink, L: Library>(
+        &mut self,
+        alloc: Global,
+        steps: u32,
+        files: &mut F,
+        exports: &mut X,
+        out: &mut O,
+        lib: &mut L,
+    ) -> Result<bool, End>
+        requires fits { StateFits self.old.state }
+        ensures same { F.content files.new ≡ F.content files.old }
+        ensures listings { self.new.listings ≡ self.old.listings }
+        ensures read_cause { Cause ReadFault (F.faults files.old) (F.faults files.new) result }
+        ensures write_cause { Cause WriteFault (O.faults out.old) (O.faults out.new) result }
+        ensures export_cause { Cause ExportFault (X.faults exports.old) (X.faults exports.new) result }
+        ensures fits { OnOk result (StateFits self.new.state) }
+        ensures does { OverSound L.answer (F.content files.old) self.old.state (λ x. DoesSo x self.old.listings (spec.stepped_often (coursed x) steps (state_of self.old)) (devices (L.done lib.old) (F.asked files.old) (O.written out.old) (X.puts exports.old)) result self.new (devices (L.done lib.new) (F.asked files.new) (O.written out.new) (X.puts exports.new))) }
+    {
+        let mut erred = false;
+        for _ in 0..steps {
+            erred |= self.step(alloc, files, exports, out, lib)?;
+        }
+        Ok(erred)
+    }
+}

@@ -1,4 +1,0 @@
-pub mod Folding
-pub mod Lawfulness
-pub mod Plays
-pub mod Stepping

@@ -1,0 +1,4 @@
+pub mod LinkTexts
+pub mod Telling
+pub mod Texts
+pub mod Made

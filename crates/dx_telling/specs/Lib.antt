@@ -1,0 +1,4 @@
+pub mod Behind
+pub mod Shown
+pub mod Tells
+pub mod AtHand
