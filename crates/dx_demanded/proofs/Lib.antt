@@ -9,12 +9,15 @@ pub mod Halted
 pub mod HaltsGot
 pub mod HaltsStay
 pub mod Kept
+pub mod Last
+pub mod LastUses
 pub mod NamesReady
 pub mod Parts
 pub mod Performed
 pub mod Picks
 pub mod Places
 pub mod Ready
+pub mod Refused
 pub mod Seeing
 pub mod Sound
 pub mod Trees

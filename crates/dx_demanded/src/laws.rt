@@ -2,6 +2,7 @@
 ghost use Rattle.dx_demanded.specs.Ended.{EffectsEndAsMeant};
 ghost use Rattle.dx_demanded.specs.Found.{ErrorsAreFound, FirstIsOfAll, GettingsFind};
 ghost use Rattle.dx_demanded.specs.Halted.{HaltedGettingsFind, HaltsAreFound};
+ghost use Rattle.dx_demanded.specs.Last.{ArgumentsStopLast, TermsStopLast};
 ghost use Rattle.dx_demanded.specs.Ordered.{ExecutionsInOrder, SelectorsInOrder, TermsInOrder};
 ghost use Rattle.dx_demanded.specs.Used.{RunsAreDemanded, TermsUseDemand};
 
@@ -29,6 +30,14 @@ pub fn errors_are_found()
     ensures trees { ErrorsAreFound }
     ensures getting { GettingsFind }
     ensures arguments { FirstIsOfAll }
+{}
+
+/// Where a tree or all arguments of an effect together come to an error, getting their terms in any sound state, whatever it keeps
+/// and knows, is refused with the error's code, and its last run is that of the last use in their data, which stands at the
+/// error's site; where they have values, it runs to its end.
+pub fn refusals_run_last()
+    ensures trees { TermsStopLast }
+    ensures arguments { ArgumentsStopLast }
 {}
 
 /// Where an execution ends as a selector is refused, getting the selector's term where nothing is kept refuses a call with the
