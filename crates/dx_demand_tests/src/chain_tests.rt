@@ -1,7 +1,7 @@
 //! Chains of many nodes, each of which takes the one before.
 
-use crate::rows::nothing;
 use crate::looking::count_terms;
+use crate::rows::nothing;
 use crate::script::graph_of;
 use crate::told::Tell;
 use dx_tags::Tags;

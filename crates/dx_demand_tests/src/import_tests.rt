@@ -2,8 +2,8 @@
 
 ghost use Rattle.std.specs.Prelude.{◌≡◌, [], IfOk};
 
-use crate::rows::{Row, first_miss, is_so};
 use crate::looking::Before;
+use crate::rows::{Row, first_miss, is_so};
 use crate::told::Tell;
 use dx_base::Bytes;
 use dx_links::Links;

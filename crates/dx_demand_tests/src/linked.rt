@@ -101,20 +101,12 @@ fn key(alloc: Global, path: Option<&str>, name: &str) -> Result<Key, AllocError>
     let name = Bytes::copy_of(alloc, name.as_bytes())?;
     match path {
         None => Ok(Key::Global(name)),
-        Some(path) => Ok(Key::Local(
-            Bytes::copy_of(alloc, path.as_bytes())?,
-            name,
-        )),
+        Some(path) => Ok(Key::Local(Bytes::copy_of(alloc, path.as_bytes())?, name)),
     }
 }
 
 /// A link whose value is held.
-fn link_held(
-    alloc: Global,
-    links: &mut Links,
-    tags: &mut Tags,
-    key: Key,
-) -> Result<(), AllocError>
+fn link_held(alloc: Global, links: &mut Links, tags: &mut Tags, key: Key) -> Result<(), AllocError>
     requires { AreLinked tags.old links.old.links }
     ensures { OnOk result (AreLinked tags.new links.new.links) }
 {
@@ -124,12 +116,7 @@ fn link_held(
 }
 
 /// A link whose value is a result of a call.
-fn link_call(
-    alloc: Global,
-    links: &mut Links,
-    tags: &mut Tags,
-    key: Key,
-) -> Result<(), AllocError>
+fn link_call(alloc: Global, links: &mut Links, tags: &mut Tags, key: Key) -> Result<(), AllocError>
     requires { AreLinked tags.old links.old.links }
     ensures { OnOk result (AreLinked tags.new links.new.links) }
 {

@@ -56,7 +56,16 @@ fn look_once(
     ensures seen { OnOk result (SeenFits (graph_of g.now).nodes tags.new seen.new) }
     ensures valued { IfOk result (λ r. ResolvedValued (answers_of seen.new.memo) i.now r) }
 {
-    let resolved = resolve(alloc, g, i, &before.links, &before.written, tags, seen, told)?;
+    let resolved = resolve(
+        alloc,
+        g,
+        i,
+        &before.links,
+        &before.written,
+        tags,
+        seen,
+        told,
+    )?;
     put_resolved(alloc, g, resolved, out)?;
     tell_next(alloc, resolved, told, tells)?;
     Ok(resolved)
@@ -208,7 +217,17 @@ pub fn count_terms(
     if let Some(i) = last_inputs(g).first() {
         let mut seen = Seen::new(alloc, g)?;
         let mut told = Told::new(alloc);
-        look(alloc, g, i, before, tags, &mut seen, &mut told, &[tell], &mut out)?;
+        look(
+            alloc,
+            g,
+            i,
+            before,
+            tags,
+            &mut seen,
+            &mut told,
+            &[tell],
+            &mut out,
+        )?;
     }
     Ok(tags.count())
 }

@@ -30,12 +30,7 @@ fn show(
 }
 
 /// Whether the row is what a call comes to with these links and files.
-pub fn is_so(
-    alloc: Global,
-    row: Row,
-    before: &Before,
-    tags: &mut Tags,
-) -> Result<bool, AllocError>
+pub fn is_so(alloc: Global, row: Row, before: &Before, tags: &mut Tags) -> Result<bool, AllocError>
     requires linked { AreLinked tags.old before.now.links.links }
 {
     let mut out = Vec::new(alloc);
