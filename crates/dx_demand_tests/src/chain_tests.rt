@@ -8,8 +8,8 @@ use dx_tags::Tags;
 use std::alloc::{AllocError, Global};
 use std::test::Fail;
 
-// How many definitions a chain has.
-const LONG: u32 = 20_000;
+// How many definitions a chain has. Built, the three take less than a second, but `rt try` may take longer than it allows.
+const LONG: u32 = 60_000;
 
 /// How many terms looking at a chain of definitions forms, each selector being told the same.
 #[tactic(auto, using(crate::proofs::Linking::linked_none, crate::proofs::Linking::exact_none))]
@@ -27,7 +27,7 @@ fn terms_of(alloc: Global, definition: &str, tell: Tell) -> Result<u64, AllocErr
 #[test]
 fn long_chains(rt: HostRuntime) -> Result<(), Fail> {
     // A text, NULL and the calls.
-    assert!(rt; terms_of(rt.alloc(), "x = Compute(\"a\", x);", Tell::Null)? == 20_002);
+    assert!(rt; terms_of(rt.alloc(), "x = Compute(\"a\", x);", Tell::Null)? == 60_002);
     // The number and NULL.
     assert!(rt; terms_of(rt.alloc(), "x = Switch(1, x);", Tell::Number(1))? == 2);
     assert!(rt; terms_of(rt.alloc(), "x = Switch(x, 1);", Tell::Null)? == 1);

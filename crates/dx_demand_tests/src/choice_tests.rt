@@ -122,7 +122,7 @@ fn one_result_of_a_route_is_open(rt: HostRuntime) -> Result<(), Fail> {
     Ok(())
 }
 
-const ORDER: [Row; 4] = [
+const ORDER: [Row; 6] = [
     // Nothing of the data is needed, whatever it would come to: that an argument is off is seen first.
     (
         "bad = Compute(\"1 / 0\"); p, q = Route(2, 1);",
@@ -143,6 +143,19 @@ const ORDER: [Row; 4] = [
         "Echo(Collect(Switch(\"x\", 1), p));",
         &[Tell::Text("x")],
         "need 0 of Switch:1; halt Switch:1 | \"x\"",
+    ),
+    // The name of an Import is control: its value is needed before an argument behind it is looked at.
+    (
+        "bad = Compute(\"1 / 0\"); p, q = Route(2, 1);",
+        "Echo(Collect(Import(bad), p));",
+        &[],
+        "need 1 of Import:1;  | \"1 / 0\" | Compute 0 by bad/Compute:1",
+    ),
+    (
+        "bad = Compute(\"1 / 0\"); p, q = Route(2, 1);",
+        "Echo(Collect(p, Import(bad)));",
+        &[Tell::Number(2)],
+        "need 0 of p/Route:1; off | 2",
     ),
     // And one that is off before a selector behind it.
     (

@@ -8,7 +8,7 @@ use dx_tags::{Tags, Written};
 use std::alloc::{AllocError, Global};
 use std::test::Fail;
 
-const GETS: [Row; 6] = [
+const GETS: [Row; 7] = [
     // A global link, one under no macro, and one under the macro that leads to the call.
     (
         "",
@@ -34,6 +34,12 @@ const GETS: [Row; 6] = [
         "Echo(y);",
         &[Tell::Text("k")],
         "need 7 of y/w:1/m:1/GetLocal:1; value 8 | \"k\" | 5",
+    ),
+    (
+        "",
+        "Echo(GetGlobal(5, \"z\"));",
+        &[Tell::Text("z")],
+        "need 7 of GetGlobal:1; value 8 | \"z\" | 5",
     ),
     (
         "",
