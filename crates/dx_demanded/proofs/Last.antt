@@ -26,7 +26,7 @@ use Rattle.dx_demanded.proofs.Refused.{IsRunOf, RefusesLast, get_refuses, all_re
 use Rattle.dx_demanded.proofs.Trees.{tree_needs, all_need}
 
 -- a call has one run
-same_run : (a : Around) (c : CallTerm) (r q : Ran) → IsRunOf a c r → IsRunOf a c q → r ≡ q
+pub same_run : (a : Around) (c : CallTerm) (r q : Ran) → IsRunOf a c r → IsRunOf a c q → r ≡ q
 same_run a (CallOf m ts) r q h k = let same : r.1 ≡ q.1 = cc in ap₂ (λ called values. (called, values)) (h.0 ∙ sym k.0) same
 
 -- where there is a value or an error

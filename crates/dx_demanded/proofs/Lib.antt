@@ -7,9 +7,11 @@ pub mod Found
 pub mod Got
 pub mod Halted
 pub mod HaltsGot
+pub mod HaltsLast
 pub mod HaltsStay
 pub mod Kept
 pub mod Last
+pub mod LastControl
 pub mod LastUses
 pub mod NamesReady
 pub mod Parts

@@ -2,7 +2,7 @@
 ghost use Rattle.dx_demanded.specs.Ended.{EffectsEndAsMeant};
 ghost use Rattle.dx_demanded.specs.Found.{ErrorsAreFound, FirstIsOfAll, GettingsFind};
 ghost use Rattle.dx_demanded.specs.Halted.{HaltedGettingsFind, HaltsAreFound};
-ghost use Rattle.dx_demanded.specs.Last.{ArgumentsStopLast, TermsStopLast};
+ghost use Rattle.dx_demanded.specs.Last.{ArgumentsStopLast, SelectorsStopLast, TermsStopLast};
 ghost use Rattle.dx_demanded.specs.Ordered.{ArgumentsInOrder, ExecutionsInOrder, SelectorsInOrder, TermsInOrder};
 ghost use Rattle.dx_demanded.specs.Used.{RunsAreDemanded, TermsUseDemand};
 
@@ -35,10 +35,12 @@ pub fn errors_are_found()
 
 /// Where a tree or all arguments of an effect together come to an error, getting their terms in any sound state, whatever it keeps
 /// and knows, is refused with the error's code, and its last run is that of the last use in their data, which stands at the
-/// error's site; where they have values, it runs to its end.
+/// error's site; where they have values, it runs to its end. Where a selector of an effect is refused, the last run is that of the last
+/// use of its control, at the site where it halts.
 pub fn refusals_run_last()
     ensures trees { TermsStopLast }
     ensures arguments { ArgumentsStopLast }
+    ensures selectors { SelectorsStopLast }
 {}
 
 /// Where an execution ends as a selector is refused, getting the selector's term where nothing is kept refuses a call with the
