@@ -194,6 +194,12 @@ module _ (w : World) (n : Names) (s : Sight) (links : List ValueTerm) (l : AreLi
   by_all_order (ErrAt site code) its us ts x st i m f g = let r = f ts m in all_order_ran its us ts st i r (g r)
   by_all_order (Val vs) its us ts x st i m f g = let r = f ts m in all_order_ran its us ts st i r (g r)
 
+  pub named_all_ran : (ts : Trees) (st : State) → IsSound a budget st → AreReady k st (all_names (names_each s ts)) → AllRan k (together (outcomes w ts)).decided (together (outcomes w ts)).data_uses (terms_of w n ts) st
+  named_all_ran ts st i r =
+      let its = all_names (names_each s ts) in
+      by_all_order (together (outcomes w ts)).decided its (together (outcomes w ts)).data_uses (terms_of w n ts) (all_scanned (scan_each s ts)) st i (all_means w n s l.denote full ts) (λ vs e. r)
+      (λ q. all_order w n s (links ++ its) (links_with w n k its st refl l i q) full ts (own_needs_nothing its))
+
   pub all_data_ran : (ts : Trees) (st : State) → IsSound a budget st → AreReady k st (all_selectors (scan_each s ts) (selectors_each s ts)) → AllRan k (together (outcomes w ts)).decided (together (outcomes w ts)).data_uses (terms_of w n ts) st
   all_data_ran ts st i r =
       let its = all_names (names_each s ts) in

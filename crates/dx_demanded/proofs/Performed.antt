@@ -16,7 +16,7 @@ use Rattle.dx_machine.proofs.Grows.{tasks-append}
 use Rattle.dx_machine.proofs.Keeping.{getting_all_keeps}
 use Rattle.dx_meaning.specs.Outcome.{Value, Use, Decided, Val, ErrAt, Off, HaltAt, demand}
 use Rattle.dx_meaning.specs.Meaning.{World, outcome, outcomes, together}
-use Rattle.dx_meaning.specs.Scan.{Scanned, Forms, Ends, scan}
+use Rattle.dx_meaning.specs.Scan.{Scanned, Forms, Ends, scan, scan_each, all_scanned}
 use Rattle.dx_meaning.specs.Forming.{after}
 use Rattle.dx_meaning.specs.Term.{Names, around, term_of, terms_of}
 use Rattle.dx_performing.specs.Acts.{Act, Prints, Puts, Sets, Refuses, act, is_refusal}
@@ -29,9 +29,9 @@ use Rattle.dx_performing.specs.SoundEntries.{AreLawfulCalls}
 use Rattle.dx_performing.proofs.EntriesSound.{StandsSound}
 use Rattle.dx_performing.proofs.Executed.{names_of, full, denote}
 use Rattle.dx_performing.proofs.Meant.{tree_means, all_means, effect_comes}
-use Rattle.dx_demanded.specs.Ordered.{asked, RanPart, AreReady, SelectorsInOrder, TermsInOrder, ExecutionsInOrder, names}
+use Rattle.dx_demanded.specs.Ordered.{asked, RanPart, AreReady, SelectorsInOrder, TermsInOrder, ArgumentsInOrder, ExecutionsInOrder, names}
 use Rattle.dx_demanded.specs.Used.{IsUsed, AreUsed, RunsAreDemanded}
-use Rattle.dx_demanded.proofs.ControlOrder.{GetsData, frame, AllRan, selectors_got, all_got, named_gets, all_data_ran}
+use Rattle.dx_demanded.proofs.ControlOrder.{GetsData, frame, AllRan, selectors_got, all_got, named_gets, named_all_ran, all_data_ran}
 use Rattle.dx_demanded.proofs.Kept.{terms_in, are_links}
 use Rattle.dx_demanded.proofs.Parts.{asked_append, ran_none, ran_then, then_ran}
 use Rattle.dx_demanded.proofs.Ready.{all_got_ready}
@@ -58,6 +58,22 @@ terms_in_order x k formed t u s r f h e ready =
     let l = are_links x k r in
     data_ran (around_of x k) (frame_with x k formed) (outcome w t).decided (names sight t) (outcome w t).data_uses (term_of w n t) u (scan sight t) s (tree_means w n sight l.denote (full x k) t) e h ready
     (named_gets w n sight (terms_in k.links) l (full x k) formed f x.budget t)
+
+all_ran : (a : Around) (k : Frame) (d : Decided Values) (us : List Use) (ts vs : ValueTerms) (x : Scanned ValueTerms) (s : State) → Means a d ts x → x ≡ Forms vs → AllRan k d us ts s → RanPart s (asked us) (state_at (get_all k vs s))
+all_ran a k Off us ts vs x s m e g = cc
+all_ran a k (HaltAt site code) us ts vs x s m e g = absurd (subst (IsHalted a site code) e m)
+all_ran a k (ErrAt site code) us ts vs x s m e g = let same : ts ≡ vs = cc in subst (λ y. RanPart s (asked us) (state_at (get_all k y s))) same g
+all_ran a k (Val values) us ts vs x s m e g = let same : ts ≡ vs = cc in subst (λ y. RanPart s (asked us) (state_at (get_all k y s))) same g
+
+pub arguments_in_order : ArgumentsInOrder
+arguments_in_order x k formed args ts s r f h e ready =
+    let w = world_of x k in
+    let n = names_of k in
+    let sight = sight_of x k in
+    let l = are_links x k r in
+    let o = together (outcomes w args) in
+    all_ran (around_of x k) (frame_with x k formed) o.decided o.data_uses (terms_of w n args) ts (all_scanned (scan_each sight args)) s (all_means w n sight l.denote (full x k) args) e
+    (named_all_ran w n sight (terms_in k.links) l (full x k) formed f x.budget args s h ready)
 
 -- ---- an effect
 

@@ -1,5 +1,6 @@
 pub mod Ended
 pub mod Found
 pub mod Halted
+pub mod Last
 pub mod Ordered
 pub mod Used

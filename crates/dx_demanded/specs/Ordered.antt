@@ -6,14 +6,14 @@ use Rattle.dx_base.specs.declared.function.Module.{Module}
 use Rattle.dx_base.specs.declared.function.Module.TheVariants as computing
 use Rattle.dx_macros.specs.Tree.{Place, Tree, ConstantTree, ResultTree, CallTree, TreeCall, Trees, NoTree, AndTree}
 use Rattle.dx_objects.specs.Runs.{Ran}
-use Rattle.dx_tags.specs.Closed.{ValueTerm}
+use Rattle.dx_tags.specs.Closed.{ValueTerm, ValueTerms}
 use Rattle.dx_cache.specs.Cached.{IsPartOf}
 use Rattle.dx_machine.specs.Machine.{Task, FormedCall, Frame, State, state_at, tasks_of, runs_in, runs_of, get, get_all}
 use Rattle.dx_machine.specs.Sound.{HaveAttributes, IsSound}
 use Rattle.dx_meaning.specs.Outcome.{Value, Use}
 use Rattle.dx_meaning.specs.Picking.{pick, selector_at}
-use Rattle.dx_meaning.specs.Meaning.{outcome}
-use Rattle.dx_meaning.specs.Scan.{Sight, Scanned, Forms, Ends, scanned_at, terms_in, scan, scan_each}
+use Rattle.dx_meaning.specs.Meaning.{outcome, outcomes, together}
+use Rattle.dx_meaning.specs.Scan.{Sight, Scanned, Forms, Ends, scanned_at, all_scanned, terms_in, scan, scan_each}
 use Rattle.dx_performing.specs.Execution.{execution}
 use Rattle.dx_performing.specs.Kept.{Kept}
 use Rattle.dx_performing.specs.Course.{Fixed, around_of, world_of, sight_of, frame_with, begins, as_terms, executed}
@@ -90,6 +90,11 @@ SelectorsInOrder = (x : Fixed) (k : Kept) (formed : List FormedCall) (t : Tree) 
 abbrev pub TermsInOrder : Type 0
 TermsInOrder = (x : Fixed) (k : Kept) (formed : List FormedCall) (t : Tree) (u : ValueTerm) (s : State) → LinksRight (around_of x k) k.links → HaveAttributes formed → IsSound (around_of x k) x.budget s → scan (sight_of x k) t ≡ Forms u →
     AreReady (frame_with x k formed) s (names (sight_of x k) t) → RanPart s (asked (outcome (world_of x k) t).data_uses) (state_at (get (frame_with x k formed) u s))
+
+-- and those of all arguments of an effect together
+abbrev pub ArgumentsInOrder : Type 0
+ArgumentsInOrder = (x : Fixed) (k : Kept) (formed : List FormedCall) (args : Trees) (ts : ValueTerms) (s : State) → LinksRight (around_of x k) k.links → HaveAttributes formed → IsSound (around_of x k) x.budget s → all_scanned (scan_each (sight_of x k) args) ≡ Forms ts →
+    AreReady (frame_with x k formed) s (all_names (names_each (sight_of x k) args)) → RanPart s (asked (together (outcomes (world_of x k) args)).data_uses) (state_at (get_all (frame_with x k formed) ts s))
 
 -- the runs of an execution are some of the uses that it demands, in their order
 abbrev pub ExecutionsInOrder : Type 0

@@ -2,7 +2,8 @@
 ghost use Rattle.dx_demanded.specs.Ended.{EffectsEndAsMeant};
 ghost use Rattle.dx_demanded.specs.Found.{ErrorsAreFound, FirstIsOfAll, GettingsFind};
 ghost use Rattle.dx_demanded.specs.Halted.{HaltedGettingsFind, HaltsAreFound};
-ghost use Rattle.dx_demanded.specs.Ordered.{ExecutionsInOrder, SelectorsInOrder, TermsInOrder};
+ghost use Rattle.dx_demanded.specs.Last.{ArgumentsStopLast, SelectorsStopLast, TermsStopLast};
+ghost use Rattle.dx_demanded.specs.Ordered.{ArgumentsInOrder, ExecutionsInOrder, SelectorsInOrder, TermsInOrder};
 ghost use Rattle.dx_demanded.specs.Used.{RunsAreDemanded, TermsUseDemand};
 
 /// Each module that an execution runs is one that its meaning demands, on the same inputs; and so is each that the term of a
@@ -13,11 +14,12 @@ pub fn runs_are_demanded()
 {}
 
 /// They come in the order in which the meaning demands them. In any sound state getting the selectors of a tree runs some of its
-/// uses of control in their order; where the names of Imports are ready, getting the tree's term runs some of its uses of data in
-/// their order; and so an execution runs some of all the uses that it demands.
+/// uses of control in their order; where the names of Imports are ready, getting the tree's term, or those of all arguments of an
+/// effect, runs some of the uses of data in their order; and so an execution runs some of all the uses that it demands.
 pub fn runs_come_in_order()
     ensures selectors { SelectorsInOrder }
     ensures terms { TermsInOrder }
+    ensures arguments { ArgumentsInOrder }
     ensures executions { ExecutionsInOrder }
 {}
 
@@ -29,6 +31,16 @@ pub fn errors_are_found()
     ensures trees { ErrorsAreFound }
     ensures getting { GettingsFind }
     ensures arguments { FirstIsOfAll }
+{}
+
+/// Where a tree or all arguments of an effect together come to an error, getting their terms in any sound state, whatever it keeps
+/// and knows, is refused with the error's code, and its last run is that of the last use in their data, which stands at the
+/// error's site; where they have values, it runs to its end. Where a selector of an effect is refused, the last run is that of the last
+/// use of its control, at the site where it halts.
+pub fn refusals_run_last()
+    ensures trees { TermsStopLast }
+    ensures arguments { ArgumentsStopLast }
+    ensures selectors { SelectorsStopLast }
 {}
 
 /// Where an execution ends as a selector is refused, getting the selector's term where nothing is kept refuses a call with the
