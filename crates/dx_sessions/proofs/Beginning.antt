@@ -1,6 +1,6 @@
 -- What is kept when a session begins is sound.
-use Rattle.std.proofs.Common.{◌≡◌, ◌≤◌, ℕ, List, [], ◌∷◌, map, refl, sym, ap, subst, ◌∙◌}
-use Rattle.dx_cache.specs.Cached.{Entry}
+use Rattle.std.proofs.Common.{◌≡◌, ◌≤◌, ℕ, List, [], ◌∷◌, map, refl, sym, ap, subst, ◌∙◌, arith}
+use Rattle.dx_cache.specs.declared.entry.Entry.{Entry}
 use Rattle.dx_tags.specs.Closed.{heads_of}
 use Rattle.dx_machine.specs.Machine.{Cached}
 use Rattle.dx_machine.specs.Sound.{IsSound}

@@ -138,10 +138,10 @@ shows x l old new s was now (Ok ended) stay h = record {
   sound = h.sound;
 }
   where
-  same_state : (x : Fixed) (old new : Session) (s : Stmt) → OthersStay old new → kept_of new.state ≡ (made_in x old s).1 → state_of new ≡ with_kept (made_in x old s).1 (state_of old)
-  same_state x old new s stay kept =
-      ap (λ (d : Dictionary). let y : SessionState Kept = record { dictionary = dictionary_of d; sequencer = new.sequencer; sequence = option_map plain_stmt new.sequence; kept = kept_of new.state } in y) stay.dictionary
-      ∙ ap (λ (q : seq.State). let y : SessionState Kept = record { dictionary = dictionary_of old.dictionary; sequencer = q; sequence = option_map plain_stmt new.sequence; kept = kept_of new.state } in y) stay.sequencer
-      ∙ ap (λ (c : Option CodeStmt). let y : SessionState Kept = record { dictionary = dictionary_of old.dictionary; sequencer = old.sequencer; sequence = option_map plain_stmt c; kept = kept_of new.state } in y) stay.sequence
-      ∙ ap (λ (k : Kept). with_kept k (state_of old)) kept
+    same_state : (x : Fixed) (old new : Session) (s : Stmt) → OthersStay old new → kept_of new.state ≡ (made_in x old s).1 → state_of new ≡ with_kept (made_in x old s).1 (state_of old)
+    same_state x old new s stay kept =
+        ap (λ (d : Dictionary). let y : SessionState Kept = record { dictionary = dictionary_of d; sequencer = new.sequencer; sequence = option_map plain_stmt new.sequence; kept = kept_of new.state } in y) stay.dictionary
+        ∙ ap (λ (q : seq.State). let y : SessionState Kept = record { dictionary = dictionary_of old.dictionary; sequencer = q; sequence = option_map plain_stmt new.sequence; kept = kept_of new.state } in y) stay.sequencer
+        ∙ ap (λ (c : Option CodeStmt). let y : SessionState Kept = record { dictionary = dictionary_of old.dictionary; sequencer = old.sequencer; sequence = option_map plain_stmt c; kept = kept_of new.state } in y) stay.sequence
+        ∙ ap (λ (k : Kept). with_kept k (state_of old)) kept
 shows x l old new s was now (Err end) stay h = cut_in_one l (Executes (made_in x old s).0) was now h

@@ -1,5 +1,5 @@
 -- What is shown one behind the other, on the devices.
-use Rattle.std.proofs.Common.{◌≡◌, ℕ, zero, suc, ◌≤◌, length, List, [], ◌∷◌, ◌++◌, Option, Some, None, Bool, true, false, ◌||◌, refl, sym, ap, subst, ◌∙◌, append_assoc, append-nil}
+use Rattle.std.proofs.Common.{◌≡◌, ℕ, zero, suc, ◌≤◌, length, List, [], ◌∷◌, ◌++◌, Option, Some, None, Bool, true, false, ◌||◌, refl, sym, ap, subst, ◌∙◌, append_assoc, append-nil, arith}
 use Rattle.dx_io.specs.Devices.{Grows, GrowsInto}
 use Rattle.dx_io.proofs.Growing.{grows_by_nothing, grows_on, grows_on_into}
 use Rattle.dx_machine.specs.Machine.{Task, runs_in, reads_in, tasks_of}
@@ -73,18 +73,18 @@ cut_at_once l shown was = record {
   next = [];
   rest = shown;
   all = refl;
-  few = tt;
+  few = omega arith;
   between = was;
   whole = none_whole l was;
   front = front_of_none l was;
 }
   where
-  front_of_none : (l : Listings) (was : Devices) → IsFront l [] was was
-  front_of_none l was = record {
-    printed = ([], [], refl, grows_by_nothing was.written);
-    puts = ([], [], refl, grows_by_nothing was.puts);
-    told = record { front = []; rest = []; whole = refl; done = (adds_none was.told).done; next = []; is_next = tt; asked = (adds_none was.told).asked };
-  }
+    front_of_none : (l : Listings) (was : Devices) → IsFront l [] was was
+    front_of_none l was = record {
+      printed = ([], [], refl, grows_by_nothing was.written);
+      puts = ([], [], refl, grows_by_nothing was.puts);
+      told = record { front = []; rest = []; whole = refl; done = (adds_none was.told).done; next = []; is_next = tt; asked = (adds_none was.told).asked };
+    }
 
 pub cut_in_one : (l : Listings) (s : Shown Coursed) (was now : Devices) → IsFront l (s ∷ []) was now → IsCutShort l (s ∷ []) was now
 cut_in_one l s was now front = record {
@@ -92,7 +92,7 @@ cut_in_one l s was now front = record {
   next = s ∷ [];
   rest = [];
   all = refl;
-  few = tt;
+  few = omega arith;
   between = was;
   whole = none_whole l was;
   front = front;

@@ -3,7 +3,10 @@ pub mod Doing
 pub mod Executions
 pub mod Stepping
 pub mod Fronts
+pub mod Causes
 pub mod Joining
+pub mod Statements
+pub mod Switching
 pub mod Lawfulness
 pub mod Beginning
 pub mod Sessions

@@ -1,11 +1,13 @@
 -- Plays and frame settings that are refused, which have a line alone; and those that aren't.
-use Rattle.std.proofs.Common.{◌≡◌, ℕ, ◌≤◌, ℤ, List, [], ◌∷◌, ◌++◌, Option, Bool, true, false, ◌||◌, IsTrue, Result, Ok, Err, refl, sym, ap, subst, ◌∙◌, append-nil}
+use Rattle.std.proofs.Common.{◌≡◌, ℕ, ◌≤◌, ℤ, List, [], ◌∷◌, ◌++◌, Option, Bool, true, false, ◌||◌, Result, Ok, Err, refl, sym, ap, subst, ◌∙◌, append-nil}
 use Rattle.std.specs.Prelude.{if◌then◌else◌}
+use Rattle.dx_io.specs.declared.fails.SinkFail.{SinkFail}
 use Rattle.dx_io.specs.Devices.{Grows, GrowsInto}
 use Rattle.dx_io.proofs.Growing.{grows_by_nothing}
 use Rattle.dx_ast.specs.declared.sequencing.FrameVar.{FrameVar}
 use Rattle.dx_getting.specs.Told.{Told, Adds, AddsSome}
 use Rattle.dx_getting.proofs.TellLaws.{adds_none}
+use Rattle.dx_sequencer.specs.declared.sequencer.FrameRange.{FrameRange as RangeError}
 use Rattle.dx_sequencer.specs.Sequencer as seq
 use Rattle.dx_sequencer.specs.Sequencer.{IsPlay, IsLongPlay, at_play, is_too_long, is_refused, max_steps, play_steps}
 use Rattle.dx_sequencer.proofs.Playing.{is_long, is_short, steps_are}
@@ -18,9 +20,9 @@ use Rattle.dx_shown.specs.Made.{Coursed, coursed}
 use Rattle.dx_shown.specs.Session.{Done, Making, Shown, Executes, PlayTooLong, FrameRange, State, refused, silently, with_sequencer, set, played, stepped_often}
 use Rattle.dx_shown.specs.Listed.{all_exports, all_tasks, any_error}
 use Rattle.dx_making.specs.declared.end.End.{End}
-use Rattle.dx_telling.specs.Shown.{text_of, shown_texts}
+use Rattle.dx_telling.specs.Shown.{frame_range, text_of, shown_texts}
 use Rattle.dx_telling.specs.declared.listings.Listings.{Listings}
-use Rattle.dx_sessions.specs.Does.{IsWhole, IsFront, IsCutShort, IsDone, DoesSo}
+use Rattle.dx_sessions.specs.Does.{IsWhole, IsFront, IsCutShort, IsDone, DoesSo, SetsSo}
 use Rattle.dx_sessions.specs.SessionView.{state_of}
 use Rattle.dx_sessions.specs.declared.session.Session.{Session}
 use Rattle.dx_sessions.proofs.Folding.{none_whole, cut_in_one}
@@ -100,7 +102,7 @@ set_whole true l st later was now grown alone = line_whole l FrameRange was now 
 set_whole false l st later was now grown alone = record { printed = grown; puts = none_put was.puts now.puts alone.puts; told = none_told was.told now.told alone.told }
 
 pub set_done_so : (x : Fixed) (l : Listings) (v : FrameVar) (n : ℤ) (st : State Kept) (new : Session) (was now : Devices) (failed : Bool)
-    → failed ≡ is_refused v n → state_of new ≡ (set {Kept} {Coursed} v n st).state → IsSoundState x new.state → Grows was.written now.written (shown_texts l (set {Kept} {Coursed} v n st).shown) → TextAlone was now
+    → failed ≡ is_refused v n → state_of new ≡ (set {K = Kept} {X = Coursed} v n st).state → IsSoundState x new.state → Grows was.written now.written (shown_texts l (set {K = Kept} {X = Coursed} v n st).shown) → TextAlone was now
     → IsDone x l (set v n st) was failed new now
 set_done_so x l v n st new was now failed is state sound grown alone = record {
   whole = set_whole (is_refused v n) l st (with_sequencer (seq.with_var v n st.sequencer) st) was now grown alone;
@@ -109,10 +111,41 @@ set_done_so x l v n st new was now failed is state sound grown alone = record {
   sound = sound;
 }
 
-set_cut_by : (b : Bool) (l : Listings) (st later : State Kept) (was now : Devices) → IsTrue b → GrowsInto was.written now.written (shown_texts l (FrameRange ∷ [])) → TextAlone was now → IsCutShort l (set_by b st later).shown was now
-set_cut_by true l st later was now is grown alone = line_cut l FrameRange was now tt grown alone
-set_cut_by false l st later was now is grown alone = absurd is
+pub set_cut : (l : Listings) (v : FrameVar) (n : ℤ) (st : State Kept) (was now : Devices) → is_refused v n ≡ true → GrowsInto was.written now.written (shown_texts l (FrameRange ∷ [])) → TextAlone was now
+    → IsCutShort l (set {K = Kept} {X = Coursed} v n st).shown was now
+set_cut l v n st was now is grown alone =
+    subst (λ (b : Bool). IsCutShort l (set_by b st (with_sequencer (seq.with_var v n st.sequencer) st)).shown was now) (sym is) (line_cut l FrameRange was now tt grown alone)
 
-pub set_cut : (l : Listings) (v : FrameVar) (n : ℤ) (st : State Kept) (was now : Devices) → IsTrue (is_refused v n) → GrowsInto was.written now.written (shown_texts l (FrameRange ∷ [])) → TextAlone was now
-    → IsCutShort l (set {Kept} {Coursed} v n st).shown was now
-set_cut l v n st was now is grown alone = set_cut_by (is_refused v n) l st (with_sequencer (seq.with_var v n st.sequencer) st) was now is grown alone
+abbrev SettingResult : Type 0
+SettingResult = Result (Unit {0}) RangeError
+
+abbrev setting_result : Bool → SettingResult
+setting_result b = if b then Err (record {}) else Ok tt
+
+abbrev IsErrThen : SettingResult → Bool → Type 0
+IsErrThen (Ok u) b = Unit {0}
+IsErrThen (Err f) b = b ≡ true
+
+by_result : (b : Bool) → IsErrThen (setting_result b) b
+by_result true = refl
+by_result false = tt
+
+pub err_refused : (b : Bool) (r : SettingResult) (f : RangeError) → r ≡ Err f → r ≡ setting_result b → b ≡ true
+err_refused b r f err is = subst (λ (q : SettingResult). IsErrThen q b) (sym is ∙ err) (by_result b)
+
+-- a setting that was cut short
+pub set_cut_from : (v : FrameVar) (n : ℤ) (old new : Session) (was now : Devices) (fail : SinkFail) → SetsSo v n old new was.written now.written (Err fail) → TextAlone was now
+    → IsCutShort old.listings (set {K = Kept} {X = Coursed} v n (state_of old)).shown was now
+set_cut_from v n old new was now fail (refused, listings, grown) alone = set_cut old.listings v n (state_of old) was now refused grown alone
+
+-- a setting that is refused leaves the sequencer, and its line is shown
+pub refused_sets : (l : Listings) (v : FrameVar) (n : ℤ) (st : State Kept) (s : seq.State) (was now : Option (List ℕ)) → is_refused v n ≡ true
+    → s ≡ (if is_refused v n then st.sequencer else seq.with_var v n st.sequencer) → Grows was now frame_range
+    → (true ≡ is_refused v n) × (with_sequencer s st ≡ (set {K = Kept} {X = Coursed} v n st).state) × Grows was now (shown_texts l (set {K = Kept} {X = Coursed} v n st).shown)
+refused_sets l v n st s was now is same grown =
+    let later : State Kept = with_sequencer (seq.with_var v n st.sequencer) st in
+    let stays : s ≡ st.sequencer = same ∙ ap (λ (b : Bool). if b then st.sequencer else seq.with_var v n st.sequencer) is in (
+      sym is,
+      ap (λ (q : seq.State). with_sequencer q st) stays ∙ ap (λ (b : Bool). (set_by b st later).state) (sym is),
+      subst (λ (b : Bool). Grows was now (shown_texts l (set_by b st later).shown)) (sym is) (subst (Grows was now) (sym (append-nil frame_range)) grown),
+    )

@@ -40,7 +40,7 @@ fewer {K} {X} make st n (suc left) all e =
     let same : all ≡ suc (n + left) = omega arith in (
       before.0 ++ last,
       ap (λ (m : ℕ). (stepped_often make m st).shown) same ∙ ap (λ (d : Done K X). d.shown) (one_more make (n + left) st) ∙ ap (λ (xs : List (Shown X)). xs ++ last) before.1
-      ∙ append_assoc (stepped_often make n st).shown before.0 last,
+          ∙ append_assoc (stepped_often make n st).shown before.0 last,
     )
 
 -- ---- on the devices

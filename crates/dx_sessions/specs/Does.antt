@@ -1,5 +1,5 @@
 -- What a call did of what is to be shown: all of it, or as much as was done before it was cut short.
-use Rattle.std.specs.Prelude.{◌≡◌, ℕ, ◌≤◌, ℤ, length, List, [], ◌∷◌, ◌++◌, Option, Some, Result, Ok, Err, Bool, IsTrue}
+use Rattle.std.specs.Prelude.{◌≡◌, ℕ, ◌≤◌, ℤ, length, List, [], ◌∷◌, ◌++◌, Option, Some, Result, Ok, Err, Bool, true}
 use Rattle.dx_ast.specs.declared.sequencing.FrameVar.{FrameVar}
 use Rattle.dx_ast.specs.Syntax.{Stmt, Assigns}
 use Rattle.dx_io.specs.declared.fails.SinkFail.{SinkFail}
@@ -57,9 +57,9 @@ pub record IsCutShort (listings : Listings) (shown : List (Shown Coursed)) (was 
   pub front : IsFront listings next between now
 
 -- all of it was done, and the state behind it is sound again
-pub record IsDone (x : Fixed) (listings : Listings) (done : Done Kept Coursed) (was : Devices) (erred : Bool) (new : Session) (now : Devices) : Type 0 where
+pub record IsDone (x : Fixed) (listings : Listings) (done : Done Kept Coursed) (was : Devices) (failed : Bool) (new : Session) (now : Devices) : Type 0 where
   pub whole : IsWhole listings done.shown was now
-  pub erred : erred ≡ any_error done.shown
+  pub erred : failed ≡ any_error done.shown
   pub state : state_of new ≡ done.state
   pub sound : IsSoundState x new.state
 
@@ -92,7 +92,7 @@ abbrev pub SetsSo : FrameVar → ℤ → Session → Session → Option (List �
 SetsSo v n old new was now (Ok refused) =
     (refused ≡ is_refused v n) × (new.state ≡ old.state) × (new.listings ≡ old.listings)
     × (state_of new ≡ (set_done v n old).state) × Grows was now (shown_texts old.listings (set_done v n old).shown)
-SetsSo v n old new was now (Err fail) = IsTrue (is_refused v n) × (new.listings ≡ old.listings) × GrowsInto was now (shown_texts old.listings (FrameRange ∷ []))
+SetsSo v n old new was now (Err fail) = (is_refused v n ≡ true) × (new.listings ≡ old.listings) × GrowsInto was now (shown_texts old.listings (FrameRange ∷ []))
 
 -- the same of a whole session, of which no state is left
 abbrev pub PerformsSo : Listings → List (Shown Coursed) → Devices → Result Bool End → Devices → Type 0

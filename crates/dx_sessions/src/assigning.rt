@@ -71,9 +71,10 @@ impl Session {
         self.dictionary.reserve()?;
         let s = Stmt::Assign(a);
         let ended = self.execute(alloc, &s, files, exports, out, lib)?;
-        if !ended.is_faulty() {
-            self.join(s)?;
+        if ended.is_faulty() {
+            return Ok(ended.is_error());
         }
+        self.join(s)?;
         Ok(ended.is_error())
     }
 

@@ -68,7 +68,14 @@ fn tell_behind<O: Sink>(
     ensures cause { WriteCause (O.faults out.old) (O.faults out.new) result }
 {
     let mut text = Vec::new(alloc);
-    push_behind(alloc, &mut text, listings, failing, state.events(), state.links())?;
+    push_behind(
+        alloc,
+        &mut text,
+        listings,
+        failing,
+        state.events(),
+        state.links(),
+    )?;
     write_all(out, &text)
 }
 
@@ -97,7 +104,18 @@ impl Session {
         ensures does { OverSound L.answer (F.content files.old) self.old.state (λ x. ShowsSo x self.old.listings (spec.executed (coursed x) (state_of self.old) (plain_stmt s.now)) (devices (L.done lib.old) (F.asked files.old) (O.written out.old) (X.puts exports.old)) result self.new (devices (L.done lib.new) (F.asked files.new) (O.written out.new) (X.puts exports.new))) }
     {
         let frames = self.sequencer.frames();
-        execute(alloc, &self.dictionary, &frames, s, self.listings, &mut self.state, files, exports, out, lib)
+        execute(
+            alloc,
+            &self.dictionary,
+            &frames,
+            s,
+            self.listings,
+            &mut self.state,
+            files,
+            exports,
+            out,
+            lib,
+        )
     }
 
     /// Executes a statement, and answers whether an error line was due.

@@ -9,6 +9,7 @@ mod performing;
 mod sequencing;
 mod session;
 mod setting;
+mod statement;
 
 pub use dx_making::End;
 pub use dx_telling::Listings;

@@ -113,7 +113,18 @@ impl Session {
         let frames = self.sequencer.frames();
         match &self.sequence {
             None => Ok(false),
-            Some(s) => match execute(alloc, &self.dictionary, &frames, s, self.listings, &mut self.state, files, exports, out, lib) {
+            Some(s) => match execute(
+                alloc,
+                &self.dictionary,
+                &frames,
+                s,
+                self.listings,
+                &mut self.state,
+                files,
+                exports,
+                out,
+                lib,
+            ) {
                 Ok(ended) => Ok(ended.is_error()),
                 Err(end) => Err(end),
             },

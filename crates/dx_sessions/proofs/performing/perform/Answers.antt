@@ -1,8 +1,9 @@
-use Rattle.std.proofs.Common.{rules, refl, ◌≡◌, ◌∷◌, Some, length, sym, ap, subst, ◌∙◌, arith}
+use Rattle.std.proofs.Common.{rules, refl, false, ◌≡◌, ◌∷◌, Some, Ok, Err, Result, Bool, List, length, sym, ap, subst, ◌∙◌, arith}
 use Rattle.std.proofs.lemmas.Result.{err_from_is_err_and}
 use Rattle.std.specs.Vec.Iter.{into_iter_items}
+use Rattle.dx_ast.specs.declared.statements.Stmt.{Stmt}
 use Rattle.dx_ast.specs.Plain.{plain_stmt, plain_stmts}
-use Rattle.dx_io.specs.Devices.{FileMap}
+use Rattle.dx_io.specs.Devices.{Cause, FileMap}
 use Rattle.dx_looking.specs.Setting.{fixed}
 use Rattle.dx_performing.specs.Course.{Fixed}
 use Rattle.dx_performing.specs.Kept.{Kept, new as none_kept}
@@ -14,24 +15,38 @@ use Rattle.dx_telling.specs.declared.listings.Listings.{Listings}
 use Rattle.dx_sessions.specs.Does.{IsCutShort, IsDone, DoesSo, OverSound, devices}
 use Rattle.dx_sessions.specs.SessionView.{state_of}
 use Rattle.dx_sessions.specs.declared.session.Session.{Session}
+use Rattle.dx_making.specs.declared.end.End.{End}
+use Rattle.dx_making.specs.declared.end.End.TheVariants.{ReadFault, WriteFault, ExportFault}
+use Rattle.dx_sessions.proofs.Causes.{cause_after}
 use Rattle.dx_sessions.proofs.Beginning.{begins_sound}
 use Rattle.dx_sessions.proofs.Sessions.{SoFar, begins, goes_on, is_cut, is_done, lawful_head, lawful_tail, next_statement, no_statement, nothing_left}
 use Rattle.dx_sessions.proofs.performing.perform.Goals as goal
 
 pub loop-statement-init : goal.loop-statement-init
-loop-statement-init g c = record {
-  can = tt;
-  finite = tt;
-  len = search rules;
-  lawful = search rules;
-  fits = c.new.ensures.fits;
-  listings = c.new.ensures.listings;
-  same = refl;
-  reads = omega arith;
-  puts = omega arith;
-  writes = omega arith;
-  so_far = λ map files. ?;
-}
+loop-statement-init g c =
+    let items : into_iter_items c.into_iter-statement-iterator.result ≡ c.args.statements = search rules in
+    record {
+      can = tt;
+      finite = tt;
+      len = search rules;
+      lawful = search rules;
+      fits = c.new-session.ensures.fits;
+      listings = c.new-session.ensures.listings;
+      same = refl;
+      reads = omega arith;
+      puts = omega arith;
+      writes = omega arith;
+      so_far = λ map files.
+          let x = fixed g.L.Library.answer map c.args.budget in
+          let was = devices (g.L.Library.done c.args.lib.now) (g.F.Files.asked c.args.files.now) (g.O.Sink.written c.args.out.now) (g.X.Exports.puts c.args.exports.now) in
+          let whole = statements (coursed x) (initial none_kept) (plain_stmts c.args.statements) in
+          let same : whole ≡ statements (coursed x) (state_of c.new-session.result) (plain_stmts (into_iter_items c.into_iter-statement-iterator.result)) =
+          ap (λ (ss : List Stmt). statements (coursed x) (initial none_kept) (plain_stmts ss)) (sym items)
+          ∙ ap (λ (st : State Kept). statements (coursed x) st (plain_stmts (into_iter_items c.into_iter-statement-iterator.result))) (sym c.new-session.ensures.state) in
+          subst (λ (rest : Done Kept Coursed). SoFar x c.args.listings whole rest was false c.new-session.result was) same
+          (begins x c.args.listings whole was c.new-session.result
+          (begins_sound x c.new-session.result.state (ap (λ (st : State Kept). st.kept) c.new-session.ensures.state) (sym c.new-session.ensures.budget)));
+    }
 
 pub loop-statement-preserved : goal.loop-statement-preserved
 loop-statement-preserved g c =
@@ -50,5 +65,60 @@ loop-statement-preserved g c =
       reads = omega (arith, at.invariant.reads, done.read_cause.later);
       puts = omega (arith, at.invariant.puts, done.export_cause.later);
       writes = omega (arith, at.invariant.writes, done.write_cause.later);
-      so_far = λ map files. ?;
+      so_far = λ map files.
+          let x = fixed g.L.Library.answer map c.args.budget in
+          let was = devices (g.L.Library.done c.args.lib.now) (g.F.Files.asked c.args.files.now) (g.O.Sink.written c.args.out.now) (g.X.Exports.puts c.args.exports.now) in
+          let mid = devices (g.L.Library.done at.lib) (g.F.Files.asked at.files) (g.O.Sink.written at.out) (g.X.Exports.puts at.exports) in
+          let now = devices (g.L.Library.done c.statement.new.lib) (g.F.Files.asked c.statement.new.files) (g.O.Sink.written c.statement.new.out) (g.X.Exports.puts c.statement.new.exports) in
+          let so_far = at.invariant.so_far map files in
+          let one = statement (coursed x) (state_of at.session) (plain_stmt c.in-Some.statement) in
+          goes_on x c.args.listings (statements (coursed x) (initial none_kept) (plain_stmts c.args.statements)) (statements (coursed x) (state_of at.session) (plain_stmts (into_iter_items at.statement-iterator))) one
+          (λ (next : State Kept). statements (coursed x) next (plain_stmts rest)) at.erred c.in_ok-erred.field-0 at.session c.statement.new.self was mid now
+          (next_statement (coursed x) (state_of at.session) (into_iter_items at.statement-iterator) c.in-Some.statement rest steps)
+          (subst (λ (l : Listings). IsDone x l one mid c.in_ok-erred.field-0 c.statement.new.self now) at.invariant.listings (done.does x refl (at.invariant.same ∙ files) so_far.sound))
+          so_far;
     }
+
+pub returns-in_err-erred-clause-read_cause : goal.returns-in_err-erred-clause-read_cause
+returns-in_err-erred-clause-read_cause g c =
+    let p = err_from_is_err_and c.from_residual.result c.from_residual.ensures.1 in
+    subst (λ (r : Result Bool End). Cause ReadFault (g.F.Files.faults c.args.files.now) (g.F.Files.faults c.statement.new.files) r) (sym p.1) (cause_after ReadFault (g.F.Files.faults c.args.files.now) (g.F.Files.faults c.loop-statement.files) (g.F.Files.faults c.statement.new.files) (Err p.0) c.loop-statement.invariant.reads (subst (λ (e : End). Cause ReadFault (g.F.Files.faults c.loop-statement.files) (g.F.Files.faults c.statement.new.files) (Err e)) (sym p.2) c.in_err-erred.ensures.read_cause))
+
+pub returns-in_err-erred-clause-write_cause : goal.returns-in_err-erred-clause-write_cause
+returns-in_err-erred-clause-write_cause g c =
+    let p = err_from_is_err_and c.from_residual.result c.from_residual.ensures.1 in
+    subst (λ (r : Result Bool End). Cause WriteFault (g.O.Sink.faults c.args.out.now) (g.O.Sink.faults c.statement.new.out) r) (sym p.1) (cause_after WriteFault (g.O.Sink.faults c.args.out.now) (g.O.Sink.faults c.loop-statement.out) (g.O.Sink.faults c.statement.new.out) (Err p.0) c.loop-statement.invariant.writes (subst (λ (e : End). Cause WriteFault (g.O.Sink.faults c.loop-statement.out) (g.O.Sink.faults c.statement.new.out) (Err e)) (sym p.2) c.in_err-erred.ensures.write_cause))
+
+pub returns-in_err-erred-clause-export_cause : goal.returns-in_err-erred-clause-export_cause
+returns-in_err-erred-clause-export_cause g c =
+    let p = err_from_is_err_and c.from_residual.result c.from_residual.ensures.1 in
+    subst (λ (r : Result Bool End). Cause ExportFault (g.X.Exports.faults c.args.exports.now) (g.X.Exports.faults c.statement.new.exports) r) (sym p.1) (cause_after ExportFault (g.X.Exports.faults c.args.exports.now) (g.X.Exports.faults c.loop-statement.exports) (g.X.Exports.faults c.statement.new.exports) (Err p.0) c.loop-statement.invariant.puts (subst (λ (e : End). Cause ExportFault (g.X.Exports.faults c.loop-statement.exports) (g.X.Exports.faults c.statement.new.exports) (Err e)) (sym p.2) c.in_err-erred.ensures.export_cause))
+
+pub returns-in_err-erred-clause-performs : goal.returns-in_err-erred-clause-performs
+returns-in_err-erred-clause-performs g c = λ map files.
+    let at = c.loop-statement in
+    let x = fixed g.L.Library.answer map c.args.budget in
+    let rest = into_iter_items c.next.new.self in
+    let steps : into_iter_items at.statement-iterator ≡ c.in-Some.statement ∷ rest = c.in-Some.ensures.steps.0 in
+    let was = devices (g.L.Library.done c.args.lib.now) (g.F.Files.asked c.args.files.now) (g.O.Sink.written c.args.out.now) (g.X.Exports.puts c.args.exports.now) in
+    let mid = devices (g.L.Library.done at.lib) (g.F.Files.asked at.files) (g.O.Sink.written at.out) (g.X.Exports.puts at.exports) in
+    let now = devices (g.L.Library.done c.statement.new.lib) (g.F.Files.asked c.statement.new.files) (g.O.Sink.written c.statement.new.out) (g.X.Exports.puts c.statement.new.exports) in
+    let so_far = at.invariant.so_far map files in
+    let one = statement (coursed x) (state_of at.session) (plain_stmt c.in-Some.statement) in
+    let p = err_from_is_err_and c.from_residual.result c.from_residual.ensures.1 in
+    rw p.1
+    (is_cut x c.args.listings (statements (coursed x) (initial none_kept) (plain_stmts c.args.statements)) (statements (coursed x) (state_of at.session) (plain_stmts (into_iter_items at.statement-iterator))) one
+    (λ (next : State Kept). statements (coursed x) next (plain_stmts rest)) at.erred at.session was mid now
+    (next_statement (coursed x) (state_of at.session) (into_iter_items at.statement-iterator) c.in-Some.statement rest steps)
+    (subst (λ (l : Listings). IsCutShort l one.shown mid now) at.invariant.listings (c.in_err-erred.ensures.does x refl (at.invariant.same ∙ files) so_far.sound))
+    so_far)
+
+pub returns-clause-performs : goal.returns-clause-performs
+returns-clause-performs g c = λ map files.
+    let at = c.loop-statement in
+    let x = fixed g.L.Library.answer map c.args.budget in
+    let was = devices (g.L.Library.done c.args.lib.now) (g.F.Files.asked c.args.files.now) (g.O.Sink.written c.args.out.now) (g.X.Exports.puts c.args.exports.now) in
+    let mid = devices (g.L.Library.done at.lib) (g.F.Files.asked at.files) (g.O.Sink.written at.out) (g.X.Exports.puts at.exports) in
+    let none = nothing_left (into_iter_items at.statement-iterator) (sym at.invariant.len ∙ c.in-None.ensures.steps.0) in
+    is_done x c.args.listings (statements (coursed x) (initial none_kept) (plain_stmts c.args.statements)) (statements (coursed x) (state_of at.session) (plain_stmts (into_iter_items at.statement-iterator))) at.erred at.session was mid (state_of at.session)
+    (no_statement (coursed x) (state_of at.session) (into_iter_items at.statement-iterator) none) (at.invariant.so_far map files)

@@ -1,0 +1,27 @@
+use Rattle.std.proofs.Common.{◌≡◌, ◌∙◌, refl, ap, sym, subst, append-nil}
+use Rattle.dx_io.specs.Devices.{Grows, GrowsInto}
+use Rattle.dx_sequencer.specs.Sequencer as seq
+use Rattle.dx_shown.specs.Session.{with_sequencer}
+use Rattle.dx_telling.specs.Shown.{play_too_long}
+use Rattle.dx_sessions.specs.Does.{devices}
+use Rattle.dx_sessions.specs.SessionView.{state_of}
+use Rattle.dx_sessions.proofs.Refusing.{long_done, long_cut}
+use Rattle.dx_sessions.proofs.session.Session.play.Goals as goal
+
+pub returns-in-Ok-clause-does : goal.returns-in-Ok-clause-does
+returns-in-Ok-clause-does g c = λ x answers files sound.
+    let st = state_of c.args.self.now in
+    let was = devices (g.L.Library.done c.args.lib.now) (g.F.Files.asked c.args.files.now) (g.O.Sink.written c.args.out.now) (g.X.Exports.puts c.args.exports.now) in
+    let now = devices (g.L.Library.done c.args.lib.now) (g.F.Files.asked c.args.files.now) (g.O.Sink.written c.write_all.new.out) (g.X.Exports.puts c.args.exports.now) in
+    long_done x c.args.self.now.listings st _ was now c.in-None.ensures.refused (ap (λ (s : seq.State). with_sequencer s st) c.in-None.ensures.unchanged) sound
+    (subst (Grows (g.O.Sink.written c.args.out.now) (g.O.Sink.written c.write_all.new.out)) (c.play_too_long.ensures ∙ sym (append-nil play_too_long)) c.in-Ok.ensures.writes)
+    (record { told = refl; puts = refl })
+
+pub returns-in-Err-clause-does : goal.returns-in-Err-clause-does
+returns-in-Err-clause-does g c = λ x answers files sound.
+    let st = state_of c.args.self.now in
+    let was = devices (g.L.Library.done c.args.lib.now) (g.F.Files.asked c.args.files.now) (g.O.Sink.written c.args.out.now) (g.X.Exports.puts c.args.exports.now) in
+    let now = devices (g.L.Library.done c.args.lib.now) (g.F.Files.asked c.args.files.now) (g.O.Sink.written c.write_all.new.out) (g.X.Exports.puts c.args.exports.now) in
+    long_cut x c.args.self.now.listings st was now c.in-None.ensures.refused
+    (subst (GrowsInto (g.O.Sink.written c.args.out.now) (g.O.Sink.written c.write_all.new.out)) (c.play_too_long.ensures ∙ sym (append-nil play_too_long)) c.in-Err.ensures.writes)
+    (record { told = refl; puts = refl })
