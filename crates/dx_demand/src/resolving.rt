@@ -109,7 +109,7 @@ pub fn resolve<G: Given>(
     requires links { LinksFit tags.old links.now.links }
     requires seen { SeenFits (graph_of g.now).nodes tags.old seen.old }
     ensures formed { AreExact tags.new }
-    ensures goes_on { OnOk result (GoesOn tags.old tags.new) }
+    ensures goes_on { GoesOn tags.old tags.new }
     ensures seen { OnOk result (SeenFits (graph_of g.now).nodes tags.new seen.new) }
     ensures kept { OnOk result (KeepsSelectors seen.old.memo seen.new.memo) }
     ensures answers { OnOk result (KeepsAnswers (answers_of seen.old.memo) (answers_of seen.new.memo)) }
@@ -155,7 +155,7 @@ fn resolve_port<G: Given>(
     requires links { LinksFit tags.old links.now.links }
     requires seen { SeenFits (graph_of g.now).nodes tags.old seen.old }
     ensures formed { AreExact tags.new }
-    ensures goes_on { OnOk result (GoesOn tags.old tags.new) }
+    ensures goes_on { GoesOn tags.old tags.new }
     ensures seen { OnOk result (SeenFits (graph_of g.now).nodes tags.new seen.new) }
     ensures kept { OnOk result (KeepsSelectors seen.old.memo seen.new.memo) }
     ensures answers { OnOk result (KeepsAnswers (answers_of seen.old.memo) (answers_of seen.new.memo)) }
@@ -194,7 +194,7 @@ fn settle_port<G: Given>(
     requires links { LinksFit tags.old links.now.links }
     requires seen { SeenFits (graph_of g.now).nodes tags.old seen.old }
     ensures formed { AreExact tags.new }
-    ensures goes_on { OnOk result (GoesOn tags.old tags.new) }
+    ensures goes_on { GoesOn tags.old tags.new }
     ensures seen { OnOk result (SeenFits (graph_of g.now).nodes tags.new seen.new) }
     ensures kept { OnOk result (KeepsSelectors seen.old.memo seen.new.memo) }
     ensures answers { OnOk result (KeepsAnswers (answers_of seen.old.memo) (answers_of seen.new.memo)) }

@@ -63,7 +63,7 @@ fn name(tags: &mut Tags, t: Term) -> Result<Tag, AllocError>
     requires within { IsFormed (heads_of tags.old) (length tags.old) t }
     requires whole { IsWhole (heads_of tags.old) t }
     ensures formed { AreExact tags.new }
-    ensures goes_on { OnOk result (GoesOn tags.old tags.new) }
+    ensures goes_on { GoesOn tags.old tags.new }
     ensures named { IfOk result (λ tag. NamesHead tags.new tag (head_of (heads_of tags.old) t)) }
     ensures slot { IfOk result (λ tag. slice_get tags.new tag ≡ Some t) }
     ensures terms { OnOk result (named_terms tags.new ≡ with_term (result_of_head (head_of (heads_of tags.old) t) 0) (named_terms tags.old)) }
@@ -76,7 +76,7 @@ pub(crate) fn constant_tag(tags: &mut Tags, c: Const) -> Result<ValueTag, AllocE
     requires formed { AreExact tags.old }
     requires lawful { ∥ IsLawfulConst c ∥₁ }
     ensures formed { AreExact tags.new }
-    ensures goes_on { OnOk result (GoesOn tags.old tags.new) }
+    ensures goes_on { GoesOn tags.old tags.new }
     ensures fits { IfOk result (λ t. IsValue tags.new t) }
     ensures named { IfOk result (λ t. value_term (heads_of tags.new) t ≡ ConstantTerm c) }
     ensures ready { IfOk result (λ t. NeedsNoCall (head_at (heads_of tags.new) t.tag)) }
@@ -97,7 +97,7 @@ fn call_tag(
     requires earlier { AreEarlier (heads_of tags.old) (length tags.old) arguments }
     requires whole { IsWhole (heads_of tags.old) (term.Call called arguments) }
     ensures formed { AreExact tags.new }
-    ensures goes_on { OnOk result (GoesOn tags.old tags.new) }
+    ensures goes_on { GoesOn tags.old tags.new }
     ensures fits { IfOk result (λ t. IsValue tags.new t) }
     ensures named { IfOk result (λ t. value_term (heads_of tags.new) t ≡ ResultTerm result_number (CallOf called (value_terms (heads_of tags.old) arguments))) }
     ensures slot { IfOk result (λ t. slice_get tags.new t.tag ≡ Some (term.Call called arguments)) }
@@ -116,7 +116,7 @@ fn known_of(g: &Graph, i: &Input, tags: &mut Tags, memo: &Memo) -> Result<Known,
     requires formed { AreExact tags.old }
     requires memo { MemoFits (graph_of g.now).nodes tags.old memo.now }
     ensures formed { AreExact tags.new }
-    ensures goes_on { OnOk result (GoesOn tags.old tags.new) }
+    ensures goes_on { GoesOn tags.old tags.new }
     ensures fits { IfOk result (λ k. KnownFits (graph_of g.now).nodes tags.new (answers_of memo.now) i.now k) }
     ensures right { (s : Sight) → MemoRight s (graph_of g.now).nodes tags.old memo.now → IfOk result (λ k. KnownRight s (graph_of g.now).nodes tags.new i.now k) }
     ensures found { (l : LinkMap) → MemoFound l tags.old memo.now → IfOk result (λ k. KnownFound l tags.new (formed_of memo.now) k) }
@@ -145,7 +145,7 @@ fn known_of(g: &Graph, i: &Input, tags: &mut Tags, memo: &Memo) -> Result<Known,
 fn file_tag(tags: &mut Tags, content: Content) -> Result<ValueTag, AllocError>
     requires formed { AreExact tags.old }
     ensures formed { AreExact tags.new }
-    ensures goes_on { OnOk result (GoesOn tags.old tags.new) }
+    ensures goes_on { GoesOn tags.old tags.new }
     ensures fits { IfOk result (λ t. Fits tags.new t) }
     ensures file { IfOk result (λ t. is_file (head_at (heads_of tags.new) t.tag) ≡ true) }
     ensures named { IfOk result (λ t. value_term (heads_of tags.new) t ≡ FileTerm content) }
@@ -168,7 +168,7 @@ fn arguments_with(
     requires takes { Takes called (length arguments) }
     requires reads { MayRead called file }
     ensures formed { AreExact tags.new }
-    ensures goes_on { OnOk result (GoesOn tags.old tags.new) }
+    ensures goes_on { GoesOn tags.old tags.new }
     ensures earlier { IfOk result (λ all. AreEarlier (heads_of tags.new) (length tags.new) all) }
     ensures whole { IfOk result (λ all. IsWhole (heads_of tags.new) (term.Call called all)) }
     ensures named { IfOk result (λ all. value_terms (heads_of tags.new) all ≡ with_file (value_terms (heads_of tags.old) arguments) file) }
@@ -199,7 +199,7 @@ fn call_of_all(
     requires takes { Takes called (length arguments) }
     requires reads { MayRead called file }
     ensures formed { AreExact tags.new }
-    ensures goes_on { OnOk result (GoesOn tags.old tags.new) }
+    ensures goes_on { GoesOn tags.old tags.new }
     ensures fits { IfOk result (λ t. IsValue tags.new t) }
     ensures named { IfOk result (λ t. value_term (heads_of tags.new) t ≡ ResultTerm port.result (CallOf called (with_file (value_terms (heads_of tags.old) arguments) file))) }
     ensures answers { memo.new.answers ≡ memo.old.answers }
@@ -235,7 +235,7 @@ fn module_step(
     requires few { length arguments.old ≤ length (node_at (graph_of g.now).nodes port.node).inputs }
     requires earlier { AreArguments tags.old arguments.old }
     ensures formed { AreExact tags.new }
-    ensures goes_on { OnOk result (GoesOn tags.old tags.new) }
+    ensures goes_on { GoesOn tags.old tags.new }
     ensures few { OnOk result (length arguments.new ≤ length (node_at (graph_of g.now).nodes port.node).inputs) }
     ensures earlier { OnOk result (AreArguments tags.new arguments.new) }
     ensures answers { answers_of memo.new ≡ answers_of memo.old }
@@ -286,7 +286,7 @@ fn chosen(g: &Graph, port: Port, k: usize, tags: &mut Tags, memo: &Memo) -> Resu
     requires formed { AreExact tags.old }
     requires memo { MemoFits (graph_of g.now).nodes tags.old memo.now }
     ensures formed { AreExact tags.new }
-    ensures goes_on { OnOk result (GoesOn tags.old tags.new) }
+    ensures goes_on { GoesOn tags.old tags.new }
     ensures fits { (given : ValueTag → Option Value) → IfOk result (λ x. StepFits (graph_of g.now).nodes tags.new given memo.now port x) }
     ensures right { (s : Sight) → MemoRight s (graph_of g.now).nodes tags.old memo.now →
         TakesInput s (graph_of g.now).nodes port k →
@@ -334,7 +334,7 @@ fn select_term(
     requires formed { AreExact tags.old }
     requires memo { MemoFits (graph_of g.now).nodes tags.old memo.old }
     ensures formed { AreExact tags.new }
-    ensures goes_on { OnOk result (GoesOn tags.old tags.new) }
+    ensures goes_on { GoesOn tags.old tags.new }
     ensures answers { answers_of memo.new ≡ answers_of memo.old }
     ensures memo { OnOk result (MemoFits (graph_of g.now).nodes tags.new memo.new) }
     ensures kept { KeepsSelectors memo.old memo.new }
@@ -397,7 +397,7 @@ fn picked(
     requires memo { MemoFits (graph_of g.now).nodes tags.old memo.now }
     requires links { LinksFit tags.old links.now.links }
     ensures formed { AreExact tags.new }
-    ensures goes_on { OnOk result (GoesOn tags.old tags.new) }
+    ensures goes_on { GoesOn tags.old tags.new }
     ensures fits { (given : ValueTag → Option Value) → IfOk result (λ x. StepFits (graph_of g.now).nodes tags.new given memo.now port x) }
     ensures right { (s : Sight) → Holds links.now.links tags.new s → MemoRight s (graph_of g.now).nodes tags.old memo.now →
         TakesPick s (graph_of g.now).nodes port (value_behind v.entry) →
@@ -458,7 +458,7 @@ fn selector_step<G: Given>(
     requires memo { MemoFits (graph_of g.now).nodes tags.old memo.old }
     requires links { LinksFit tags.old links.now.links }
     ensures formed { AreExact tags.new }
-    ensures goes_on { OnOk result (GoesOn tags.old tags.new) }
+    ensures goes_on { GoesOn tags.old tags.new }
     ensures answers { answers_of memo.new ≡ answers_of memo.old }
     ensures memo { OnOk result (MemoFits (graph_of g.now).nodes tags.new memo.new) }
     ensures kept { KeepsSelectors memo.old memo.new }
@@ -519,7 +519,7 @@ fn import_step<G: Given>(
     requires few { length arguments.old ≤ length (node_at (graph_of g.now).nodes port.node).inputs }
     requires earlier { AreArguments tags.old arguments.old }
     ensures formed { AreExact tags.new }
-    ensures goes_on { OnOk result (GoesOn tags.old tags.new) }
+    ensures goes_on { GoesOn tags.old tags.new }
     ensures few { OnOk result (length arguments.new ≤ length (node_at (graph_of g.now).nodes port.node).inputs) }
     ensures earlier { OnOk result (AreArguments tags.new arguments.new) }
     ensures answers { answers_of memo.new ≡ answers_of memo.old }
@@ -582,7 +582,7 @@ fn called_step<G: Given>(
     requires few { length arguments.old ≤ length (node_at (graph_of g.now).nodes port.node).inputs }
     requires earlier { AreArguments tags.old arguments.old }
     ensures formed { AreExact tags.new }
-    ensures goes_on { OnOk result (GoesOn tags.old tags.new) }
+    ensures goes_on { GoesOn tags.old tags.new }
     ensures few { OnOk result (length arguments.new ≤ length (node_at (graph_of g.now).nodes port.node).inputs) }
     ensures earlier { OnOk result (AreArguments tags.new arguments.new) }
     ensures answers { answers_of memo.new ≡ answers_of memo.old }
@@ -626,7 +626,7 @@ fn effect_step(
     requires formed { AreExact tags.old }
     requires memo { MemoFits (graph_of g.now).nodes tags.old memo.now }
     ensures formed { AreExact tags.new }
-    ensures goes_on { OnOk result (GoesOn tags.old tags.new) }
+    ensures goes_on { GoesOn tags.old tags.new }
     ensures fits { (given : ValueTag → Option Value) → IfOk result (λ x. StepFits (graph_of g.now).nodes tags.new given memo.now port x) }
     ensures right { (s : Sight) → MemoRight s (graph_of g.now).nodes tags.old memo.now → IfOk result (λ x. StepRight s (graph_of g.now).nodes tags.new port x) }
     ensures found { (l : LinkMap) → MemoFound l tags.old memo.now → IfOk result (λ x. StepFound l tags.new (formed_of memo.now) x) }
@@ -665,7 +665,7 @@ pub(crate) fn next_step<G: Given>(
     requires few { length arguments.old ≤ length (node_at (graph_of g.now).nodes port.node).inputs }
     requires earlier { AreArguments tags.old arguments.old }
     ensures formed { AreExact tags.new }
-    ensures goes_on { OnOk result (GoesOn tags.old tags.new) }
+    ensures goes_on { GoesOn tags.old tags.new }
     ensures few { OnOk result (length arguments.new ≤ length (node_at (graph_of g.now).nodes port.node).inputs) }
     ensures earlier { OnOk result (AreArguments tags.new arguments.new) }
     ensures answers { answers_of memo.new ≡ answers_of memo.old }

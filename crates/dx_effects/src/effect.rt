@@ -3,6 +3,7 @@ ghost use Rattle.std.specs.Prelude.{◌≡◌, ◌<◌, length, OnOk, IfOk};
 ghost use Rattle.dx_io.specs.Devices.{Cause};
 ghost use Rattle.dx_graph.specs.Graph.{node_at};
 ghost use Rattle.dx_tags.specs.Closed.{GoesOn};
+ghost use Rattle.dx_demand.specs.Terms.{AreExact};
 ghost use Rattle.dx_getting.specs.Told.{told};
 ghost use Rattle.dx_demand.specs.Memo.{answers_of};
 ghost use Rattle.dx_looking.specs.Setting.{nodes_in, sight_in};
@@ -38,7 +39,8 @@ pub fn arguments_of<F: Files, L: Library>(
     ensures cause { Cause ReadFault (F.faults files.old) (F.faults files.new) result }
     ensures budget { at.new.work.cache.budget ≡ at.old.work.cache.budget }
     ensures looking { OnOk result (IsLooking setup.now at.new) }
-    ensures goes_on { OnOk result (GoesOn at.old.tags at.new.tags) }
+    ensures goes_on { GoesOn at.old.tags at.new.tags }
+    ensures exact { AreExact at.new.tags }
     ensures fits { IfOk result (λ how. ArgumentsFit setup.now (length (node_at (nodes_in setup.now) n).inputs) at.new how) }
     ensures valued { IfOk result (λ how. ArgumentsValued (answers_of at.new.seen.memo) (node_at (nodes_in setup.now) n).inputs how) }
     ensures halted { IfOk result (λ how. ArgumentsHalted (sight_in setup.now at.new) (nodes_in setup.now) (node_trees setup.now n) how) }

@@ -3,6 +3,7 @@ ghost use Rattle.std.specs.Prelude.{◌≡◌, All, length, OnOk, IfOk};
 ghost use Rattle.dx_io.specs.Devices.{Cause};
 ghost use Rattle.dx_graph.specs.Graph.{MayTake};
 ghost use Rattle.dx_tags.specs.Closed.{GoesOn};
+ghost use Rattle.dx_demand.specs.Terms.{AreExact};
 ghost use Rattle.dx_getting.specs.Told.{told};
 ghost use Rattle.dx_demand.specs.Memo.{answers_of};
 ghost use Rattle.dx_looking.specs.Setting.{nodes_in, sight_in};
@@ -33,7 +34,8 @@ pub fn look_all<F: Files, L: Library>(
     ensures cause { Cause ReadFault (F.faults files.old) (F.faults files.new) result }
     ensures budget { at.new.work.cache.budget ≡ at.old.work.cache.budget }
     ensures looking { OnOk result (IsLooking setup.now at.new) }
-    ensures goes_on { OnOk result (GoesOn at.old.tags at.new.tags) }
+    ensures goes_on { GoesOn at.old.tags at.new.tags }
+    ensures exact { AreExact at.new.tags }
     ensures fits { IfOk result (λ how. AllLookedFit setup.now (length inputs.now) at.new how) }
     ensures valued { IfOk result (λ how. AllValued (answers_of at.new.seen.memo) inputs.now how) }
     ensures halted { IfOk result (λ how. AllHalted (sight_in setup.now at.new) (nodes_in setup.now) (input_trees setup.now inputs.now) how) }

@@ -11,3 +11,4 @@ pub mod Acting
 pub mod Valued
 pub mod Performed
 pub mod Performs
+pub mod CutShort

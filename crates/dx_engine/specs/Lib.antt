@@ -8,3 +8,4 @@ pub mod Leaving
 pub mod Ending
 pub mod Executing
 pub mod Answering
+pub mod Cutting

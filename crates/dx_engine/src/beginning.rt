@@ -4,6 +4,7 @@ ghost use Rattle.dx_io.specs.Devices.{Cause};
 ghost use Rattle.dx_graph.specs.GraphView.{graph_of};
 ghost use Rattle.dx_graph.specs.Unfolding.{unfolded};
 ghost use Rattle.dx_tags.specs.Closed.{GoesOn};
+ghost use Rattle.dx_demand.specs.Terms.{AreExact};
 ghost use Rattle.dx_getting.specs.Told.{told};
 ghost use Rattle.dx_engine.specs.Keeping.{StateFits};
 ghost use Rattle.dx_engine.specs.Beginning.{IsFresh, taken_back, FromState, GathersFit, EffectsSo};
@@ -70,7 +71,8 @@ impl State {
         ensures written { self.new.written ≡ self.old.written }
         ensures budget { self.new.cache.budget ≡ self.old.cache.budget }
         ensures fits { OnOk result (StateFits self.new) }
-        ensures goes_on { OnOk result (GoesOn self.old.tags self.new.tags) }
+        ensures goes_on { GoesOn self.old.tags self.new.tags }
+        ensures exact { AreExact self.new.tags }
         ensures gathers { IfOk result (λ gathered. GathersFit (graph_of g.now).nodes self.new gathered) }
         ensures effects { FromState L.answer (F.content files.old) self.old (λ x. EffectsSo x self.old (unfolded (graph_of g.now)) (graph_of g.now).nodes (told (L.done lib.old) (F.asked files.old)) (O.written out.old) result self.new (told (L.done lib.new) (F.asked files.new)) (O.written out.new)) }
     {

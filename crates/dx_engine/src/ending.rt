@@ -95,6 +95,7 @@ impl State {
         ensures some { OnCut result (SomePut (X.puts exports.old) (X.puts exports.new) self.old.written.files self.new.written.files (exports_of gathered.puts.items)) }
         ensures links { OnCut result (self.new.links ≡ self.old.links) }
         ensures bound { OnCut result (self.new.bound ≡ self.old.bound) }
+        ensures same { OnCut result ((self.new.tags ≡ self.old.tags) × (self.new.held ≡ self.old.held) × (self.new.cache ≡ self.old.cache)) }
         ensures faults { ¬ (result ≡ Err ReadFault) × ¬ (result ≡ Err WriteFault) }
         ensures cause { Cause ExportFault (X.faults exports.old) (X.faults exports.new) result }
     {

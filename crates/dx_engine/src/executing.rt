@@ -1,12 +1,12 @@
 //! One execution over what is kept.
-ghost use Rattle.std.specs.Prelude.{◌≡◌};
+ghost use Rattle.std.specs.Prelude.{◌≡◌, []};
 ghost use Rattle.dx_io.specs.Devices.{Cause};
 ghost use Rattle.dx_graph.specs.GraphView.{graph_of};
 ghost use Rattle.dx_graph.specs.Unfolding.{unfolded};
 ghost use Rattle.dx_getting.specs.Told.{told};
-ghost use Rattle.dx_engine.specs.Keeping.{StateFits};
+ghost use Rattle.dx_engine.specs.Keeping.{StateFits, IsSoundState};
 ghost use Rattle.dx_engine.specs.Beginning.{FromState};
-ghost use Rattle.dx_engine.specs.Ending.{OnEnd, OnCut};
+ghost use Rattle.dx_engine.specs.Ending.{OnCut};
 ghost use Rattle.dx_engine.specs.Executing.{Devices, ExecutesSo};
 ghost use Rattle.dx_engine.specs.declared.exec_error.ExecError.TheVariants.{ReadFault, WriteFault, ExportFault};
 
@@ -22,9 +22,9 @@ impl State {
     /// where there was no error. Texts are printed at once; nothing is put, and no link changes, before the last effect.
     ///
     /// For files that tell their content and a sound state it is as meant: the text, the files that are put, the error by its site,
-    /// the links and the written files behind it; the runs, the reads, the events and what is kept are those of the cache machine,
-    /// and what is kept is sound again. Where it is cut short, by a device or by want of memory, a front of all that happened, and
-    /// the links are those before.
+    /// the links and the written files behind it; the runs, the reads, the events and what is kept are those of the cache machine.
+    /// Where it is cut short, a front of all that happened, the links are those before, and no result stays cached. Whatever is
+    /// answered, what is kept is sound again.
     ///
     /// # Errors
     ///
@@ -44,12 +44,15 @@ impl State {
         ensures read_cause { Cause ReadFault (F.faults files.old) (F.faults files.new) result }
         ensures write_cause { Cause WriteFault (O.faults out.old) (O.faults out.new) result }
         ensures export_cause { Cause ExportFault (X.faults exports.old) (X.faults exports.new) result }
-        ensures fits { OnEnd result (StateFits self.new) }
-        ensures budget { OnEnd result (self.new.cache.budget ≡ self.old.cache.budget) }
+        ensures fits { StateFits self.new }
+        ensures budget { self.new.cache.budget ≡ self.old.cache.budget }
         ensures links { OnCut result (self.new.links ≡ self.old.links) }
+        ensures forgets { OnCut result (self.new.cache.entries ≡ []) }
+        ensures sound { FromState L.answer (F.content files.old) self.old (λ x. IsSoundState x self.new) }
         ensures executes { FromState L.answer (F.content files.old) self.old (λ x. ExecutesSo x self.old (unfolded (graph_of g.now)) (record { told = told (L.done lib.old) (F.asked files.old); written = O.written out.old; puts = X.puts exports.old }) result self.new (record { told = told (L.done lib.new) (F.asked files.new); written = O.written out.new; puts = X.puts exports.new })) }
     {
-        let gathered = self.run(alloc, g, files, lib, out)?;
-        self.finish(alloc, g, gathered, exports)
+        let ended = self.attempt(alloc, g, files, exports, out, lib);
+        self.forget(&ended);
+        ended
     }
 }

@@ -1,6 +1,7 @@
 //! One execution over the cache: its effects in order, what they print, put and set, and the error that it ends with.
 #![tactic(auto)]
 
+mod attempting;
 mod beginning;
 mod done;
 mod ending;

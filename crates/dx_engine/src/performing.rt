@@ -4,6 +4,7 @@ ghost use Rattle.dx_base.specs.declared.function.Function.TheVariants as functio
 ghost use Rattle.dx_io.specs.Devices.{Cause};
 ghost use Rattle.dx_graph.specs.Graph.{node_at};
 ghost use Rattle.dx_tags.specs.Closed.{GoesOn};
+ghost use Rattle.dx_demand.specs.Terms.{AreExact};
 ghost use Rattle.dx_getting.specs.Told.{told};
 ghost use Rattle.dx_demand.specs.Memo.{answers_of};
 ghost use Rattle.dx_performing.specs.Acts.{act};
@@ -126,7 +127,8 @@ pub fn perform<F: Files, L: Library>(
     ensures cause { Cause ReadFault (F.faults files.old) (F.faults files.new) result }
     ensures budget { at.new.work.cache.budget ≡ at.old.work.cache.budget }
     ensures looking { OnOk result (IsLooking setup.now at.new) }
-    ensures goes_on { OnOk result (GoesOn at.old.tags at.new.tags) }
+    ensures goes_on { GoesOn at.old.tags at.new.tags }
+    ensures exact { AreExact at.new.tags }
     ensures fits { IfOk result (λ done. DoneFits setup.now at.new done) }
     ensures performs { FromHere setup.now L.answer (F.content files.old) at.old (told (L.done lib.old) (F.asked files.old)) (λ x k base s f. PerformsSo setup.now x k base n effect s f result at.new (told (L.done lib.new) (F.asked files.new))) }
 {

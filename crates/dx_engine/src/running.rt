@@ -6,6 +6,7 @@ ghost use Rattle.dx_graph.specs.Graph.{node_at, IsEffectNode};
 ghost use Rattle.dx_graph.specs.GraphView.{graph_of};
 ghost use Rattle.dx_graph.specs.Unfolding.{unfolded};
 ghost use Rattle.dx_tags.specs.Closed.{GoesOn};
+ghost use Rattle.dx_demand.specs.Terms.{AreExact};
 ghost use Rattle.dx_getting.specs.Told.{told};
 ghost use Rattle.dx_looking.specs.Looking.{IsLooking, FromHere};
 ghost use Rattle.dx_engine.specs.Running.{GatheredFits, RunsSo};
@@ -49,7 +50,8 @@ pub fn run_effects<F: Files, L: Library, O: Sink>(
     ensures write_cause { Cause WriteFault (O.faults out.old) (O.faults out.new) result }
     ensures budget { at.new.work.cache.budget ≡ at.old.work.cache.budget }
     ensures looking { OnOk result (IsLooking setup.now at.new) }
-    ensures goes_on { OnOk result (GoesOn at.old.tags at.new.tags) }
+    ensures goes_on { GoesOn at.old.tags at.new.tags }
+    ensures exact { AreExact at.new.tags }
     ensures fits { IfOk result (λ gathered. GatheredFits setup.now at.new gathered) }
     ensures runs { FromHere setup.now L.answer (F.content files.old) at.old (told (L.done lib.old) (F.asked files.old)) (λ x k base s f. RunsSo setup.now x k base (unfolded (graph_of setup.now.graph.now)) s f (O.written out.old) result at.new (told (L.done lib.new) (F.asked files.new)) (O.written out.new)) }
 {

@@ -3,6 +3,7 @@ ghost use Rattle.std.specs.Prelude.{◌≡◌, length, OnOk, IfOk};
 ghost use Rattle.dx_io.specs.Devices.{Cause};
 ghost use Rattle.dx_graph.specs.Graph.{MayTake};
 ghost use Rattle.dx_tags.specs.Closed.{GoesOn};
+ghost use Rattle.dx_demand.specs.Terms.{AreExact};
 ghost use Rattle.dx_meaning.specs.Scan.{scan};
 ghost use Rattle.dx_demand.specs.Memo.{KeepsAnswers, answers_of, formed_of};
 ghost use Rattle.dx_getting.specs.Told.{told};
@@ -42,7 +43,8 @@ pub fn look<F: Files, L: Library>(
     ensures cause { Cause ReadFault (F.faults files.old) (F.faults files.new) result }
     ensures budget { at.new.work.cache.budget ≡ at.old.work.cache.budget }
     ensures looking { OnOk result (IsLooking setup.now at.new) }
-    ensures goes_on { OnOk result (GoesOn at.old.tags at.new.tags) }
+    ensures goes_on { GoesOn at.old.tags at.new.tags }
+    ensures exact { AreExact at.new.tags }
     ensures first { OnOk result (Kept (formed_of at.old.seen.memo) (formed_of at.new.seen.memo)) }
     ensures fits { IfOk result (λ how. LookedFits setup.now at.new how) }
     ensures answers { OnOk result (KeepsAnswers (answers_of at.old.seen.memo) (answers_of at.new.seen.memo)) }

@@ -4,6 +4,7 @@ ghost use Rattle.std.specs.Map.{lookup};
 ghost use Rattle.dx_graph.specs.Graph.{MayTake};
 ghost use Rattle.dx_tags.specs.contracts.term.ValueTagPartialEq.TheImpl as tags;
 ghost use Rattle.dx_tags.specs.Closed.{GoesOn};
+ghost use Rattle.dx_demand.specs.Terms.{AreExact};
 ghost use Rattle.dx_meaning.specs.Forming.{forms, after};
 ghost use Rattle.dx_meaning.specs.Scan.{scan};
 ghost use Rattle.dx_demand.specs.Memo.{KeepsAnswers, answers_of, formed_of};
@@ -32,7 +33,8 @@ pub(crate) fn resolve_told(
     ensures told { at.new.told ≡ at.old.told }
     ensures work { at.new.work ≡ at.old.work }
     ensures looking { OnOk result (IsLooking setup.now at.new) }
-    ensures goes_on { OnOk result (GoesOn at.old.tags at.new.tags) }
+    ensures goes_on { GoesOn at.old.tags at.new.tags }
+    ensures exact { AreExact at.new.tags }
     ensures kept { OnOk result (KeepsSelectors at.old.seen.memo at.new.seen.memo) }
     ensures answers { OnOk result (KeepsAnswers (answers_of at.old.seen.memo) (answers_of at.new.seen.memo)) }
     ensures valued { IfOk result (λ r. ResolvedValued (answers_of at.new.seen.memo) i.now r) }

@@ -1,12 +1,12 @@
 //! Making an execution.
-ghost use Rattle.std.specs.Prelude.{◌≡◌, IfOk, OnOk, OnErr, is_some};
+ghost use Rattle.std.specs.Prelude.{◌≡◌, IfOk, OnErr, is_some};
 ghost use Rattle.dx_io.specs.Devices.{Cause};
 ghost use Rattle.dx_ast.specs.Lawful.{IsLawful};
 ghost use Rattle.dx_ast.specs.Plain.{plain_stmt};
 ghost use Rattle.dx_macros.specs.DictionaryView.{dictionary_of};
 ghost use Rattle.dx_macros.specs.Walk.{first_fault};
 ghost use Rattle.dx_getting.specs.Told.{told};
-ghost use Rattle.dx_engine.specs.Keeping.{StateFits, kept_of};
+ghost use Rattle.dx_engine.specs.Keeping.{StateFits, kept_of, IsSoundState};
 ghost use Rattle.dx_engine.specs.Beginning.{FromState};
 ghost use Rattle.dx_engine.specs.Executing.{Devices};
 ghost use Rattle.dx_shown.specs.Made.{coursed};
@@ -28,7 +28,8 @@ use std::alloc::Global;
 /// first effect, and then nothing that is kept changes; the events are told of executions without a static fault.
 ///
 /// For files that tell their content and a sound state it is the cache machine's: what is printed and put, the failure by its site,
-/// the runs, the reads, the events and what is kept behind it; or it was cut short on that way.
+/// the runs, the reads, the events and what is kept behind it; or it was cut short on that way, and the links are those before.
+/// Whatever is answered, what is kept is sound again.
 ///
 /// # Errors
 ///
@@ -51,8 +52,9 @@ pub fn make<F: Files, X: Exports, O: Sink, L: Library>(
     ensures write_cause { Cause WriteFault (O.faults out.old) (O.faults out.new) result }
     ensures export_cause { Cause ExportFault (X.faults exports.old) (X.faults exports.new) result }
     ensures faulty { IfOk result (λ failing. is_faulty failing ≡ is_some (first_fault (dictionary_of d.now) (plain_stmt s.now))) }
-    ensures fits { OnOk result (StateFits state.new) }
-    ensures budget { OnOk result (state.new.cache.budget ≡ state.old.cache.budget) }
+    ensures fits { StateFits state.new }
+    ensures budget { state.new.cache.budget ≡ state.old.cache.budget }
+    ensures sound { FromState L.answer (F.content files.old) state.old (λ x. IsSoundState x state.new) }
     ensures links { OnErr result (state.new.links ≡ state.old.links) }
     ensures makes { FromState L.answer (F.content files.old) state.old (λ x. MakesSo x state.old (coursed x (dictionary_of d.now) frames.now (plain_stmt s.now) (kept_of state.old)) (record { told = told (L.done lib.old) (F.asked files.old); written = O.written out.old; puts = X.puts exports.old }) result state.new (record { told = told (L.done lib.new) (F.asked files.new); written = O.written out.new; puts = X.puts exports.new })) }
 {

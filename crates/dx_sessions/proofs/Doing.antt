@@ -1,17 +1,19 @@
 -- What is done one behind the other.
-use Rattle.std.proofs.Common.{◌≡◌, ℕ, List, [], ◌++◌, Bool, true, false, ◌||◌, Result, Ok, Err, refl, sym, ap, ap₂, subst, ◌∙◌}
+use Rattle.std.proofs.Common.{◌≡◌, ℕ, List, [], ◌∷◌, ◌++◌, Bool, true, false, ◌||◌, Result, Ok, Err, refl, sym, ap, ap₂, subst, ◌∙◌}
 use Rattle.dx_performing.specs.Course.{Fixed}
-use Rattle.dx_performing.specs.Kept.{Kept}
+use Rattle.dx_performing.specs.Kept.{Kept, current}
 use Rattle.dx_engine.specs.Keeping.{IsSoundState}
 use Rattle.dx_engine.specs.Executing.{Devices}
 use Rattle.dx_shown.specs.Made.{Coursed}
 use Rattle.dx_shown.specs.Session.{Done, Shown, State, and_then, silently}
 use Rattle.dx_shown.specs.Listed.{any_error}
 use Rattle.dx_telling.specs.declared.listings.Listings.{Listings}
-use Rattle.dx_sessions.specs.Does.{IsWhole, IsCutShort, IsDone}
+use Rattle.dx_sessions.specs.Does.{IsWhole, IsFront, IsCutShort, IsCutAt, IsDone}
+use Rattle.dx_sessions.specs.Left.{LeavesCurrent}
+use Rattle.dx_sessions.specs.Places.{here}
 use Rattle.dx_sessions.specs.SessionView.{state_of}
 use Rattle.dx_sessions.specs.declared.session.Session.{Session}
-use Rattle.dx_sessions.proofs.Folding.{errors_append, none_whole, whole_on, cut_later}
+use Rattle.dx_sessions.proofs.Folding.{errors_append, none_whole, whole_on, cut_at_once, cut_in_one}
 
 -- nothing is shown
 pub silently_done : (x : Fixed) (l : Listings) (st : State Kept) (new : Session) (was : Devices) → state_of new ≡ st → IsSoundState x new.state → IsDone x l (silently st) was false new was
@@ -30,8 +32,32 @@ done_on x l first next mid new was between now erred failed a b =
       sound = later.sound;
     }
 
-pub cut_behind : (x : Fixed) (l : Listings) (first : Done Kept Coursed) (next : State Kept → Done Kept Coursed) (mid : Session) (was between now : Devices) (erred : Bool)
-    → IsDone x l first was erred mid between → IsCutShort l (next (state_of mid)).shown between now
-    → IsCutShort l (and_then first next).shown was now
-cut_behind x l first next mid was between now erred a b =
-    cut_later l first.shown (next first.state).shown was between now a.whole (subst (λ (st : State Kept). IsCutShort l (next st).shown between now) a.state b)
+-- nothing was done, and macros, definitions and what is kept are as before
+pub stays_at_once : (x : Fixed) (l : Listings) (shown : List (Shown Coursed)) (was : Devices) (st : State Kept) (new : Session) → state_of new ≡ st → IsSoundState x new.state → IsCutAt x l (here st) shown was new was
+stays_at_once x l shown was st new same sound = record {
+  short = cut_at_once l shown was;
+  at = st;
+  begins = (refl, refl);
+  left = record {
+    dictionary = ap (λ (s : State Kept). s.dictionary) same;
+    sequencer = ap (λ (s : State Kept). s.sequencer) same;
+    sequence = ap (λ (s : State Kept). s.sequence) same;
+    current = ap (λ (s : State Kept). current s.kept) same;
+  };
+  sound = sound;
+}
+
+-- a line was cut short
+pub stays_at_line : (x : Fixed) (l : Listings) (s : Shown Coursed) (was now : Devices) (st : State Kept) (new : Session) → (LeavesCurrent (s ∷ []) (current st.kept) (current (state_of new).kept)) → IsFront l (s ∷ []) was now → state_of new ≡ st → IsSoundState x new.state → IsCutAt x l (here st) (s ∷ []) was new now
+stays_at_line x l s was now st new leaves front same sound = record {
+  short = cut_in_one l s was now front;
+  at = st;
+  begins = (refl, refl);
+  left = record {
+    dictionary = ap (λ (s : State Kept). s.dictionary) same;
+    sequencer = ap (λ (s : State Kept). s.sequencer) same;
+    sequence = ap (λ (s : State Kept). s.sequence) same;
+    current = leaves;
+  };
+  sound = sound;
+}

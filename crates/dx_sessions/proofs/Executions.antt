@@ -1,5 +1,5 @@
 -- One execution on the devices, with what is told behind it.
-use Rattle.std.proofs.Common.{◌≡◌, ℕ, List, [], ◌∷◌, ◌++◌, Option, Some, None, Bool, true, false, ◌||◌, is_some, option_map, Result, Ok, Err, refl, sym, ap, ap₂, subst, ◌∙◌, append_assoc, append-nil}
+use Rattle.std.proofs.Common.{inl, inr, ◌≡◌, ℕ, List, [], ◌∷◌, ◌++◌, Option, Some, None, Bool, true, false, ◌||◌, is_some, option_map, Result, Ok, Err, refl, sym, ap, ap₂, subst, ◌∙◌, append_assoc, append-nil}
 use Rattle.dx_io.specs.Devices.{FileMap as InputFiles, Grows, GrowsInto}
 use Rattle.dx_io.proofs.Growing.{grows_by_nothing, grows_on, grows_on_into, grows_into}
 use Rattle.dx_ast.specs.declared.statements.Stmt.{Stmt as CodeStmt}
@@ -8,19 +8,28 @@ use Rattle.dx_ast.specs.Syntax.{Stmt}
 use Rattle.dx_ending.specs.Putting.{ArePut}
 use Rattle.dx_macros.specs.declared.dictionary.Dictionary.{Dictionary}
 use Rattle.dx_macros.specs.DictionaryView.{dictionary_of}
+use Rattle.dx_links.specs.LinkMap.{LinkMap}
+use Rattle.dx_links.specs.declared.links.Links.{Links as CodeLinks}
 use Rattle.dx_machine.specs.Machine.{Task, tasks_of}
+use Rattle.dx_macros.specs.Dictionary.{Dictionary as Definitions}
+use Rattle.dx_macros.specs.Expansion.{effects}
+use Rattle.dx_macros.specs.Tree.{CallTree}
+use Rattle.dx_macros.specs.Walk.{Fault, first_fault}
+use Rattle.dx_ast.specs.declared.sequencing.Frames.{Frames}
+use Rattle.dx_tags.specs.Closed.{Head, heads_of}
+use Rattle.dx_tags.specs.declared.files.Written.{Written}
 use Rattle.dx_getting.specs.Stands.{Answers}
 use Rattle.dx_getting.specs.Told.{Told, Adds, AddsSome}
 use Rattle.dx_getting.proofs.TellLaws.{some_all, some_later}
-use Rattle.dx_looking.specs.Setting.{fixed}
+use Rattle.dx_looking.specs.Setting.{fixed, links_of}
 use Rattle.dx_performing.specs.Course.{Fixed}
-use Rattle.dx_performing.specs.Execution.{Error, Export}
-use Rattle.dx_performing.specs.Kept.{Kept}
+use Rattle.dx_performing.specs.Execution.{Error, Export, Links}
+use Rattle.dx_performing.specs.Kept.{Kept, current, objects_of}
 use Rattle.dx_engine.specs.Beginning.{FromState}
 use Rattle.dx_engine.specs.Keeping.{kept_of, IsSoundState}
 use Rattle.dx_engine.specs.Executing.{Devices, NonePut}
 use Rattle.dx_engine.specs.declared.state.State.{State}
-use Rattle.dx_shown.specs.Made.{Coursed, coursed}
+use Rattle.dx_shown.specs.Made.{Coursed, coursed, coursed_unless}
 use Rattle.dx_sequencer.specs.Sequencer as seq
 use Rattle.dx_sequencer.specs.Sequencer.{frames_of}
 use Rattle.dx_shown.specs.Session.{Shown, Executes, executed, with_kept, State as SessionState}
@@ -35,7 +44,8 @@ use Rattle.dx_telling.specs.Shown.{behind_of, shown_texts}
 use Rattle.dx_telling.specs.declared.listings.Listings.{Listings}
 use Rattle.dx_sessions.specs.Does.{OverSound, IsWhole, IsFront, IsCutShort, IsDone, OthersStay, ShowsSo}
 use Rattle.dx_sessions.specs.Ended.{is_error}
-use Rattle.dx_sessions.specs.Executes.{IsExecuted, ExecutesSo}
+use Rattle.dx_sessions.specs.Executes.{IsExecuted, IsCutIn, ExecutesSo}
+use Rattle.dx_sessions.specs.Left.{IsBefore}
 use Rattle.dx_sessions.specs.SessionView.{state_of}
 use Rattle.dx_sessions.specs.declared.ended.Ended.{Ended}
 use Rattle.dx_sessions.specs.declared.session.Session.{Session}
@@ -82,7 +92,7 @@ made_whole x l st st' made was mid now failing ended m grown told puts error = r
 }
 
 -- a front of what is told of it was written
-pub made_front : (x : Fixed) (l : Listings) (st st' : State) (made : Coursed × Kept) (was mid now : Devices) (failing : Option Failing)
+made_front : (x : Fixed) (l : Listings) (st st' : State) (made : Coursed × Kept) (was mid now : Devices) (failing : Option Failing)
     → IsMade x st made was failing st' mid → GrowsInto mid.written now.written (behind_of l made.0) → now.told ≡ mid.told → now.puts ≡ mid.puts
     → IsFront l (Executes made.0 ∷ []) was now
 made_front x l st st' made was mid now failing m grown told puts = record {
@@ -111,12 +121,58 @@ printed_whole c was now grown = (c.execution.printed, [], sym (append-nil c.exec
 told_whole : (c : Coursed) (was now : Devices) → Adds was.told now.told (tasks_of c.events) → AddsSome was.told now.told (tasks_of c.events)
 told_whole c was now told = some_all was.told now.told (tasks_of c.events) [] (tasks_of c.events) told (sym (append-nil (tasks_of c.events)))
 
-pub cut_front : (x : Fixed) (l : Listings) (st st' : State) (made : Coursed × Kept) (was now : Devices) (end : End)
+cut_front : (x : Fixed) (l : Listings) (st st' : State) (made : Coursed × Kept) (was now : Devices) (end : End)
     → MakesSo x st made was (Err end) st' now → IsFront l (Executes made.0 ∷ []) was now
 cut_front x l st st' made was now ReadFault (early, none) = front_by l made.0 was now early.printed (into_by_nothing was.puts now.puts made.0.execution.exports none.puts) early.told
 cut_front x l st st' made was now WriteFault (early, none) = front_by l made.0 was now early.printed (into_by_nothing was.puts now.puts made.0.execution.exports none.puts) early.told
 cut_front x l st st' made was now ExportFault late = front_by l made.0 was now (printed_whole made.0 was now late.printed) (some_put made.0 st st' was now late.puts) (told_whole made.0 was now late.told)
 cut_front x l st st' made was now Memory (early, some) = front_by l made.0 was now early.printed (some_put made.0 st st' was now some) early.told
+
+-- ---- where it is left
+
+objects_same : (a b : List Head) (links : LinkMap) → objects_of (links_of a links) ≡ objects_of (links_of b links)
+objects_same a b [] = refl
+objects_same a b (l ∷ ls) = ap (λ (rest : Links). (l.0, l.1.value) ∷ rest) (objects_same a b ls)
+
+links_same : (st st' : State) → st'.links ≡ st.links → (current (kept_of st')).links ≡ (current (kept_of st)).links
+links_same st st' same = ap (λ (y : CodeLinks). objects_of (links_of (heads_of st'.tags) y.links)) same ∙ objects_same (heads_of st'.tags) (heads_of st.tags) st.links.links
+
+before_unput : (c : Coursed) (st st' : State) (was now : Devices) → st'.links ≡ st.links → NonePut st was st' now → IsBefore c (current (kept_of st)) (current (kept_of st'))
+before_unput c st st' was now same none = record { front = []; rest = c.execution.exports; split = refl; links = links_same st st' same; written = ap (λ (w : Written). w.files) none.files }
+
+before_put : (c : Coursed) (st st' : State) (was now : Devices) → st'.links ≡ st.links → SomeArePut c st was st' now → IsBefore c (current (kept_of st)) (current (kept_of st'))
+before_put c st st' was now same some = record { front = some.front; rest = some.rest; split = some.split; links = links_same st st' same; written = some.made.files }
+
+left_by : (x : Fixed) (st st' : State) (made : Coursed × Kept) (was now : Devices) (end : End) → st'.links ≡ st.links → MakesSo x st made was (Err end) st' now → IsBefore made.0 (current (kept_of st)) (current (kept_of st'))
+left_by x st st' made was now ReadFault same (early, none) = before_unput made.0 st st' was now same none
+left_by x st st' made was now WriteFault same (early, none) = before_unput made.0 st st' was now same none
+left_by x st st' made was now ExportFault same late = before_put made.0 st st' was now same late.puts
+left_by x st st' made was now Memory same (early, some) = before_put made.0 st st' was now same some
+
+pub cut_in : (x : Fixed) (l : Listings) (st st' : State) (made : Coursed × Kept) (was now : Devices) (end : End)
+    → st'.links ≡ st.links → IsSoundState x st' → MakesSo x st made was (Err end) st' now → IsCutIn x l (kept_of st) made.0 was st' now
+cut_in x l st st' made was now end same sound h = record {
+  front = cut_front x l st st' made was now end h;
+  current = inl (left_by x st st' made was now end same h);
+  sound = sound;
+}
+
+behind_unless : (x : Fixed) (f : Option Fault) (effects : List CallTree) (k : Kept) → current (coursed_unless x f effects k).1 ≡ (coursed_unless x f effects k).0.behind
+behind_unless x None effects k = refl
+behind_unless x (Some f) effects k = refl
+
+pub behind_kept : (x : Fixed) (d : Definitions) (frames : Frames) (s : Stmt) (k : Kept) → current (coursed x d frames s k).1 ≡ (coursed x d frames s k).0.behind
+behind_kept x d frames s k = behind_unless x (first_fault d s) (effects d frames s) k
+
+-- it was made, and what is told behind it was cut short
+pub cut_telling : (x : Fixed) (l : Listings) (st st' : State) (made : Coursed × Kept) (was mid now : Devices) (failing : Option Failing)
+    → current made.1 ≡ made.0.behind → IsMade x st made was failing st' mid → GrowsInto mid.written now.written (behind_of l made.0) → now.told ≡ mid.told → now.puts ≡ mid.puts
+    → IsCutIn x l (kept_of st) made.0 was st' now
+cut_telling x l st st' made was mid now failing behind m grown told puts = record {
+  front = made_front x l st st' made was mid now failing m grown told puts;
+  current = inr (ap current m.kept ∙ behind);
+  sound = m.sound;
+}
 
 -- ---- in a session
 
@@ -129,8 +185,8 @@ made_in x old s = coursed x (state_of old).dictionary (frames_of (state_of old).
 
 -- an execution of a statement with what is current
 pub shows : (x : Fixed) (l : Listings) (old new : Session) (s : Stmt) (was now : Devices) (r : Result Ended End)
-    → OthersStay old new → ExecutesSo x l (made_in x old s) was r new.state now
-    → ShowsSo x l (executed (coursed x) (state_of old) s) was r new now
+    → OthersStay old new → ExecutesSo x l (state_of old).kept (made_in x old s) was r new.state now
+    → ShowsSo x l (state_of old) (executed (coursed x) (state_of old) s) was r new now
 shows x l old new s was now (Ok ended) stay h = record {
   whole = h.whole;
   erred = h.error ∙ or_false (is_some (made_in x old s).0.execution.error);
@@ -144,4 +200,15 @@ shows x l old new s was now (Ok ended) stay h = record {
         ∙ ap (λ (q : seq.State). let y : SessionState Kept = record { dictionary = dictionary_of old.dictionary; sequencer = q; sequence = option_map plain_stmt new.sequence; kept = kept_of new.state } in y) stay.sequencer
         ∙ ap (λ (c : Option CodeStmt). let y : SessionState Kept = record { dictionary = dictionary_of old.dictionary; sequencer = old.sequencer; sequence = option_map plain_stmt c; kept = kept_of new.state } in y) stay.sequence
         ∙ ap (λ (k : Kept). with_kept k (state_of old)) kept
-shows x l old new s was now (Err end) stay h = cut_in_one l (Executes (made_in x old s).0) was now h
+shows x l old new s was now (Err end) stay h = record {
+  short = cut_in_one l (Executes (made_in x old s).0) was now h.front;
+  at = state_of old;
+  begins = (refl, refl);
+  left = record {
+    dictionary = ap (λ (d : Dictionary). dictionary_of d) stay.dictionary;
+    sequencer = stay.sequencer;
+    sequence = ap (λ (c : Option CodeStmt). option_map plain_stmt c) stay.sequence;
+    current = h.current;
+  };
+  sound = h.sound;
+}

@@ -66,39 +66,45 @@ whole_on l a b was mid now first second = record {
 
 -- ---- as much as was done before it was cut short
 
+front_of_none : (l : Listings) (was : Devices) → IsFront l [] was was
+front_of_none l was = record {
+  printed = ([], [], refl, grows_by_nothing was.written);
+  puts = ([], [], refl, grows_by_nothing was.puts);
+  told = record { front = []; rest = []; whole = refl; done = (adds_none was.told).done; next = []; is_next = tt; asked = (adds_none was.told).asked };
+}
+
+none_is_few : length {A = Shown Coursed} [] ≤ 1
+none_is_few = omega arith
+
 -- nothing was done
-pub cut_at_once : (l : Listings) (shown : List (Shown Coursed)) (was : Devices) → IsCutShort l shown was was
+abbrev pub cut_at_once : (l : Listings) (shown : List (Shown Coursed)) (was : Devices) → IsCutShort l shown was was
 cut_at_once l shown was = record {
   before = [];
   next = [];
   rest = shown;
   all = refl;
-  few = omega arith;
+  few = none_is_few;
   between = was;
   whole = none_whole l was;
   front = front_of_none l was;
 }
-  where
-    front_of_none : (l : Listings) (was : Devices) → IsFront l [] was was
-    front_of_none l was = record {
-      printed = ([], [], refl, grows_by_nothing was.written);
-      puts = ([], [], refl, grows_by_nothing was.puts);
-      told = record { front = []; rest = []; whole = refl; done = (adds_none was.told).done; next = []; is_next = tt; asked = (adds_none was.told).asked };
-    }
 
-pub cut_in_one : (l : Listings) (s : Shown Coursed) (was now : Devices) → IsFront l (s ∷ []) was now → IsCutShort l (s ∷ []) was now
+one_is_few : (s : Shown Coursed) → length (s ∷ []) ≤ 1
+one_is_few s = omega arith
+
+abbrev pub cut_in_one : (l : Listings) (s : Shown Coursed) (was now : Devices) → IsFront l (s ∷ []) was now → IsCutShort l (s ∷ []) was now
 cut_in_one l s was now front = record {
   before = [];
   next = s ∷ [];
   rest = [];
   all = refl;
-  few = omega arith;
+  few = one_is_few s;
   between = was;
   whole = none_whole l was;
   front = front;
 }
 
-pub cut_later : (l : Listings) (a b : List (Shown Coursed)) (was mid now : Devices) → IsWhole l a was mid → IsCutShort l b mid now → IsCutShort l (a ++ b) was now
+abbrev pub cut_later : (l : Listings) (a b : List (Shown Coursed)) (was mid now : Devices) → IsWhole l a was mid → IsCutShort l b mid now → IsCutShort l (a ++ b) was now
 cut_later l a b was mid now first second = record {
   before = a ++ second.before;
   next = second.next;
@@ -110,7 +116,7 @@ cut_later l a b was mid now first second = record {
   front = second.front;
 }
 
-pub cut_with_more : (l : Listings) (a b : List (Shown Coursed)) (was now : Devices) → IsCutShort l a was now → IsCutShort l (a ++ b) was now
+abbrev pub cut_with_more : (l : Listings) (a b : List (Shown Coursed)) (was now : Devices) → IsCutShort l a was now → IsCutShort l (a ++ b) was now
 cut_with_more l a b was now cut = record {
   before = cut.before;
   next = cut.next;

@@ -13,7 +13,8 @@ use Rattle.dx_shown.specs.Made.{Coursed, coursed}
 use Rattle.dx_shown.specs.Session.{Done, Shown, State as SessionState, and_then, silently, executed, joined, with_assignment}
 use Rattle.dx_shown.specs.Listed.{any_error}
 use Rattle.dx_telling.specs.declared.listings.Listings.{Listings}
-use Rattle.dx_sessions.specs.Does.{IsWhole, IsCutShort, IsDone}
+use Rattle.dx_sessions.specs.Does.{IsWhole, IsCutAt, IsDone}
+use Rattle.dx_sessions.specs.Places.{here}
 use Rattle.dx_sessions.specs.SessionView.{state_of}
 use Rattle.dx_sessions.specs.declared.session.Session.{Session}
 use Rattle.dx_sessions.proofs.Folding.{cut_with_more}
@@ -39,6 +40,12 @@ faulty_joins targets e st is = sym (joined_when targets e st true is)
 pub sound_joins : (targets : List Text) (e : Expr) (st : SessionState Kept) → is_some (first_fault st.dictionary (Assigns targets e)) ≡ false → with_assignment targets e st ≡ joined targets e st
 sound_joins targets e st is = sym (joined_when targets e st false is)
 
-pub cut_before_it : (l : Listings) (done : Done Kept Coursed) (next : SessionState Kept → SessionState Kept) (was now : Devices)
-    → IsCutShort l done.shown was now → IsCutShort l (and_then done (λ st. silently (next st))).shown was now
-cut_before_it l done next was now cut = cut_with_more l done.shown [] was now cut
+pub cut_before_it : (x : Fixed) (l : Listings) (st : SessionState Kept) (done : Done Kept Coursed) (next : SessionState Kept → SessionState Kept) (was : Devices) (new : Session) (now : Devices)
+    → IsCutAt x l (here st) done.shown was new now → IsCutAt x l (here st) (and_then done (λ later. silently (next later))).shown was new now
+cut_before_it x l st done next was new now cut = record {
+  short = cut_with_more l done.shown [] was now cut.short;
+  at = cut.at;
+  begins = cut.begins;
+  left = cut.left;
+  sound = cut.sound;
+}

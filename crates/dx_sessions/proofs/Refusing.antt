@@ -13,7 +13,7 @@ use Rattle.dx_sequencer.specs.Sequencer.{IsPlay, IsLongPlay, at_play, is_too_lon
 use Rattle.dx_sequencer.proofs.Playing.{is_long, is_short, steps_are}
 use Rattle.dx_performing.specs.Course.{Fixed}
 use Rattle.dx_performing.specs.Execution.{Export}
-use Rattle.dx_performing.specs.Kept.{Kept}
+use Rattle.dx_performing.specs.Kept.{Kept, current}
 use Rattle.dx_engine.specs.Keeping.{IsSoundState}
 use Rattle.dx_engine.specs.Executing.{Devices}
 use Rattle.dx_shown.specs.Made.{Coursed, coursed}
@@ -22,11 +22,13 @@ use Rattle.dx_shown.specs.Listed.{all_exports, all_tasks, any_error}
 use Rattle.dx_making.specs.declared.end.End.{End}
 use Rattle.dx_telling.specs.Shown.{frame_range, text_of, shown_texts}
 use Rattle.dx_telling.specs.declared.listings.Listings.{Listings}
-use Rattle.dx_sessions.specs.Does.{IsWhole, IsFront, IsCutShort, IsDone, DoesSo, SetsSo}
+use Rattle.dx_engine.specs.declared.state.State.{State as EngineState}
+use Rattle.dx_sessions.specs.Does.{IsWhole, IsFront, IsCutAt, IsDone, DoesSo, SetsSo}
+use Rattle.dx_sessions.specs.Places.{IsAmongSteps, here, in_play}
 use Rattle.dx_sessions.specs.SessionView.{state_of}
 use Rattle.dx_sessions.specs.declared.session.Session.{Session}
-use Rattle.dx_sessions.proofs.Folding.{none_whole, cut_in_one}
-use Rattle.dx_sessions.proofs.Doing.{silently_done}
+use Rattle.dx_sessions.proofs.Folding.{none_whole}
+use Rattle.dx_sessions.proofs.Doing.{silently_done, stays_at_line}
 
 abbrev pub IsRefusal : Shown Coursed → Type 0
 IsRefusal (Executes c) = ⊥
@@ -53,10 +55,10 @@ line_whole l (Executes c) was now r grown alone = absurd r
 line_whole l PlayTooLong was now r grown alone = record { printed = grown; puts = none_put was.puts now.puts alone.puts; told = none_told was.told now.told alone.told }
 line_whole l FrameRange was now r grown alone = record { printed = grown; puts = none_put was.puts now.puts alone.puts; told = none_told was.told now.told alone.told }
 
-pub line_cut : (l : Listings) (s : Shown Coursed) (was now : Devices) → IsRefusal s → GrowsInto was.written now.written (shown_texts l (s ∷ [])) → TextAlone was now → IsCutShort l (s ∷ []) was now
-line_cut l (Executes c) was now r grown alone = absurd r
-line_cut l PlayTooLong was now r grown alone = cut_in_one l PlayTooLong was now (record { printed = grown; puts = ([], [], refl, none_put was.puts now.puts alone.puts); told = some_told was.told now.told alone.told })
-line_cut l FrameRange was now r grown alone = cut_in_one l FrameRange was now (record { printed = grown; puts = ([], [], refl, none_put was.puts now.puts alone.puts); told = some_told was.told now.told alone.told })
+pub line_front : (l : Listings) (s : Shown Coursed) (was now : Devices) → IsRefusal s → GrowsInto was.written now.written (shown_texts l (s ∷ [])) → TextAlone was now → IsFront l (s ∷ []) was now
+line_front l (Executes c) was now r grown alone = absurd r
+line_front l PlayTooLong was now r grown alone = record { printed = grown; puts = ([], [], refl, none_put was.puts now.puts alone.puts); told = some_told was.told now.told alone.told }
+line_front l FrameRange was now r grown alone = record { printed = grown; puts = ([], [], refl, none_put was.puts now.puts alone.puts); told = some_told was.told now.told alone.told }
 
 -- ---- plays
 
@@ -73,20 +75,25 @@ long_done x l st new was now long same sound grown alone =
     subst (λ (d : Done Kept Coursed). IsDone x l d was true new now) (sym (long_play (coursed x) st long))
     (record { whole = line_whole l PlayTooLong was now tt grown alone; erred = refl; state = same; sound = sound })
 
-pub long_cut : (x : Fixed) (l : Listings) (st : State Kept) (was now : Devices) → IsLongPlay (at_play st.sequencer)
-    → GrowsInto was.written now.written (shown_texts l (PlayTooLong ∷ [])) → TextAlone was now → IsCutShort l (played (coursed x) st).shown was now
-long_cut x l st was now long grown alone =
-    subst (λ (d : Done Kept Coursed). IsCutShort l d.shown was now) (sym (long_play (coursed x) st long)) (line_cut l PlayTooLong was now tt grown alone)
+abbrev places_by : Making Kept Coursed → State Kept → Bool → List (Shown Coursed) → State Kept → Type 0
+places_by make st long before at = if long then here st before at else IsAmongSteps make (play_steps (at_play st.sequencer)) (with_sequencer (at_play st.sequencer) st) before at
 
-short_play : (make : Making Kept Coursed) (st : State Kept) (n : ℕ) → IsPlay (at_play st.sequencer) n → n ≤ max_steps → played make st ≡ stepped_often make n (with_sequencer (at_play st.sequencer) st)
-short_play make st n play few =
-    played_by make st false (is_short (at_play st.sequencer) n play few) ∙ ap (λ (m : ℕ). stepped_often make m (with_sequencer (at_play st.sequencer) st)) (steps_are (at_play st.sequencer) n play few)
+abbrev played_so : Making Kept Coursed → State Kept → Bool → Done Kept Coursed
+played_so make st long = if long then refused PlayTooLong st else stepped_often make (play_steps (at_play st.sequencer)) (with_sequencer (at_play st.sequencer) st)
+
+pub long_cut : (x : Fixed) (l : Listings) (st : State Kept) (was now : Devices) (new : Session) → IsLongPlay (at_play st.sequencer) → state_of new ≡ st → IsSoundState x new.state
+    → GrowsInto was.written now.written (shown_texts l (PlayTooLong ∷ [])) → TextAlone was now → IsCutAt x l (in_play (coursed x) st) (played (coursed x) st).shown was new now
+long_cut x l st was now new long same sound grown alone =
+    subst (λ (b : Bool). IsCutAt x l (places_by (coursed x) st b) (played_so (coursed x) st b).shown was new now) (sym (is_long (at_play st.sequencer) long))
+    (stays_at_line x l PlayTooLong was now st new (ap (λ (s : State Kept). current s.kept) same) (line_front l PlayTooLong was now tt grown alone) same sound)
 
 pub short_does : (x : Fixed) (l : Listings) (st started : State Kept) (new : Session) (n : ℕ) (was now : Devices) (r : Result Bool End)
     → IsPlay (at_play st.sequencer) n → n ≤ max_steps → started ≡ with_sequencer (at_play st.sequencer) st
-    → DoesSo x l (stepped_often (coursed x) n started) was r new now → DoesSo x l (played (coursed x) st) was r new now
+    → DoesSo x l (IsAmongSteps (coursed x) n started) (stepped_often (coursed x) n started) was r new now → DoesSo x l (in_play (coursed x) st) (played (coursed x) st) was r new now
 short_does x l st started new n was now r play few same done =
-    subst (λ (d : Done Kept Coursed). DoesSo x l d was r new now) (ap (stepped_often (coursed x) n) same ∙ sym (short_play (coursed x) st n play few)) done
+    let begun = subst (λ (y : State Kept). DoesSo x l (IsAmongSteps (coursed x) n y) (stepped_often (coursed x) n y) was r new now) same done in
+    let counted = subst (λ (m : ℕ). DoesSo x l (IsAmongSteps (coursed x) m (with_sequencer (at_play st.sequencer) st)) (stepped_often (coursed x) m (with_sequencer (at_play st.sequencer) st)) was r new now) (sym (steps_are (at_play st.sequencer) n play few)) begun in
+    subst (λ (b : Bool). DoesSo x l (places_by (coursed x) st b) (played_so (coursed x) st b) was r new now) (sym (is_short (at_play st.sequencer) n play few)) counted
 
 -- ---- settings
 
@@ -111,10 +118,11 @@ set_done_so x l v n st new was now failed is state sound grown alone = record {
   sound = sound;
 }
 
-pub set_cut : (l : Listings) (v : FrameVar) (n : ℤ) (st : State Kept) (was now : Devices) → is_refused v n ≡ true → GrowsInto was.written now.written (shown_texts l (FrameRange ∷ [])) → TextAlone was now
-    → IsCutShort l (set {K = Kept} {X = Coursed} v n st).shown was now
-set_cut l v n st was now is grown alone =
-    subst (λ (b : Bool). IsCutShort l (set_by b st (with_sequencer (seq.with_var v n st.sequencer) st)).shown was now) (sym is) (line_cut l FrameRange was now tt grown alone)
+set_cut : (x : Fixed) (l : Listings) (v : FrameVar) (n : ℤ) (st : State Kept) (new : Session) (was now : Devices) → is_refused v n ≡ true → state_of new ≡ st → IsSoundState x new.state
+    → GrowsInto was.written now.written (shown_texts l (FrameRange ∷ [])) → TextAlone was now → IsCutAt x l (here st) (set {K = Kept} {X = Coursed} v n st).shown was new now
+set_cut x l v n st new was now is same sound grown alone =
+    subst (λ (b : Bool). IsCutAt x l (here st) (set_by b st (with_sequencer (seq.with_var v n st.sequencer) st)).shown was new now) (sym is)
+    (stays_at_line x l FrameRange was now st new (ap (λ (s : State Kept). current s.kept) same) (line_front l FrameRange was now tt grown alone) same sound)
 
 abbrev SettingResult : Type 0
 SettingResult = Result (Unit {0}) RangeError
@@ -134,9 +142,10 @@ pub err_refused : (b : Bool) (r : SettingResult) (f : RangeError) → r ≡ Err 
 err_refused b r f err is = subst (λ (q : SettingResult). IsErrThen q b) (sym is ∙ err) (by_result b)
 
 -- a setting that was cut short
-pub set_cut_from : (v : FrameVar) (n : ℤ) (old new : Session) (was now : Devices) (fail : SinkFail) → SetsSo v n old new was.written now.written (Err fail) → TextAlone was now
-    → IsCutShort old.listings (set {K = Kept} {X = Coursed} v n (state_of old)).shown was now
-set_cut_from v n old new was now fail (refused, listings, grown) alone = set_cut old.listings v n (state_of old) was now refused grown alone
+pub set_cut_from : (x : Fixed) (v : FrameVar) (n : ℤ) (old new : Session) (was now : Devices) (fail : SinkFail) → SetsSo v n old new was.written now.written (Err fail) → IsSoundState x old.state → TextAlone was now
+    → IsCutAt x old.listings (here (state_of old)) (set {K = Kept} {X = Coursed} v n (state_of old)).shown was new now
+set_cut_from x v n old new was now fail (refused, state, listings, same, grown) sound alone =
+    set_cut x old.listings v n (state_of old) new was now refused same (subst (λ (s : EngineState). IsSoundState x s) (sym state) sound) grown alone
 
 -- a setting that is refused leaves the sequencer, and its line is shown
 pub refused_sets : (l : Listings) (v : FrameVar) (n : ℤ) (st : State Kept) (s : seq.State) (was now : Option (List ℕ)) → is_refused v n ≡ true

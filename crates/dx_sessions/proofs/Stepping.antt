@@ -8,11 +8,12 @@ use Rattle.dx_shown.specs.Session.{Done, Making, Shown, State, and_then, silentl
 use Rattle.dx_shown.specs.Listed.{any_error}
 use Rattle.dx_making.specs.declared.end.End.{End}
 use Rattle.dx_telling.specs.declared.listings.Listings.{Listings}
-use Rattle.dx_sessions.specs.Does.{IsWhole, IsCutShort, IsDone, DoesSo}
+use Rattle.dx_sessions.specs.Does.{IsWhole, IsCutAt, IsDone}
+use Rattle.dx_sessions.specs.Places.{IsAmongSteps, here, moved}
 use Rattle.dx_sessions.specs.SessionView.{state_of}
 use Rattle.dx_sessions.specs.declared.session.Session.{Session}
-use Rattle.dx_sessions.proofs.Doing.{done_on, cut_behind}
-use Rattle.dx_sessions.proofs.Folding.{cut_with_more}
+use Rattle.dx_sessions.proofs.Doing.{done_on}
+use Rattle.dx_sessions.proofs.Folding.{whole_on}
 
 -- ---- one step more
 
@@ -54,13 +55,36 @@ step_more x l n old mid new was between now erred failed first next =
     (done_on x l (stepped_often (coursed x) n old) (stepped (coursed x)) mid new was between now erred failed first next)
 
 -- one of them was cut short
-pub step_cut : (x : Fixed) (l : Listings) (n all : ℕ) (old : State Kept) (mid : Session) (was between now : Devices) (erred : Bool) → n < all
-    → IsDone x l (stepped_often (coursed x) n old) was erred mid between → IsCutShort l (stepped (coursed x) (state_of mid)).shown between now
-    → IsCutShort l (stepped_often (coursed x) all old).shown was now
-step_cut x l n all old mid was between now erred lt first cut =
-    let one : IsCutShort l (stepped_often (coursed x) (suc n) old).shown was now =
-    subst (λ (d : Done Kept Coursed). IsCutShort l d.shown was now) (sym (one_more (coursed x) n old))
-    (cut_behind x l (stepped_often (coursed x) n old) (stepped (coursed x)) mid was between now erred first cut) in
+pub step_cut : (x : Fixed) (l : Listings) (n all : ℕ) (old : State Kept) (mid new : Session) (was between now : Devices) (erred : Bool) → n < all
+    → IsDone x l (stepped_often (coursed x) n old) was erred mid between → IsCutAt x l (here (moved (state_of mid))) (stepped (coursed x) (state_of mid)).shown between new now
+    → IsCutAt x l (IsAmongSteps (coursed x) all old) (stepped_often (coursed x) all old).shown was new now
+step_cut x l n all old mid new was between now erred lt first cut =
     let left : suc n + (all - suc n) ≡ all = omega arith in
     let more = fewer (coursed x) old (suc n) (all - suc n) all left in
-    subst (λ (shown : List (Shown Coursed)). IsCutShort l shown was now) (sym more.1) (cut_with_more l (stepped_often (coursed x) (suc n) old).shown more.0 was now one)
+    let so_far = (stepped_often (coursed x) n old).shown in
+    let one = (stepped (coursed x) (state_of mid)).shown in
+    let split : (stepped_often (coursed x) all old).shown ≡ so_far ++ (one ++ more.0) =
+    more.1 ∙ ap (λ (d : Done Kept Coursed). d.shown ++ more.0) (one_more (coursed x) n old)
+    ∙ ap (λ (st : State Kept). (so_far ++ (stepped (coursed x) st).shown) ++ more.0) (sym first.state) ∙ append_assoc so_far one more.0 in
+    record {
+      short = record {
+        before = so_far ++ cut.short.before;
+        next = cut.short.next;
+        rest = cut.short.rest ++ more.0;
+        all = split ∙ ap (λ xs. so_far ++ (xs ++ more.0)) cut.short.all ∙ ap (λ xs. so_far ++ xs) (append_assoc cut.short.before (cut.short.next ++ cut.short.rest) more.0)
+            ∙ sym (append_assoc so_far cut.short.before ((cut.short.next ++ cut.short.rest) ++ more.0)) ∙ ap (λ xs. (so_far ++ cut.short.before) ++ xs) (append_assoc cut.short.next cut.short.rest more.0);
+        few = cut.short.few;
+        between = cut.short.between;
+        whole = whole_on l so_far cut.short.before was between cut.short.between first.whole cut.short.whole;
+        front = cut.short.front;
+      };
+      at = cut.at;
+      begins = record {
+        whole = n;
+        more = lt;
+        shown = ap (λ xs. so_far ++ xs) cut.begins.0 ∙ append-nil so_far;
+        state = cut.begins.1 ∙ ap moved first.state;
+      };
+      left = cut.left;
+      sound = cut.sound;
+    }

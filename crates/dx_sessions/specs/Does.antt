@@ -21,6 +21,8 @@ use Rattle.dx_making.specs.declared.end.End.{End}
 use Rattle.dx_telling.specs.Shown.{shown_texts}
 use Rattle.dx_telling.specs.declared.listings.Listings.{Listings}
 use Rattle.dx_sessions.specs.Ended.{is_error}
+use Rattle.dx_sessions.specs.Left.{IsLeft}
+use Rattle.dx_sessions.specs.Places.{here}
 use Rattle.dx_sessions.specs.SessionView.{state_of}
 use Rattle.dx_sessions.specs.declared.ended.Ended.{Ended}
 use Rattle.dx_sessions.specs.declared.session.Session.{Session}
@@ -63,14 +65,22 @@ pub record IsDone (x : Fixed) (listings : Listings) (done : Done Kept Coursed) (
   pub state : state_of new ≡ done.state
   pub sound : IsSoundState x new.state
 
-abbrev pub DoesSo : Fixed → Listings → Done Kept Coursed → Devices → Result Bool End → Session → Devices → Type 0
-DoesSo x listings done was (Ok erred) new now = IsDone x listings done was erred new now
-DoesSo x listings done was (Err end) new now = IsCutShort listings done.shown was now
+-- it was cut short, where what is shown next began at one of these places; the session is left there, and is sound again
+pub record IsCutAt (x : Fixed) (listings : Listings) (places : List (Shown Coursed) → SessionState Kept → Type 0) (shown : List (Shown Coursed)) (was : Devices) (new : Session) (now : Devices) : Type 0 where
+  pub short : IsCutShort listings shown was now
+  pub at : SessionState Kept
+  pub begins : places short.before at
+  pub left : IsLeft short.next at (state_of new)
+  pub sound : IsSoundState x new.state
+
+abbrev pub DoesSo : Fixed → Listings → (List (Shown Coursed) → SessionState Kept → Type 0) → Done Kept Coursed → Devices → Result Bool End → Session → Devices → Type 0
+DoesSo x listings places done was (Ok erred) new now = IsDone x listings done was erred new now
+DoesSo x listings places done was (Err end) new now = IsCutAt x listings places done.shown was new now
 
 -- the same of an execution
-abbrev pub ShowsSo : Fixed → Listings → Done Kept Coursed → Devices → Result Ended End → Session → Devices → Type 0
-ShowsSo x listings done was (Ok ended) new now = IsDone x listings done was (is_error ended) new now
-ShowsSo x listings done was (Err end) new now = IsCutShort listings done.shown was now
+abbrev pub ShowsSo : Fixed → Listings → SessionState Kept → Done Kept Coursed → Devices → Result Ended End → Session → Devices → Type 0
+ShowsSo x listings old done was (Ok ended) new now = IsDone x listings done was (is_error ended) new now
+ShowsSo x listings old done was (Err end) new now = IsCutAt x listings (here old) done.shown was new now
 
 -- macros, definitions, the sequencer and the sequence call are as before
 pub record OthersStay (old new : Session) : Type 0 where
@@ -92,7 +102,7 @@ abbrev pub SetsSo : FrameVar → ℤ → Session → Session → Option (List �
 SetsSo v n old new was now (Ok refused) =
     (refused ≡ is_refused v n) × (new.state ≡ old.state) × (new.listings ≡ old.listings)
     × (state_of new ≡ (set_done v n old).state) × Grows was now (shown_texts old.listings (set_done v n old).shown)
-SetsSo v n old new was now (Err fail) = (is_refused v n ≡ true) × (new.listings ≡ old.listings) × GrowsInto was now (shown_texts old.listings (FrameRange ∷ []))
+SetsSo v n old new was now (Err fail) = (is_refused v n ≡ true) × (new.state ≡ old.state) × (new.listings ≡ old.listings) × (state_of new ≡ state_of old) × GrowsInto was now (shown_texts old.listings (FrameRange ∷ []))
 
 -- the same of a whole session, of which no state is left
 abbrev pub PerformsSo : Listings → List (Shown Coursed) → Devices → Result Bool End → Devices → Type 0

@@ -1,5 +1,7 @@
 pub mod Sequence
 pub mod SessionView
+pub mod Places
+pub mod Left
 pub mod Does
 pub mod Ended
 pub mod Executes

@@ -9,6 +9,7 @@ ghost use Rattle.dx_engine.specs.Keeping.{StateFits};
 ghost use Rattle.dx_shown.specs.Made.{coursed};
 ghost use Rattle.dx_shown.specs.Session as spec;
 ghost use Rattle.dx_making.specs.declared.end.End.TheVariants.{ReadFault, WriteFault, ExportFault};
+ghost use Rattle.dx_sessions.specs.Places.{here};
 ghost use Rattle.dx_sessions.specs.Does.{DoesSo, OverSound, devices, joining};
 
 use crate::session::Session;
@@ -38,8 +39,8 @@ impl Session {
         ensures read_cause { Cause ReadFault (F.faults files.old) (F.faults files.new) result }
         ensures write_cause { Cause WriteFault (O.faults out.old) (O.faults out.new) result }
         ensures export_cause { Cause ExportFault (X.faults exports.old) (X.faults exports.new) result }
-        ensures fits { OnOk result (StateFits self.new.state) }
-        ensures does { OverSound L.answer (F.content files.old) self.old.state (λ x. DoesSo x self.old.listings (spec.assigned (coursed x) a.targets (plain_expr a.value) (state_of self.old)) (devices (L.done lib.old) (F.asked files.old) (O.written out.old) (X.puts exports.old)) result self.new (devices (L.done lib.new) (F.asked files.new) (O.written out.new) (X.puts exports.new))) }
+        ensures fits { StateFits self.new.state }
+        ensures does { OverSound L.answer (F.content files.old) self.old.state (λ x. DoesSo x self.old.listings (here (state_of self.old)) (spec.assigned (coursed x) a.targets (plain_expr a.value) (state_of self.old)) (devices (L.done lib.old) (F.asked files.old) (O.written out.old) (X.puts exports.old)) result self.new (devices (L.done lib.new) (F.asked files.new) (O.written out.new) (X.puts exports.new))) }
     {
         if has_call(&a.value) {
             return self.assign_call(alloc, a, files, exports, out, lib);
@@ -65,8 +66,8 @@ impl Session {
         ensures read_cause { Cause ReadFault (F.faults files.old) (F.faults files.new) result }
         ensures write_cause { Cause WriteFault (O.faults out.old) (O.faults out.new) result }
         ensures export_cause { Cause ExportFault (X.faults exports.old) (X.faults exports.new) result }
-        ensures fits { OnOk result (StateFits self.new.state) }
-        ensures does { OverSound L.answer (F.content files.old) self.old.state (λ x. DoesSo x self.old.listings (spec.and_then (spec.executed (coursed x) (state_of self.old) (Assigns a.targets (plain_expr a.value))) (λ next. spec.silently (spec.joined a.targets (plain_expr a.value) next))) (devices (L.done lib.old) (F.asked files.old) (O.written out.old) (X.puts exports.old)) result self.new (devices (L.done lib.new) (F.asked files.new) (O.written out.new) (X.puts exports.new))) }
+        ensures fits { StateFits self.new.state }
+        ensures does { OverSound L.answer (F.content files.old) self.old.state (λ x. DoesSo x self.old.listings (here (state_of self.old)) (spec.and_then (spec.executed (coursed x) (state_of self.old) (Assigns a.targets (plain_expr a.value))) (λ next. spec.silently (spec.joined a.targets (plain_expr a.value) next))) (devices (L.done lib.old) (F.asked files.old) (O.written out.old) (X.puts exports.old)) result self.new (devices (L.done lib.new) (F.asked files.new) (O.written out.new) (X.puts exports.new))) }
     {
         self.dictionary.reserve()?;
         let s = Stmt::Assign(a);

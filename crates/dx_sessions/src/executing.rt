@@ -1,5 +1,5 @@
 //! One execution: what its effects do, and what is told behind it.
-ghost use Rattle.std.specs.Prelude.{◌≡◌, IfOk, OnOk, is_some};
+ghost use Rattle.std.specs.Prelude.{◌≡◌, IfOk, is_some};
 ghost use Rattle.dx_io.specs.Devices.{Cause, WriteCause, Writes};
 ghost use Rattle.dx_ast.specs.Lawful.{IsLawful};
 ghost use Rattle.dx_ast.specs.Plain.{plain_stmt};
@@ -11,6 +11,7 @@ ghost use Rattle.dx_shown.specs.Session as spec;
 ghost use Rattle.dx_making.specs.declared.end.End.TheVariants.{ReadFault, WriteFault, ExportFault};
 ghost use Rattle.dx_telling.specs.Shown.{behind_of};
 ghost use Rattle.dx_telling.specs.Tells.{Tells};
+ghost use Rattle.dx_sessions.specs.Places.{here};
 ghost use Rattle.dx_sessions.specs.Does.{OthersStay, OverSound, DoesSo, ShowsSo, devices};
 ghost use Rattle.dx_sessions.specs.Ended.{is_faulty};
 ghost use Rattle.dx_sessions.specs.Executes.{ExecutesSo};
@@ -46,8 +47,8 @@ pub(crate) fn execute<F: Files, X: Exports, O: Sink, L: Library>(
     ensures write_cause { Cause WriteFault (O.faults out.old) (O.faults out.new) result }
     ensures export_cause { Cause ExportFault (X.faults exports.old) (X.faults exports.new) result }
     ensures faulty { IfOk result (λ ended. is_faulty ended ≡ is_some (first_fault (dictionary_of d.now) (plain_stmt s.now))) }
-    ensures fits { OnOk result (StateFits state.new) }
-    ensures executes { OverSound L.answer (F.content files.old) state.old (λ x. ExecutesSo x listings (coursed x (dictionary_of d.now) frames.now (plain_stmt s.now) (kept_of state.old)) (devices (L.done lib.old) (F.asked files.old) (O.written out.old) (X.puts exports.old)) result state.new (devices (L.done lib.new) (F.asked files.new) (O.written out.new) (X.puts exports.new))) }
+    ensures fits { StateFits state.new }
+    ensures executes { OverSound L.answer (F.content files.old) state.old (λ x. ExecutesSo x listings (kept_of state.old) (coursed x (dictionary_of d.now) frames.now (plain_stmt s.now) (kept_of state.old)) (devices (L.done lib.old) (F.asked files.old) (O.written out.old) (X.puts exports.old)) result state.new (devices (L.done lib.new) (F.asked files.new) (O.written out.new) (X.puts exports.new))) }
 {
     let failing = make(alloc, d, frames, s, state, files, exports, out, lib)?;
     match tell_behind(alloc, listings, &failing, state, out) {
@@ -100,8 +101,8 @@ impl Session {
         ensures write_cause { Cause WriteFault (O.faults out.old) (O.faults out.new) result }
         ensures export_cause { Cause ExportFault (X.faults exports.old) (X.faults exports.new) result }
         ensures faulty { IfOk result (λ ended. is_faulty ended ≡ is_some (first_fault (dictionary_of self.old.dictionary) (plain_stmt s.now))) }
-        ensures fits { OnOk result (StateFits self.new.state) }
-        ensures does { OverSound L.answer (F.content files.old) self.old.state (λ x. ShowsSo x self.old.listings (spec.executed (coursed x) (state_of self.old) (plain_stmt s.now)) (devices (L.done lib.old) (F.asked files.old) (O.written out.old) (X.puts exports.old)) result self.new (devices (L.done lib.new) (F.asked files.new) (O.written out.new) (X.puts exports.new))) }
+        ensures fits { StateFits self.new.state }
+        ensures does { OverSound L.answer (F.content files.old) self.old.state (λ x. ShowsSo x self.old.listings (state_of self.old) (spec.executed (coursed x) (state_of self.old) (plain_stmt s.now)) (devices (L.done lib.old) (F.asked files.old) (O.written out.old) (X.puts exports.old)) result self.new (devices (L.done lib.new) (F.asked files.new) (O.written out.new) (X.puts exports.new))) }
     {
         let frames = self.sequencer.frames();
         execute(
@@ -135,8 +136,8 @@ impl Session {
         ensures read_cause { Cause ReadFault (F.faults files.old) (F.faults files.new) result }
         ensures write_cause { Cause WriteFault (O.faults out.old) (O.faults out.new) result }
         ensures export_cause { Cause ExportFault (X.faults exports.old) (X.faults exports.new) result }
-        ensures fits { OnOk result (StateFits self.new.state) }
-        ensures does { OverSound L.answer (F.content files.old) self.old.state (λ x. DoesSo x self.old.listings (spec.executed (coursed x) (state_of self.old) (plain_stmt s)) (devices (L.done lib.old) (F.asked files.old) (O.written out.old) (X.puts exports.old)) result self.new (devices (L.done lib.new) (F.asked files.new) (O.written out.new) (X.puts exports.new))) }
+        ensures fits { StateFits self.new.state }
+        ensures does { OverSound L.answer (F.content files.old) self.old.state (λ x. DoesSo x self.old.listings (here (state_of self.old)) (spec.executed (coursed x) (state_of self.old) (plain_stmt s)) (devices (L.done lib.old) (F.asked files.old) (O.written out.old) (X.puts exports.old)) result self.new (devices (L.done lib.new) (F.asked files.new) (O.written out.new) (X.puts exports.new))) }
     {
         match self.execute(alloc, &s, files, exports, out, lib) {
             Ok(ended) => Ok(ended.is_error()),

@@ -1,10 +1,11 @@
 //! The words of the sequencer: steps and plays, which execute the sequence call, and the others.
-ghost use Rattle.std.specs.Prelude.{◌≡◌, OnOk};
+ghost use Rattle.std.specs.Prelude.{◌≡◌};
 ghost use Rattle.dx_io.specs.Devices.{Cause};
 ghost use Rattle.dx_engine.specs.Keeping.{StateFits};
 ghost use Rattle.dx_shown.specs.Made.{coursed};
 ghost use Rattle.dx_shown.specs.Session as spec;
 ghost use Rattle.dx_making.specs.declared.end.End.TheVariants.{ReadFault, WriteFault, ExportFault};
+ghost use Rattle.dx_sessions.specs.Places.{IsAmongSteps, here, in_play, in_word, moved};
 ghost use Rattle.dx_sessions.specs.Does.{DoesSo, OverSound, devices};
 ghost use Rattle.dx_sessions.specs.Switches.{Switches};
 
@@ -37,8 +38,8 @@ impl Session {
         ensures read_cause { Cause ReadFault (F.faults files.old) (F.faults files.new) result }
         ensures write_cause { Cause WriteFault (O.faults out.old) (O.faults out.new) result }
         ensures export_cause { Cause ExportFault (X.faults exports.old) (X.faults exports.new) result }
-        ensures fits { OnOk result (StateFits self.new.state) }
-        ensures does { OverSound L.answer (F.content files.old) self.old.state (λ x. DoesSo x self.old.listings (spec.told (coursed x) w (state_of self.old)) (devices (L.done lib.old) (F.asked files.old) (O.written out.old) (X.puts exports.old)) result self.new (devices (L.done lib.new) (F.asked files.new) (O.written out.new) (X.puts exports.new))) }
+        ensures fits { StateFits self.new.state }
+        ensures does { OverSound L.answer (F.content files.old) self.old.state (λ x. DoesSo x self.old.listings (in_word (coursed x) w (state_of self.old)) (spec.told (coursed x) w (state_of self.old)) (devices (L.done lib.old) (F.asked files.old) (O.written out.old) (X.puts exports.old)) result self.new (devices (L.done lib.new) (F.asked files.new) (O.written out.new) (X.puts exports.new))) }
     {
         match w {
             Word::Play => self.play(alloc, files, exports, out, lib),
@@ -83,8 +84,8 @@ impl Session {
         ensures read_cause { Cause ReadFault (F.faults files.old) (F.faults files.new) result }
         ensures write_cause { Cause WriteFault (O.faults out.old) (O.faults out.new) result }
         ensures export_cause { Cause ExportFault (X.faults exports.old) (X.faults exports.new) result }
-        ensures fits { OnOk result (StateFits self.new.state) }
-        ensures does { OverSound L.answer (F.content files.old) self.old.state (λ x. DoesSo x self.old.listings (spec.stepped (coursed x) (state_of self.old)) (devices (L.done lib.old) (F.asked files.old) (O.written out.old) (X.puts exports.old)) result self.new (devices (L.done lib.new) (F.asked files.new) (O.written out.new) (X.puts exports.new))) }
+        ensures fits { StateFits self.new.state }
+        ensures does { OverSound L.answer (F.content files.old) self.old.state (λ x. DoesSo x self.old.listings (here (moved (state_of self.old))) (spec.stepped (coursed x) (state_of self.old)) (devices (L.done lib.old) (F.asked files.old) (O.written out.old) (X.puts exports.old)) result self.new (devices (L.done lib.new) (F.asked files.new) (O.written out.new) (X.puts exports.new))) }
     {
         match self.sequencer.step() {
             Step::Ended => Ok(false),
@@ -107,8 +108,8 @@ impl Session {
         ensures read_cause { Cause ReadFault (F.faults files.old) (F.faults files.new) result }
         ensures write_cause { Cause WriteFault (O.faults out.old) (O.faults out.new) result }
         ensures export_cause { Cause ExportFault (X.faults exports.old) (X.faults exports.new) result }
-        ensures fits { OnOk result (StateFits self.new.state) }
-        ensures does { OverSound L.answer (F.content files.old) self.old.state (λ x. DoesSo x self.old.listings (spec.sequence_executed (coursed x) (state_of self.old).sequence (state_of self.old)) (devices (L.done lib.old) (F.asked files.old) (O.written out.old) (X.puts exports.old)) result self.new (devices (L.done lib.new) (F.asked files.new) (O.written out.new) (X.puts exports.new))) }
+        ensures fits { StateFits self.new.state }
+        ensures does { OverSound L.answer (F.content files.old) self.old.state (λ x. DoesSo x self.old.listings (here (state_of self.old)) (spec.sequence_executed (coursed x) (state_of self.old).sequence (state_of self.old)) (devices (L.done lib.old) (F.asked files.old) (O.written out.old) (X.puts exports.old)) result self.new (devices (L.done lib.new) (F.asked files.new) (O.written out.new) (X.puts exports.new))) }
     {
         let frames = self.sequencer.frames();
         match &self.sequence {
@@ -146,8 +147,8 @@ impl Session {
         ensures read_cause { Cause ReadFault (F.faults files.old) (F.faults files.new) result }
         ensures write_cause { Cause WriteFault (O.faults out.old) (O.faults out.new) result }
         ensures export_cause { Cause ExportFault (X.faults exports.old) (X.faults exports.new) result }
-        ensures fits { OnOk result (StateFits self.new.state) }
-        ensures does { OverSound L.answer (F.content files.old) self.old.state (λ x. DoesSo x self.old.listings (spec.played (coursed x) (state_of self.old)) (devices (L.done lib.old) (F.asked files.old) (O.written out.old) (X.puts exports.old)) result self.new (devices (L.done lib.new) (F.asked files.new) (O.written out.new) (X.puts exports.new))) }
+        ensures fits { StateFits self.new.state }
+        ensures does { OverSound L.answer (F.content files.old) self.old.state (λ x. DoesSo x self.old.listings (in_play (coursed x) (state_of self.old)) (spec.played (coursed x) (state_of self.old)) (devices (L.done lib.old) (F.asked files.old) (O.written out.old) (X.puts exports.old)) result self.new (devices (L.done lib.new) (F.asked files.new) (O.written out.new) (X.puts exports.new))) }
     {
         match self.sequencer.begin_play() {
             None => match write_all(out, play_too_long()) {
@@ -174,8 +175,8 @@ impl Session {
         ensures read_cause { Cause ReadFault (F.faults files.old) (F.faults files.new) result }
         ensures write_cause { Cause WriteFault (O.faults out.old) (O.faults out.new) result }
         ensures export_cause { Cause ExportFault (X.faults exports.old) (X.faults exports.new) result }
-        ensures fits { OnOk result (StateFits self.new.state) }
-        ensures does { OverSound L.answer (F.content files.old) self.old.state (λ x. DoesSo x self.old.listings (spec.stepped_often (coursed x) steps (state_of self.old)) (devices (L.done lib.old) (F.asked files.old) (O.written out.old) (X.puts exports.old)) result self.new (devices (L.done lib.new) (F.asked files.new) (O.written out.new) (X.puts exports.new))) }
+        ensures fits { StateFits self.new.state }
+        ensures does { OverSound L.answer (F.content files.old) self.old.state (λ x. DoesSo x self.old.listings (IsAmongSteps (coursed x) steps (state_of self.old)) (spec.stepped_often (coursed x) steps (state_of self.old)) (devices (L.done lib.old) (F.asked files.old) (O.written out.old) (X.puts exports.old)) result self.new (devices (L.done lib.new) (F.asked files.new) (O.written out.new) (X.puts exports.new))) }
     {
         let mut erred = false;
         for _ in 0..steps {

@@ -1,5 +1,5 @@
 //! What each statement does.
-ghost use Rattle.std.specs.Prelude.{◌≡◌, OnOk};
+ghost use Rattle.std.specs.Prelude.{◌≡◌};
 ghost use Rattle.dx_io.specs.Devices.{Cause, WriteCause};
 ghost use Rattle.dx_ast.specs.Lawful.{IsLawful};
 ghost use Rattle.dx_ast.specs.Plain.{plain_expr, plain_stmt};
@@ -8,6 +8,7 @@ ghost use Rattle.dx_engine.specs.Keeping.{StateFits};
 ghost use Rattle.dx_shown.specs.Made.{coursed};
 ghost use Rattle.dx_shown.specs.Session as spec;
 ghost use Rattle.dx_making.specs.declared.end.End.TheVariants.{ReadFault, WriteFault, ExportFault};
+ghost use Rattle.dx_sessions.specs.Places.{in_statement};
 ghost use Rattle.dx_sessions.specs.Does.{DoesSo, OverSound, SetsSo, devices};
 
 use crate::session::Session;
@@ -33,7 +34,10 @@ impl Session {
     /// # Errors
     ///
     /// `ReadFault`, `WriteFault`, `ExportFault`: only where that device's count of faults rose. `Memory`: only where memory ran out.
-    /// Executions before the one that was cut short are whole.
+    /// Executions before the one that was cut short are whole. The session can go on: macros, definitions and the sequence call are
+    /// those before the statement, the sequencer stands behind the step that led to that execution, the links are those before it (or
+    /// behind it, where the execution was made and what is told behind it was cut short), and the files that were put by then are
+    /// written files.
     pub fn statement<F: Files, X: Exports, O: Sink, L: Library>(
         &mut self,
         alloc: Global,
@@ -50,8 +54,8 @@ impl Session {
         ensures read_cause { Cause ReadFault (F.faults files.old) (F.faults files.new) result }
         ensures write_cause { Cause WriteFault (O.faults out.old) (O.faults out.new) result }
         ensures export_cause { Cause ExportFault (X.faults exports.old) (X.faults exports.new) result }
-        ensures fits { OnOk result (StateFits self.new.state) }
-        ensures does { OverSound L.answer (F.content files.old) self.old.state (λ x. DoesSo x self.old.listings (spec.statement (coursed x) (state_of self.old) (plain_stmt s)) (devices (L.done lib.old) (F.asked files.old) (O.written out.old) (X.puts exports.old)) result self.new (devices (L.done lib.new) (F.asked files.new) (O.written out.new) (X.puts exports.new))) }
+        ensures fits { StateFits self.new.state }
+        ensures does { OverSound L.answer (F.content files.old) self.old.state (λ x. DoesSo x self.old.listings (in_statement (coursed x) (state_of self.old) (plain_stmt s)) (spec.statement (coursed x) (state_of self.old) (plain_stmt s)) (devices (L.done lib.old) (F.asked files.old) (O.written out.old) (X.puts exports.old)) result self.new (devices (L.done lib.new) (F.asked files.new) (O.written out.new) (X.puts exports.new))) }
     {
         match s {
             Stmt::Assign(a) => self.assign(alloc, a, files, exports, out, lib),

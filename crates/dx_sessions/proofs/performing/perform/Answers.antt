@@ -110,7 +110,7 @@ returns-in_err-erred-clause-performs g c = λ map files.
     (is_cut x c.args.listings (statements (coursed x) (initial none_kept) (plain_stmts c.args.statements)) (statements (coursed x) (state_of at.session) (plain_stmts (into_iter_items at.statement-iterator))) one
     (λ (next : State Kept). statements (coursed x) next (plain_stmts rest)) at.erred at.session was mid now
     (next_statement (coursed x) (state_of at.session) (into_iter_items at.statement-iterator) c.in-Some.statement rest steps)
-    (subst (λ (l : Listings). IsCutShort l one.shown mid now) at.invariant.listings (c.in_err-erred.ensures.does x refl (at.invariant.same ∙ files) so_far.sound))
+    (subst (λ (l : Listings). IsCutShort l one.shown mid now) at.invariant.listings (c.in_err-erred.ensures.does x refl (at.invariant.same ∙ files) so_far.sound).short)
     so_far)
 
 pub returns-clause-performs : goal.returns-clause-performs

@@ -10,10 +10,11 @@ use Rattle.dx_macros.specs.Walk.{first_fault}
 use Rattle.dx_performing.specs.Kept.{Kept}
 use Rattle.dx_shown.specs.Made.{Coursed, coursed}
 use Rattle.dx_shown.specs.Session.{State, executed, joined, with_dictionary}
-use Rattle.dx_sessions.specs.Does.{IsCutShort, IsDone, devices, joining}
+use Rattle.dx_sessions.specs.Does.{IsCutAt, IsDone, devices, joining}
+use Rattle.dx_sessions.specs.Places.{here}
 use Rattle.dx_sessions.specs.Ended.{is_error}
 use Rattle.dx_sessions.specs.SessionView.{state_of}
-use Rattle.dx_sessions.proofs.Folding.{cut_at_once}
+use Rattle.dx_sessions.proofs.Doing.{stays_at_once}
 use Rattle.dx_sessions.proofs.Joining.{behind_it, cut_before_it, faulty_joins, sound_joins}
 use Rattle.dx_sessions.proofs.Statements.{assign_is}
 use Rattle.dx_sessions.proofs.session.Session.assign_call.Goals as goal
@@ -21,7 +22,8 @@ use Rattle.dx_sessions.proofs.session.Session.assign_call.Goals as goal
 pub returns-in_err-reserve-clause-does : goal.returns-in_err-reserve-clause-does
 returns-in_err-reserve-clause-does g c = λ x answers files sound.
     let p = err_from_is_err_and c.from_residual.result c.from_residual.ensures.1 in
-    rw p.1 (cut_at_once c.args.self.now.listings _ _)
+    let st = state_of c.args.self.now in
+    rw p.1 (stays_at_once x c.args.self.now.listings _ _ st _ (ap (λ (d : Dictionary). with_dictionary d st) c.reserve.ensures.same) sound)
 
 pub returns-in_err-ended-clause-does : goal.returns-in_err-ended-clause-does
 returns-in_err-ended-clause-does g c = λ x answers files sound.
@@ -32,9 +34,9 @@ returns-in_err-ended-clause-does g c = λ x answers files sound.
     let now = devices (g.L.Library.done c.execute.new.lib) (g.F.Files.asked c.execute.new.files) (g.O.Sink.written c.execute.new.out) (g.X.Exports.puts c.execute.new.exports) in
     let p = err_from_is_err_and c.from_residual-in_err-ended.result c.from_residual-in_err-ended.ensures.1 in
     rw p.1
-    (cut_before_it l (executed (coursed x) st s) (joined c.args.a.targets (plain_expr c.args.a.value)) was now
-    (subst (λ (d : Dictionary). IsCutShort l (executed (coursed x) (with_dictionary d st) s).shown was now) c.in_ok-reserve.ensures.same
-    (subst (λ (t : Stmt). IsCutShort l (executed (coursed x) (with_dictionary (dictionary_of c.reserve.new.self) st) t).shown was now) (assign_is (code.Assign c.args.a) c.args.a refl) (c.in_err-ended.ensures.does x answers files sound))))
+    (cut_before_it x l st (executed (coursed x) st s) (joined c.args.a.targets (plain_expr c.args.a.value)) was c.execute.new.self now
+    (subst (λ (d : Dictionary). IsCutAt x l (here (with_dictionary d st)) (executed (coursed x) (with_dictionary d st) s).shown was c.execute.new.self now) c.in_ok-reserve.ensures.same
+    (subst (λ (t : Stmt). IsCutAt x l (here (with_dictionary (dictionary_of c.reserve.new.self) st)) (executed (coursed x) (with_dictionary (dictionary_of c.reserve.new.self) st) t).shown was c.execute.new.self now) (assign_is (code.Assign c.args.a) c.args.a refl) (c.in_err-ended.ensures.does x answers files sound))))
 
 pub returns-then-is_faulty-clause-does : goal.returns-then-is_faulty-clause-does
 returns-then-is_faulty-clause-does g c = λ x answers files sound.

@@ -14,5 +14,5 @@ returns-clause-does g c = λ x answers files sound.
     let was = devices (g.L.Library.done c.args.lib.now) (g.F.Files.asked c.args.files.now) (g.O.Sink.written c.args.out.now) (g.X.Exports.puts c.args.exports.now) in
     let now = devices (g.L.Library.done c.execute.new.lib) (g.F.Files.asked c.execute.new.files) (g.O.Sink.written c.execute.new.out) (g.X.Exports.puts c.execute.new.exports) in
     shows x c.args.self.now.listings c.args.self.now _ (plain_stmt c.args.s.now) was now c.execute.result (record { dictionary = refl; sequencer = refl; sequence = refl; listings = refl })
-    (subst (λ (f : Frames). ExecutesSo x c.args.self.now.listings (coursed x (dictionary_of c.args.self.now.dictionary) f (plain_stmt c.args.s.now) (kept_of c.args.self.now.state)) was c.execute.result c.execute.new.state now)
+    (subst (λ (f : Frames). ExecutesSo x c.args.self.now.listings (kept_of c.args.self.now.state) (coursed x (dictionary_of c.args.self.now.dictionary) f (plain_stmt c.args.s.now) (kept_of c.args.self.now.state)) was c.execute.result c.execute.new.state now)
     c.frames-frames.ensures (c.execute.ensures.executes x answers files sound))

@@ -6,7 +6,8 @@ use Rattle.dx_macros.specs.DictionaryView.{dictionary_of}
 use Rattle.dx_engine.specs.Keeping.{kept_of}
 use Rattle.dx_shown.specs.Made.{coursed}
 use Rattle.dx_shown.specs.Session.{sequence_executed}
-use Rattle.dx_sessions.specs.Does.{IsCutShort, devices}
+use Rattle.dx_sessions.specs.Does.{IsCutAt, devices}
+use Rattle.dx_sessions.specs.Places.{here}
 use Rattle.dx_sessions.specs.Executes.{ExecutesSo}
 use Rattle.dx_sessions.specs.SessionView.{state_of}
 use Rattle.dx_sessions.proofs.Lawfulness.{lawful_sequence}
@@ -21,7 +22,7 @@ returns-in-Err-clause-does g c = λ x answers files sound.
     let old = c.args.self.now in
     let was = devices (g.L.Library.done c.args.lib.now) (g.F.Files.asked c.args.files.now) (g.O.Sink.written c.args.out.now) (g.X.Exports.puts c.args.exports.now) in
     let now = devices (g.L.Library.done c.execute.new.lib) (g.F.Files.asked c.execute.new.files) (g.O.Sink.written c.execute.new.out) (g.X.Exports.puts c.execute.new.exports) in
-    subst (λ (o : Option Stmt). IsCutShort old.listings (sequence_executed (coursed x) o (state_of old)).shown was now) (sym (ap (option_map plain_stmt) c.in-Some.is))
-    (shows x old.listings old old (plain_stmt c.in-Some.s) was now (Err c.in-Err.end) (record { dictionary = refl; sequencer = refl; sequence = refl; listings = refl })
-    (subst (λ (f : Frames). ExecutesSo x old.listings (coursed x (dictionary_of old.dictionary) f (plain_stmt c.in-Some.s) (kept_of old.state)) was (Err c.in-Err.end) old.state now)
+    subst (λ (o : Option Stmt). IsCutAt x old.listings (here (state_of old)) (sequence_executed (coursed x) o (state_of old)).shown was _ now) (sym (ap (option_map plain_stmt) c.in-Some.is))
+    (shows x old.listings old _ (plain_stmt c.in-Some.s) was now (Err c.in-Err.end) (record { dictionary = refl; sequencer = refl; sequence = refl; listings = refl })
+    (subst (λ (f : Frames). ExecutesSo x old.listings (kept_of old.state) (coursed x (dictionary_of old.dictionary) f (plain_stmt c.in-Some.s) (kept_of old.state)) was (Err c.in-Err.end) c.execute.new.state now)
     c.frames-frames.ensures (c.in-Err.ensures.executes x answers files sound)))

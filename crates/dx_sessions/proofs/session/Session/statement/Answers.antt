@@ -1,4 +1,4 @@
-use Rattle.std.proofs.Common.{◌≡◌, refl, sym, subst}
+use Rattle.std.proofs.Common.{◌≡◌, refl, sym, ap, subst}
 use Rattle.std.proofs.lemmas.Result.{err_from_is_err_and}
 use Rattle.dx_ast.specs.declared.statements.Stmt.TheVariants as code
 use Rattle.dx_ast.specs.Syntax.{Stmt}
@@ -6,41 +6,47 @@ use Rattle.dx_ast.specs.Lawful.{IsLawful}
 use Rattle.dx_ast.specs.Plain.{plain_expr}
 use Rattle.dx_sequencer.specs.Sequencer.{frames_of}
 use Rattle.dx_shown.specs.Made.{coursed}
-use Rattle.dx_shown.specs.Session.{executed, setting, statement}
-use Rattle.dx_sessions.specs.Does.{DoesSo, IsCutShort, devices}
+use Rattle.dx_shown.specs.Session.{executed, setting, statement, with_dictionary}
+use Rattle.dx_macros.specs.Dictionary.{Dictionary}
+use Rattle.dx_sessions.specs.Does.{DoesSo, IsCutAt, devices}
+use Rattle.dx_sessions.specs.Places.{here, in_statement}
 use Rattle.dx_sessions.specs.Sequence.{IsSequenceCall}
 use Rattle.dx_sessions.specs.SessionView.{state_of}
-use Rattle.dx_sessions.proofs.Folding.{cut_at_once}
+use Rattle.dx_sessions.proofs.Doing.{stays_at_once}
 use Rattle.dx_sessions.proofs.Refusing.{set_cut_from}
-use Rattle.dx_sessions.proofs.Statements.{call_is, setting_is, word_is, sequence_is}
+use Rattle.dx_sessions.proofs.Statements.{call_is, macro_is, setting_is, word_is, sequence_is}
 use Rattle.dx_sessions.proofs.session.Session.statement.Goals as goal
 
 pub returns-in-Call-clause-does : goal.returns-in-Call-clause-does
 returns-in-Call-clause-does g c = λ x answers files sound.
     let was = devices (g.L.Library.done c.args.lib.now) (g.F.Files.asked c.args.files.now) (g.O.Sink.written c.args.out.now) (g.X.Exports.puts c.args.exports.now) in
     let now = devices (g.L.Library.done c.execute_call.new.lib) (g.F.Files.asked c.execute_call.new.files) (g.O.Sink.written c.execute_call.new.out) (g.X.Exports.puts c.execute_call.new.exports) in
-    subst (λ (s : Stmt). DoesSo x c.args.self.now.listings (statement (coursed x) (state_of c.args.self.now) s) was c.execute_call.result c.execute_call.new.self now) (sym (call_is c.args.s c.in-Call.c c.in-Call.is))
-    (subst (λ (s : Stmt). DoesSo x c.args.self.now.listings (executed (coursed x) (state_of c.args.self.now) s) was c.execute_call.result c.execute_call.new.self now) (call_is (code.Call c.in-Call.c) c.in-Call.c refl)
+    subst (λ (s : Stmt). DoesSo x c.args.self.now.listings (in_statement (coursed x) (state_of c.args.self.now) s) (statement (coursed x) (state_of c.args.self.now) s) was c.execute_call.result c.execute_call.new.self now) (sym (call_is c.args.s c.in-Call.c c.in-Call.is))
+    (subst (λ (s : Stmt). DoesSo x c.args.self.now.listings (here (state_of c.args.self.now)) (executed (coursed x) (state_of c.args.self.now) s) was c.execute_call.result c.execute_call.new.self now) (call_is (code.Call c.in-Call.c) c.in-Call.c refl)
     (c.execute_call.ensures.does x answers files sound))
 
 pub returns-in_err-define-in-Macro-clause-does : goal.returns-in_err-define-in-Macro-clause-does
 returns-in_err-define-in-Macro-clause-does g c = λ x answers files sound.
     let p = err_from_is_err_and c.from_residual.result c.from_residual.ensures.1 in
-    rw p.1 (cut_at_once c.args.self.now.listings _ _)
+    let st = state_of c.args.self.now in
+    let was = devices (g.L.Library.done c.args.lib.now) (g.F.Files.asked c.args.files.now) (g.O.Sink.written c.args.out.now) (g.X.Exports.puts c.args.exports.now) in
+    rw p.1
+    (subst (λ (s : Stmt). IsCutAt x c.args.self.now.listings (in_statement (coursed x) st s) (statement (coursed x) st s).shown was _ was) (sym (macro_is c.args.s c.in-Macro.m c.in-Macro.is))
+    (stays_at_once x c.args.self.now.listings _ was st _ (ap (λ (d : Dictionary). with_dictionary d st) c.in_err-define-in-Macro.ensures.err) sound))
 
 pub returns-in-SetFrame-clause-does : goal.returns-in-SetFrame-clause-does
 returns-in-SetFrame-clause-does g c = λ x answers files sound.
     let old = c.args.self.now in
     let was = devices (g.L.Library.done c.args.lib.now) (g.F.Files.asked c.args.files.now) (g.O.Sink.written c.args.out.now) (g.X.Exports.puts c.args.exports.now) in
     let now = devices (g.L.Library.done c.args.lib.now) (g.F.Files.asked c.args.files.now) (g.O.Sink.written c.set.new.out) (g.X.Exports.puts c.args.exports.now) in
-    subst (λ (s : Stmt). IsCutShort old.listings (statement (coursed x) (state_of old) s).shown was now) (sym (setting_is c.args.s c.in-SetFrame.v c.in-SetFrame.e c.in-SetFrame.is))
-    (set_cut_from c.in-SetFrame.v (setting (frames_of old.sequencer) (plain_expr c.in-SetFrame.e)) old c.set.new.self was now c.in-Err.fail c.in-Err.ensures.sets (record { told = refl; puts = refl }))
+    subst (λ (s : Stmt). IsCutAt x old.listings (in_statement (coursed x) (state_of old) s) (statement (coursed x) (state_of old) s).shown was c.set.new.self now) (sym (setting_is c.args.s c.in-SetFrame.v c.in-SetFrame.e c.in-SetFrame.is))
+    (set_cut_from x c.in-SetFrame.v (setting (frames_of old.sequencer) (plain_expr c.in-SetFrame.e)) old c.set.new.self was now c.in-Err.fail c.in-Err.ensures.sets sound (record { told = refl; puts = refl }))
 
 pub returns-in-Word-clause-does : goal.returns-in-Word-clause-does
 returns-in-Word-clause-does g c = λ x answers files sound.
     let was = devices (g.L.Library.done c.args.lib.now) (g.F.Files.asked c.args.files.now) (g.O.Sink.written c.args.out.now) (g.X.Exports.puts c.args.exports.now) in
     let now = devices (g.L.Library.done c.tell.new.lib) (g.F.Files.asked c.tell.new.files) (g.O.Sink.written c.tell.new.out) (g.X.Exports.puts c.tell.new.exports) in
-    subst (λ (s : Stmt). DoesSo x c.args.self.now.listings (statement (coursed x) (state_of c.args.self.now) s) was c.tell.result c.tell.new.self now) (sym (word_is c.args.s c.in-Word.w c.in-Word.is))
+    subst (λ (s : Stmt). DoesSo x c.args.self.now.listings (in_statement (coursed x) (state_of c.args.self.now) s) (statement (coursed x) (state_of c.args.self.now) s) was c.tell.result c.tell.new.self now) (sym (word_is c.args.s c.in-Word.w c.in-Word.is))
     (c.tell.ensures.does x answers files sound)
 
 pub invariant_of-self-in-Sequence : goal.invariant_of-self-in-Sequence

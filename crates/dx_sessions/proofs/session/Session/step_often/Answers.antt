@@ -3,7 +3,8 @@ use Rattle.std.proofs.lemmas.Result.{err_from_is_err_and}
 use Rattle.dx_shown.specs.Made.{coursed}
 use Rattle.dx_shown.specs.Session.{stepped}
 use Rattle.dx_telling.specs.declared.listings.Listings.{Listings}
-use Rattle.dx_sessions.specs.Does.{IsDone, IsCutShort, devices}
+use Rattle.dx_sessions.specs.Does.{IsDone, IsCutAt, devices}
+use Rattle.dx_sessions.specs.Places.{here, moved}
 use Rattle.dx_sessions.specs.SessionView.{state_of}
 use Rattle.dx_sessions.proofs.Stepping.{step_more, step_cut}
 use Rattle.dx_sessions.proofs.session.Session.step_often.Goals as goal
@@ -16,8 +17,8 @@ returns-in_err-erred-clause-does g c = λ x answers files sound.
     let before = c.loop.invariant.done x answers files sound in
     let p = err_from_is_err_and c.from_residual.result c.from_residual.ensures.1 in
     rw p.1
-    (step_cut x c.args.self.now.listings c.loop.counter c.args.steps (state_of c.args.self.now) c.loop.self was mid now c.loop.erred c.loop-test.true before
-    (subst (λ (l : Listings). IsCutShort l (stepped (coursed x) (state_of c.loop.self)).shown mid now) c.loop.invariant.listings (c.in_err-erred.ensures.does x answers (c.loop.invariant.same ∙ files) before.sound)))
+    (step_cut x c.args.self.now.listings c.loop.counter c.args.steps (state_of c.args.self.now) c.loop.self c.step.new.self was mid now c.loop.erred c.loop-test.true before
+    (subst (λ (l : Listings). IsCutAt x l (here (moved (state_of c.loop.self))) (stepped (coursed x) (state_of c.loop.self)).shown mid c.step.new.self now) c.loop.invariant.listings (c.in_err-erred.ensures.does x answers (c.loop.invariant.same ∙ files) before.sound)))
 
 pub loop-preserved : goal.loop-preserved
 loop-preserved g c =

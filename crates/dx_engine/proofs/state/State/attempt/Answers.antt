@@ -4,7 +4,7 @@ use Rattle.dx_graph.specs.Unfolding.{unfolded}
 use Rattle.dx_looking.specs.Setting.{fixed}
 use Rattle.dx_engine.proofs.Executed.{short_so, execute_so, fits_behind}
 use Rattle.dx_engine.proofs.SoundBehind.{lawful_calls}
-use Rattle.dx_engine.proofs.state.State.execute.Goals as goal
+use Rattle.dx_engine.proofs.state.State.attempt.Goals as goal
 
 pub returns-in_err-gathered-clause-executes : goal.returns-in_err-gathered-clause-executes
 returns-in_err-gathered-clause-executes g c = λ map content sound.

@@ -1,0 +1,109 @@
+-- What is kept behind an execution that was cut short fits and is sound.
+use Rattle.std.proofs.Common.{◌≡◌, ◌≤◌, ℕ, List, [], map, refl, sym, ap, ap₂, ◌∙◌, subst, arith}
+use Rattle.std.specs.Prelude.{Result, Ok, Err}
+use Rattle.dx_macros.specs.Tree.{CallTree}
+use Rattle.dx_tags.specs.Closed.{heads_of}
+use Rattle.dx_links.specs.Denotes.{Around}
+use Rattle.dx_demand.specs.Terms.{AreExact}
+use Rattle.dx_demand.specs.Picked.{LinksFit}
+use Rattle.dx_demand.proofs.Growing.{links_fit_grows}
+use Rattle.dx_machine.specs.Sound.{IsSound}
+use Rattle.dx_getting.specs.Stands.{EntriesRight, world}
+use Rattle.dx_getting.specs.Steps.{AreCalls}
+use Rattle.dx_performing.specs.Kept.{Kept, LinkTerms}
+use Rattle.dx_performing.specs.Course.{Fixed, around_of, begins}
+use Rattle.dx_performing.specs.Meant.{LinksRight}
+use Rattle.dx_looking.specs.Setting.{IsBound, links_of}
+use Rattle.dx_looking.proofs.Growth.{links_same}
+use Rattle.dx_engine.specs.Keeping.{StateFits, kept_of, setting_of, IsSoundState}
+use Rattle.dx_engine.specs.Ending.{OnEnd, OnCut, SomePut}
+use Rattle.dx_engine.specs.Executing.{Devices, IsExecuted, IsCutEarly, IsCutLate, IsCut, NonePut, ExecutesSo}
+use Rattle.dx_engine.specs.Cutting.{IsCutFrom, IsForgotten}
+use Rattle.dx_engine.specs.declared.exec_error.ExecError.{ExecError}
+use Rattle.dx_engine.specs.declared.exec_error.ExecError.TheVariants.{Module, ReadFault, WriteFault, ExportFault, Memory}
+use Rattle.dx_engine.specs.declared.state.State.{State}
+
+module _ (st st1 st2 : State) (fits : StateFits st) (cut : IsCutFrom st st1) (gone : IsForgotten st1 st2) where
+  links_are : st2.links ≡ st.links
+  links_are = gone.links ∙ cut.links
+
+  fits_then : StateFits st2
+  fits_then = record {
+    exact = subst AreExact (sym gone.tags) cut.exact;
+    links = subst (λ y. LinksFit st2.tags y.links) (sym links_are) (subst (λ terms. LinksFit terms st.links.links) (sym gone.tags) (links_fit_grows st.tags st1.tags cut.goes_on st.links.links fits.links));
+    bound = subst (λ y. IsBound y.links st2.bound) (sym links_are) (subst (IsBound st.links.links) (sym (gone.bound ∙ cut.bound)) fits.bound);
+    entries = subst (AreCalls st2.tags) (sym gone.entries) tt;
+  }
+
+  terms_are : (kept_of st2).links ≡ (kept_of st).links
+  terms_are =
+      ap₂ (λ hs (y : _). links_of hs y) (ap heads_of gone.tags) (ap (λ y. y.links) links_are)
+      ∙ links_same st.tags st1.tags cut.goes_on st.links.links st.bound fits.links fits.bound
+
+  around_is : (x : Fixed) → around_of x (kept_of st2) ≡ around_of x (kept_of st)
+  around_is x = ap (λ held. around_of x (record { entries = []; terms = []; links = []; held = held; written = [] })) (gone.held ∙ cut.held)
+
+  sound_then : (x : Fixed) → IsSoundState x st → IsSoundState x st2
+  sound_then x s = record {
+    budget = s.budget ∙ sym (gone.budget ∙ cut.budget);
+    links = subst (λ (a : Around). LinksRight a (kept_of st2).links) (sym (around_is x)) (subst (LinksRight (around_of x (kept_of st))) (sym terms_are) s.links);
+    entries = subst (EntriesRight (setting_of st2) (world x.answer x.file)) (sym gone.entries) tt;
+    sound = subst (λ es. IsSound (around_of x (kept_of st2)) x.budget (record { entries = map _ es; known = []; events = [] })) (sym gone.entries) (record { entries = tt; bounded = omega arith; known = tt });
+  }
+
+-- ---- whatever is answered
+
+pub fits_behind_cut : (st st1 st2 : State) (r : Result (Unit {0}) ExecError) → StateFits st → OnEnd r (StateFits st1) → OnCut r (IsCutFrom st st1) → OnEnd r (st2 ≡ st1) → OnCut r (IsForgotten st1 st2) → StateFits st2
+fits_behind_cut st st1 st2 (Ok u) fits end cut same gone = subst StateFits (sym same) end
+fits_behind_cut st st1 st2 (Err (Module site code)) fits end cut same gone = subst StateFits (sym same) end
+fits_behind_cut st st1 st2 (Err ReadFault) fits end cut same gone = fits_then st st1 st2 fits cut gone
+fits_behind_cut st st1 st2 (Err WriteFault) fits end cut same gone = fits_then st st1 st2 fits cut gone
+fits_behind_cut st st1 st2 (Err ExportFault) fits end cut same gone = fits_then st st1 st2 fits cut gone
+fits_behind_cut st st1 st2 (Err Memory) fits end cut same gone = fits_then st st1 st2 fits cut gone
+
+pub budget_behind : (st st1 st2 : State) (r : Result (Unit {0}) ExecError) → OnEnd r (st1.cache.budget ≡ st.cache.budget) → OnCut r (IsCutFrom st st1) → OnEnd r (st2 ≡ st1) → OnCut r (IsForgotten st1 st2) → st2.cache.budget ≡ st.cache.budget
+budget_behind st st1 st2 (Ok u) end cut same gone = ap (λ (s : State). s.cache.budget) same ∙ end
+budget_behind st st1 st2 (Err (Module site code)) end cut same gone = ap (λ (s : State). s.cache.budget) same ∙ end
+budget_behind st st1 st2 (Err ReadFault) end cut same gone = gone.budget ∙ cut.budget
+budget_behind st st1 st2 (Err WriteFault) end cut same gone = gone.budget ∙ cut.budget
+budget_behind st st1 st2 (Err ExportFault) end cut same gone = gone.budget ∙ cut.budget
+budget_behind st st1 st2 (Err Memory) end cut same gone = gone.budget ∙ cut.budget
+
+pub links_behind_cut : (st st1 st2 : State) (r : Result (Unit {0}) ExecError) → OnCut r (IsCutFrom st st1) → OnCut r (IsForgotten st1 st2) → OnCut r (st2.links ≡ st.links)
+links_behind_cut st st1 st2 (Ok u) cut gone = tt
+links_behind_cut st st1 st2 (Err (Module site code)) cut gone = tt
+links_behind_cut st st1 st2 (Err ReadFault) cut gone = gone.links ∙ cut.links
+links_behind_cut st st1 st2 (Err WriteFault) cut gone = gone.links ∙ cut.links
+links_behind_cut st st1 st2 (Err ExportFault) cut gone = gone.links ∙ cut.links
+links_behind_cut st st1 st2 (Err Memory) cut gone = gone.links ∙ cut.links
+
+pub none_cached : (st1 st2 : State) (r : Result (Unit {0}) ExecError) → OnCut r (IsForgotten st1 st2) → OnCut r (st2.cache.entries ≡ [])
+none_cached st1 st2 (Ok u) gone = tt
+none_cached st1 st2 (Err (Module site code)) gone = tt
+none_cached st1 st2 (Err ReadFault) gone = gone.entries
+none_cached st1 st2 (Err WriteFault) gone = gone.entries
+none_cached st1 st2 (Err ExportFault) gone = gone.entries
+none_cached st1 st2 (Err Memory) gone = gone.entries
+
+module _ (x : Fixed) (st st1 st2 : State) (effects : List CallTree) (was now : Devices) where
+  pub sound_behind_cut : (r : Result (Unit {0}) ExecError) → StateFits st → IsSoundState x st → ExecutesSo x st effects was r st1 now → OnCut r (IsCutFrom st st1) → OnEnd r (st2 ≡ st1) → OnCut r (IsForgotten st1 st2) → IsSoundState x st2
+  sound_behind_cut (Ok u) fits sound h cut same gone = subst (IsSoundState x) (sym same) h.sound
+  sound_behind_cut (Err (Module site code)) fits sound h cut same gone = subst (IsSoundState x) (sym same) h.sound
+  sound_behind_cut (Err ReadFault) fits sound h cut same gone = sound_then st st1 st2 fits cut gone x sound
+  sound_behind_cut (Err WriteFault) fits sound h cut same gone = sound_then st st1 st2 fits cut gone x sound
+  sound_behind_cut (Err ExportFault) fits sound h cut same gone = sound_then st st1 st2 fits cut gone x sound
+  sound_behind_cut (Err Memory) fits sound h cut same gone = sound_then st st1 st2 fits cut gone x sound
+
+  none_put : st2.written ≡ st1.written → NonePut st was st1 now → NonePut st was st2 now
+  none_put e h = record { puts = h.puts; files = e ∙ h.files }
+
+  some_put : st2.written ≡ st1.written → (all : List _) → SomePut was.puts now.puts st.written.files st1.written.files all → SomePut was.puts now.puts st.written.files st2.written.files all
+  some_put e all h = subst (λ y. SomePut was.puts now.puts st.written.files y.files all) (sym e) h
+
+  pub executes_behind : (r : Result (Unit {0}) ExecError) → ExecutesSo x st effects was r st1 now → OnEnd r (st2 ≡ st1) → OnCut r (IsForgotten st1 st2) → ExecutesSo x st effects was r st2 now
+  executes_behind (Ok u) h same gone = subst (λ y. IsExecuted x st effects was (Ok u) y now) (sym same) h
+  executes_behind (Err (Module site code)) h same gone = subst (λ y. IsExecuted x st effects was (Err (Module site code)) y now) (sym same) h
+  executes_behind (Err ReadFault) h same gone = (h.0, none_put gone.written h.1)
+  executes_behind (Err WriteFault) h same gone = (h.0, none_put gone.written h.1)
+  executes_behind (Err ExportFault) h same gone = record { printed = h.printed; told = h.told; puts = some_put gone.written _ h.puts }
+  executes_behind (Err Memory) h same gone = record { early = h.early; puts = some_put gone.written _ h.puts }

@@ -1,0 +1,24 @@
+-- What is kept where an execution is cut short.
+use Rattle.std.specs.Prelude.{◌≡◌, []}
+use Rattle.dx_tags.specs.Closed.{GoesOn}
+use Rattle.dx_demand.specs.Terms.{AreExact}
+use Rattle.dx_engine.specs.declared.state.State.{State}
+
+-- further terms may be there, and results be cached or dropped; links, held values and the budget are as before
+pub record IsCutFrom (old new : State) : Type 0 where
+  pub exact : AreExact new.tags
+  pub goes_on : GoesOn old.tags new.tags
+  pub links : new.links ≡ old.links
+  pub bound : new.bound ≡ old.bound
+  pub held : new.held ≡ old.held
+  pub budget : new.cache.budget ≡ old.cache.budget
+
+-- no result is cached any more, and all else is as it was
+pub record IsForgotten (old new : State) : Type 0 where
+  pub entries : new.cache.entries ≡ []
+  pub budget : new.cache.budget ≡ old.cache.budget
+  pub tags : new.tags ≡ old.tags
+  pub links : new.links ≡ old.links
+  pub bound : new.bound ≡ old.bound
+  pub held : new.held ≡ old.held
+  pub written : new.written ≡ old.written
