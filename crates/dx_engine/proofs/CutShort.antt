@@ -1,8 +1,11 @@
 -- What is kept behind an execution that was cut short fits and is sound.
-use Rattle.std.proofs.Common.{◌≡◌, ◌≤◌, ℕ, List, [], map, refl, sym, ap, ap₂, ◌∙◌, subst, arith}
+use Rattle.std.proofs.Common.{◌≡◌, ◌≤◌, ℕ, List, [], map, Option, refl, sym, ap, ap₂, ◌∙◌, subst, arith}
 use Rattle.std.specs.Prelude.{Result, Ok, Err}
 use Rattle.dx_macros.specs.Tree.{CallTree}
-use Rattle.dx_tags.specs.Closed.{heads_of}
+use Rattle.dx_tags.specs.Closed.{heads_of, GoesOn}
+use Rattle.dx_io.proofs.Growing.{grows_by_nothing}
+use Rattle.dx_ending.specs.Putting.{ArePut}
+use Rattle.dx_performing.specs.Execution.{Export}
 use Rattle.dx_links.specs.Denotes.{Around}
 use Rattle.dx_demand.specs.Terms.{AreExact}
 use Rattle.dx_demand.specs.Picked.{LinksFit}
@@ -16,7 +19,7 @@ use Rattle.dx_performing.specs.Meant.{LinksRight}
 use Rattle.dx_looking.specs.Setting.{IsBound, links_of}
 use Rattle.dx_looking.proofs.Growth.{links_same}
 use Rattle.dx_engine.specs.Keeping.{StateFits, kept_of, setting_of, IsSoundState}
-use Rattle.dx_engine.specs.Ending.{OnEnd, OnCut, SomePut}
+use Rattle.dx_engine.specs.Ending.{OnEnd, OnCut, SomePut, HasPut}
 use Rattle.dx_engine.specs.Executing.{Devices, IsExecuted, IsCutEarly, IsCutLate, IsCut, NonePut, ExecutesSo}
 use Rattle.dx_engine.specs.Cutting.{IsCutFrom, IsForgotten}
 use Rattle.dx_engine.specs.declared.exec_error.ExecError.{ExecError}
@@ -50,6 +53,57 @@ module _ (st st1 st2 : State) (fits : StateFits st) (cut : IsCutFrom st st1) (go
     entries = subst (EntriesRight (setting_of st2) (world x.answer x.file)) (sym gone.entries) tt;
     sound = subst (λ es. IsSound (around_of x (kept_of st2)) x.budget (record { entries = map _ es; known = []; events = [] })) (sym gone.entries) (record { entries = tt; bounded = omega arith; known = tt });
   }
+
+-- ---- at a cut behind the last effect
+
+abbrev AreKept : State → State → Type 0
+AreKept st1 st2 = (st2.tags ≡ st1.tags) × (st2.held ≡ st1.held) × (st2.cache ≡ st1.cache)
+
+then_kept : (st st1 st2 : State) → IsCutFrom st st1 → st2.links ≡ st1.links → st2.bound ≡ st1.bound → AreKept st1 st2 → IsCutFrom st st2
+then_kept st st1 st2 cut links bound same = record {
+  exact = subst AreExact (sym same.0) cut.exact;
+  goes_on = subst (GoesOn st.tags) (sym same.0) cut.goes_on;
+  links = links ∙ cut.links;
+  bound = bound ∙ cut.bound;
+  held = same.1 ∙ cut.held;
+  budget = ap (λ (c : _). c.budget) same.2 ∙ cut.budget;
+}
+
+pub cut_at_end : (r : Result (Unit {0}) ExecError) (st st1 st2 : State) → IsCutFrom st st1 → OnCut r (st2.links ≡ st1.links) → OnCut r (st2.bound ≡ st1.bound) → OnCut r (AreKept st1 st2) → OnCut r (IsCutFrom st st2)
+cut_at_end (Ok u) st st1 st2 cut links bound same = tt
+cut_at_end (Err (Module site code)) st st1 st2 cut links bound same = tt
+cut_at_end (Err ReadFault) st st1 st2 cut links bound same = then_kept st st1 st2 cut links bound same
+cut_at_end (Err WriteFault) st st1 st2 cut links bound same = then_kept st st1 st2 cut links bound same
+cut_at_end (Err ExportFault) st st1 st2 cut links bound same = then_kept st st1 st2 cut links bound same
+cut_at_end (Err Memory) st st1 st2 cut links bound same = then_kept st st1 st2 cut links bound same
+
+-- ---- what was put
+
+pub none_has_put : (was : Option (List Export)) (st st1 : State) → st1.written ≡ st.written → HasPut was was st.written.files st1.written.files
+none_has_put was st st1 same = record { files = []; made = record { told = grows_by_nothing was; files = ap (λ (w : _). w.files) same } }
+
+pub has_put : (r : Result (Unit {0}) ExecError) (all : List Export) (was now : Option (List Export)) (st st1 st2 : State) → st1.written ≡ st.written
+    → OnEnd r (ArePut was now st1.written.files st2.written.files all) → OnCut r (SomePut was now st1.written.files st2.written.files all) → HasPut was now st.written.files st2.written.files
+has_put r all was now st st1 st2 same put some = subst (λ (w : _). HasPut was now w.files st2.written.files) same (by r put some)
+  where
+    by : (r : Result (Unit {0}) ExecError) → OnEnd r (ArePut was now st1.written.files st2.written.files all) → OnCut r (SomePut was now st1.written.files st2.written.files all) → HasPut was now st1.written.files st2.written.files
+    by (Ok u) put some = record { files = all; made = put }
+    by (Err (Module site code)) put some = record { files = all; made = put }
+    by (Err ReadFault) put some = record { files = some.front; made = some.made }
+    by (Err WriteFault) put some = record { files = some.front; made = some.made }
+    by (Err ExportFault) put some = record { files = some.front; made = some.made }
+    by (Err Memory) put some = record { files = some.front; made = some.made }
+
+pub put_behind : (was now : Option (List Export)) (st st1 st2 : State) (r : Result (Unit {0}) ExecError) → HasPut was now st.written.files st1.written.files → OnEnd r (st2 ≡ st1) → OnCut r (IsForgotten st1 st2) → HasPut was now st.written.files st2.written.files
+put_behind was now st st1 st2 r h same gone = subst (λ (w : _). HasPut was now st.written.files w.files) (sym (by r same gone)) h
+  where
+    by : (r : Result (Unit {0}) ExecError) → OnEnd r (st2 ≡ st1) → OnCut r (IsForgotten st1 st2) → st2.written ≡ st1.written
+    by (Ok u) same gone = ap (λ (s : State). s.written) same
+    by (Err (Module site code)) same gone = ap (λ (s : State). s.written) same
+    by (Err ReadFault) same gone = gone.written
+    by (Err WriteFault) same gone = gone.written
+    by (Err ExportFault) same gone = gone.written
+    by (Err Memory) same gone = gone.written
 
 -- ---- whatever is answered
 

@@ -62,6 +62,11 @@ pub record SomePut (was now : Option (List Export)) (before behind : FileMap) (a
   pub split : all ≡ front ++ rest
   pub made : ArePut was now before behind front
 
+-- some files were put, and are written files then, each over an earlier one of its name
+pub record HasPut (was now : Option (List Export)) (before behind : FileMap) : Type 0 where
+  pub files : List Export
+  pub made : ArePut was now before behind files
+
 abbrev pub ended_so : Option (List ℕ × Code) → Result (Unit {0}) ExecError → Type 0
 ended_so None r = r ≡ Ok tt
 ended_so (Some s) r = r ≡ Err (Module s.0 s.1)

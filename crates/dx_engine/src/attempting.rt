@@ -6,7 +6,7 @@ ghost use Rattle.dx_graph.specs.Unfolding.{unfolded};
 ghost use Rattle.dx_getting.specs.Told.{told};
 ghost use Rattle.dx_engine.specs.Keeping.{StateFits};
 ghost use Rattle.dx_engine.specs.Beginning.{FromState};
-ghost use Rattle.dx_engine.specs.Ending.{OnEnd, OnCut};
+ghost use Rattle.dx_engine.specs.Ending.{OnEnd, OnCut, HasPut};
 ghost use Rattle.dx_engine.specs.Cutting.{IsCutFrom, IsForgotten};
 ghost use Rattle.dx_engine.specs.Executing.{Devices, ExecutesSo};
 ghost use Rattle.dx_engine.specs.declared.exec_error.ExecError.TheVariants.{ReadFault, WriteFault, ExportFault};
@@ -38,6 +38,7 @@ impl State {
         ensures fits { OnEnd result (StateFits self.new) }
         ensures budget { OnEnd result (self.new.cache.budget ≡ self.old.cache.budget) }
         ensures cut { OnCut result (IsCutFrom self.old self.new) }
+        ensures written { HasPut (X.puts exports.old) (X.puts exports.new) self.old.written.files self.new.written.files }
         ensures executes { FromState L.answer (F.content files.old) self.old (λ x. ExecutesSo x self.old (unfolded (graph_of g.now)) (record { told = told (L.done lib.old) (F.asked files.old); written = O.written out.old; puts = X.puts exports.old }) result self.new (record { told = told (L.done lib.new) (F.asked files.new); written = O.written out.new; puts = X.puts exports.new })) }
     {
         let gathered = self.run(alloc, g, files, lib, out)?;

@@ -6,7 +6,7 @@ ghost use Rattle.dx_graph.specs.Unfolding.{unfolded};
 ghost use Rattle.dx_getting.specs.Told.{told};
 ghost use Rattle.dx_engine.specs.Keeping.{StateFits, IsSoundState};
 ghost use Rattle.dx_engine.specs.Beginning.{FromState};
-ghost use Rattle.dx_engine.specs.Ending.{OnCut};
+ghost use Rattle.dx_engine.specs.Ending.{OnCut, HasPut};
 ghost use Rattle.dx_engine.specs.Executing.{Devices, ExecutesSo};
 ghost use Rattle.dx_engine.specs.declared.exec_error.ExecError.TheVariants.{ReadFault, WriteFault, ExportFault};
 
@@ -49,6 +49,7 @@ impl State {
         ensures links { OnCut result (self.new.links ≡ self.old.links) }
         ensures forgets { OnCut result (self.new.cache.entries ≡ []) }
         ensures sound { FromState L.answer (F.content files.old) self.old (λ x. IsSoundState x self.new) }
+        ensures written { HasPut (X.puts exports.old) (X.puts exports.new) self.old.written.files self.new.written.files }
         ensures executes { FromState L.answer (F.content files.old) self.old (λ x. ExecutesSo x self.old (unfolded (graph_of g.now)) (record { told = told (L.done lib.old) (F.asked files.old); written = O.written out.old; puts = X.puts exports.old }) result self.new (record { told = told (L.done lib.new) (F.asked files.new); written = O.written out.new; puts = X.puts exports.new })) }
     {
         let ended = self.attempt(alloc, g, files, exports, out, lib);

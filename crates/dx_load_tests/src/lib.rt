@@ -22,4 +22,6 @@ mod print_tests;
 #[cfg(test)]
 mod sequencer_tests;
 #[cfg(test)]
+mod session_tests;
+#[cfg(test)]
 mod table_tests;

@@ -63,6 +63,13 @@ fn listed(alloc: Global, exports: &MemExports) -> Result<Vec<u8>, AllocError> {
     Ok(all)
 }
 
+// A folder to put into and a sink, of which these calls fail.
+pub fn devices(alloc: Global, fail: Failing) -> Result<(MemExports, MemSink), AllocError> {
+    let exports = MemExports::new(alloc, numbers(alloc, fail.put)?);
+    let out = MemSink::new(alloc, numbers(alloc, fail.write)?);
+    Ok((exports, out))
+}
+
 // What comes of a line over these files.
 pub fn run_line(
     alloc: Global,
@@ -72,8 +79,7 @@ pub fn run_line(
 ) -> Result<Seen, Fail> {
     let words = words(alloc, line)?;
     let mut files = files(alloc, texts, fail.read)?;
-    let mut exports = MemExports::new(alloc, numbers(alloc, fail.put)?);
-    let mut out = MemSink::new(alloc, numbers(alloc, fail.write)?);
+    let (mut exports, mut out) = devices(alloc, fail)?;
     let mut modules = Modules::new();
     let status = run_dxi(
         alloc,

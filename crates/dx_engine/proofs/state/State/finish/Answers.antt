@@ -31,6 +31,9 @@ returns-in_err-make_puts-clause-links g c = on_cut c.from_residual-in_err-make_p
 pub returns-in_err-make_puts-clause-bound : goal.returns-in_err-make_puts-clause-bound
 returns-in_err-make_puts-clause-bound g c = on_cut c.from_residual-in_err-make_puts.result _ refl
 
+pub returns-in_err-make_puts-clause-same : goal.returns-in_err-make_puts-clause-same
+returns-in_err-make_puts-clause-same g c = on_cut c.from_residual-in_err-make_puts.result _ (refl, refl, refl)
+
 pub returns-in_err-make_puts-clause-faults : goal.returns-in_err-make_puts-clause-faults
 returns-in_err-make_puts-clause-faults g c =
     let is = unput_is c.in_err-make_puts.field-0.0 c.from_residual-in_err-make_puts.result c.from_residual-in_err-make_puts.ensures.1 in
