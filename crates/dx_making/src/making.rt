@@ -8,6 +8,7 @@ ghost use Rattle.dx_macros.specs.Walk.{first_fault};
 ghost use Rattle.dx_getting.specs.Told.{told};
 ghost use Rattle.dx_engine.specs.Keeping.{StateFits, kept_of, IsSoundState};
 ghost use Rattle.dx_engine.specs.Beginning.{FromState};
+ghost use Rattle.dx_engine.specs.Ending.{HasPut};
 ghost use Rattle.dx_engine.specs.Executing.{Devices};
 ghost use Rattle.dx_shown.specs.Made.{coursed};
 ghost use Rattle.dx_making.specs.Failing.{is_faulty};
@@ -56,6 +57,7 @@ pub fn make<F: Files, X: Exports, O: Sink, L: Library>(
     ensures budget { state.new.cache.budget ≡ state.old.cache.budget }
     ensures sound { FromState L.answer (F.content files.old) state.old (λ x. IsSoundState x state.new) }
     ensures links { OnErr result (state.new.links ≡ state.old.links) }
+    ensures written { HasPut (X.puts exports.old) (X.puts exports.new) state.old.written.files state.new.written.files }
     ensures makes { FromState L.answer (F.content files.old) state.old (λ x. MakesSo x state.old (coursed x (dictionary_of d.now) frames.now (plain_stmt s.now) (kept_of state.old)) (record { told = told (L.done lib.old) (F.asked files.old); written = O.written out.old; puts = X.puts exports.old }) result state.new (record { told = told (L.done lib.new) (F.asked files.new); written = O.written out.new; puts = X.puts exports.new })) }
 {
     match check_and_expand(alloc, d, s, frames) {

@@ -1,6 +1,7 @@
 pub mod Folding
 pub mod Doing
 pub mod Executions
+pub mod Staying
 pub mod Stepping
 pub mod Fronts
 pub mod Causes

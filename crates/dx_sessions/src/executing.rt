@@ -5,6 +5,7 @@ ghost use Rattle.dx_ast.specs.Lawful.{IsLawful};
 ghost use Rattle.dx_ast.specs.Plain.{plain_stmt};
 ghost use Rattle.dx_macros.specs.DictionaryView.{dictionary_of};
 ghost use Rattle.dx_macros.specs.Walk.{first_fault};
+ghost use Rattle.dx_engine.specs.Ending.{HasPut};
 ghost use Rattle.dx_engine.specs.Keeping.{StateFits, kept_of};
 ghost use Rattle.dx_shown.specs.Made.{Coursed, coursed};
 ghost use Rattle.dx_shown.specs.Session as spec;
@@ -48,6 +49,7 @@ pub(crate) fn execute<F: Files, X: Exports, O: Sink, L: Library>(
     ensures export_cause { Cause ExportFault (X.faults exports.old) (X.faults exports.new) result }
     ensures faulty { IfOk result (λ ended. is_faulty ended ≡ is_some (first_fault (dictionary_of d.now) (plain_stmt s.now))) }
     ensures fits { StateFits state.new }
+    ensures written { HasPut (X.puts exports.old) (X.puts exports.new) state.old.written.files state.new.written.files }
     ensures executes { OverSound L.answer (F.content files.old) state.old (λ x. ExecutesSo x listings (kept_of state.old) (coursed x (dictionary_of d.now) frames.now (plain_stmt s.now) (kept_of state.old)) (devices (L.done lib.old) (F.asked files.old) (O.written out.old) (X.puts exports.old)) result state.new (devices (L.done lib.new) (F.asked files.new) (O.written out.new) (X.puts exports.new))) }
 {
     let failing = make(alloc, d, frames, s, state, files, exports, out, lib)?;
@@ -102,6 +104,7 @@ impl Session {
         ensures export_cause { Cause ExportFault (X.faults exports.old) (X.faults exports.new) result }
         ensures faulty { IfOk result (λ ended. is_faulty ended ≡ is_some (first_fault (dictionary_of self.old.dictionary) (plain_stmt s.now))) }
         ensures fits { StateFits self.new.state }
+        ensures written { HasPut (X.puts exports.old) (X.puts exports.new) self.old.state.written.files self.new.state.written.files }
         ensures does { OverSound L.answer (F.content files.old) self.old.state (λ x. ShowsSo x self.old.listings (state_of self.old) (spec.executed (coursed x) (state_of self.old) (plain_stmt s.now)) (devices (L.done lib.old) (F.asked files.old) (O.written out.old) (X.puts exports.old)) result self.new (devices (L.done lib.new) (F.asked files.new) (O.written out.new) (X.puts exports.new))) }
     {
         let frames = self.sequencer.frames();
@@ -137,6 +140,8 @@ impl Session {
         ensures write_cause { Cause WriteFault (O.faults out.old) (O.faults out.new) result }
         ensures export_cause { Cause ExportFault (X.faults exports.old) (X.faults exports.new) result }
         ensures fits { StateFits self.new.state }
+        ensures others { OthersStay self.old self.new }
+        ensures written { HasPut (X.puts exports.old) (X.puts exports.new) self.old.state.written.files self.new.state.written.files }
         ensures does { OverSound L.answer (F.content files.old) self.old.state (λ x. DoesSo x self.old.listings (here (state_of self.old)) (spec.executed (coursed x) (state_of self.old) (plain_stmt s)) (devices (L.done lib.old) (F.asked files.old) (O.written out.old) (X.puts exports.old)) result self.new (devices (L.done lib.new) (F.asked files.new) (O.written out.new) (X.puts exports.new))) }
     {
         match self.execute(alloc, &s, files, exports, out, lib) {

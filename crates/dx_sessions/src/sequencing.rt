@@ -1,12 +1,15 @@
 //! The words of the sequencer: steps and plays, which execute the sequence call, and the others.
-ghost use Rattle.std.specs.Prelude.{◌≡◌};
+ghost use Rattle.std.specs.Prelude.{◌≡◌, ◌<◌, ℕ, suc, OnErr};
 ghost use Rattle.dx_io.specs.Devices.{Cause};
+ghost use Rattle.dx_engine.specs.Ending.{HasPut};
 ghost use Rattle.dx_engine.specs.Keeping.{StateFits};
 ghost use Rattle.dx_shown.specs.Made.{coursed};
 ghost use Rattle.dx_shown.specs.Session as spec;
 ghost use Rattle.dx_making.specs.declared.end.End.TheVariants.{ReadFault, WriteFault, ExportFault};
+ghost use Rattle.dx_sequencer.specs.Sequencer as seq;
+ghost use Rattle.dx_sessions.specs.Left.{LeavesPlay, LeavesWord, Stays, after_steps};
 ghost use Rattle.dx_sessions.specs.Places.{IsAmongSteps, here, in_play, in_word, moved};
-ghost use Rattle.dx_sessions.specs.Does.{DoesSo, OverSound, devices};
+ghost use Rattle.dx_sessions.specs.Does.{DoesSo, OthersStay, OverSound, devices};
 ghost use Rattle.dx_sessions.specs.Switches.{Switches};
 
 use crate::executing::execute;
@@ -39,6 +42,9 @@ impl Session {
         ensures write_cause { Cause WriteFault (O.faults out.old) (O.faults out.new) result }
         ensures export_cause { Cause ExportFault (X.faults exports.old) (X.faults exports.new) result }
         ensures fits { StateFits self.new.state }
+        ensures stays { Stays (state_of self.old) (state_of self.new) }
+        ensures moved { OnErr result (LeavesWord w self.old.sequencer self.new.sequencer) }
+        ensures written { HasPut (X.puts exports.old) (X.puts exports.new) self.old.state.written.files self.new.state.written.files }
         ensures does { OverSound L.answer (F.content files.old) self.old.state (λ x. DoesSo x self.old.listings (in_word (coursed x) w (state_of self.old)) (spec.told (coursed x) w (state_of self.old)) (devices (L.done lib.old) (F.asked files.old) (O.written out.old) (X.puts exports.old)) result self.new (devices (L.done lib.new) (F.asked files.new) (O.written out.new) (X.puts exports.new))) }
     {
         match w {
@@ -54,6 +60,7 @@ impl Session {
     // Does what a word says that executes nothing.
     fn switch(&mut self, w: Word)
         ensures switches { Switches w (state_of self.old) (state_of self.new) }
+        ensures stays { Stays (state_of self.old) (state_of self.new) }
         ensures state { self.new.state ≡ self.old.state }
         ensures listings { self.new.listings ≡ self.old.listings }
     {
@@ -85,6 +92,9 @@ impl Session {
         ensures write_cause { Cause WriteFault (O.faults out.old) (O.faults out.new) result }
         ensures export_cause { Cause ExportFault (X.faults exports.old) (X.faults exports.new) result }
         ensures fits { StateFits self.new.state }
+        ensures stays { Stays (state_of self.old) (state_of self.new) }
+        ensures moved { self.new.sequencer ≡ seq.after_step self.old.sequencer }
+        ensures written { HasPut (X.puts exports.old) (X.puts exports.new) self.old.state.written.files self.new.state.written.files }
         ensures does { OverSound L.answer (F.content files.old) self.old.state (λ x. DoesSo x self.old.listings (here (moved (state_of self.old))) (spec.stepped (coursed x) (state_of self.old)) (devices (L.done lib.old) (F.asked files.old) (O.written out.old) (X.puts exports.old)) result self.new (devices (L.done lib.new) (F.asked files.new) (O.written out.new) (X.puts exports.new))) }
     {
         match self.sequencer.step() {
@@ -109,6 +119,8 @@ impl Session {
         ensures write_cause { Cause WriteFault (O.faults out.old) (O.faults out.new) result }
         ensures export_cause { Cause ExportFault (X.faults exports.old) (X.faults exports.new) result }
         ensures fits { StateFits self.new.state }
+        ensures others { OthersStay self.old self.new }
+        ensures written { HasPut (X.puts exports.old) (X.puts exports.new) self.old.state.written.files self.new.state.written.files }
         ensures does { OverSound L.answer (F.content files.old) self.old.state (λ x. DoesSo x self.old.listings (here (state_of self.old)) (spec.sequence_executed (coursed x) (state_of self.old).sequence (state_of self.old)) (devices (L.done lib.old) (F.asked files.old) (O.written out.old) (X.puts exports.old)) result self.new (devices (L.done lib.new) (F.asked files.new) (O.written out.new) (X.puts exports.new))) }
     {
         let frames = self.sequencer.frames();
@@ -148,6 +160,9 @@ impl Session {
         ensures write_cause { Cause WriteFault (O.faults out.old) (O.faults out.new) result }
         ensures export_cause { Cause ExportFault (X.faults exports.old) (X.faults exports.new) result }
         ensures fits { StateFits self.new.state }
+        ensures stays { Stays (state_of self.old) (state_of self.new) }
+        ensures moved { OnErr result (LeavesPlay self.old.sequencer self.new.sequencer) }
+        ensures written { HasPut (X.puts exports.old) (X.puts exports.new) self.old.state.written.files self.new.state.written.files }
         ensures does { OverSound L.answer (F.content files.old) self.old.state (λ x. DoesSo x self.old.listings (in_play (coursed x) (state_of self.old)) (spec.played (coursed x) (state_of self.old)) (devices (L.done lib.old) (F.asked files.old) (O.written out.old) (X.puts exports.old)) result self.new (devices (L.done lib.new) (F.asked files.new) (O.written out.new) (X.puts exports.new))) }
     {
         match self.sequencer.begin_play() {
@@ -176,6 +191,9 @@ impl Session {
         ensures write_cause { Cause WriteFault (O.faults out.old) (O.faults out.new) result }
         ensures export_cause { Cause ExportFault (X.faults exports.old) (X.faults exports.new) result }
         ensures fits { StateFits self.new.state }
+        ensures stays { Stays (state_of self.old) (state_of self.new) }
+        ensures moved { OnErr result ((n : ℕ) × (n < steps) × (self.new.sequencer ≡ after_steps (suc n) self.old.sequencer)) }
+        ensures written { HasPut (X.puts exports.old) (X.puts exports.new) self.old.state.written.files self.new.state.written.files }
         ensures does { OverSound L.answer (F.content files.old) self.old.state (λ x. DoesSo x self.old.listings (IsAmongSteps (coursed x) steps (state_of self.old)) (spec.stepped_often (coursed x) steps (state_of self.old)) (devices (L.done lib.old) (F.asked files.old) (O.written out.old) (X.puts exports.old)) result self.new (devices (L.done lib.new) (F.asked files.new) (O.written out.new) (X.puts exports.new))) }
     {
         let mut erred = false;

@@ -1,13 +1,15 @@
 //! What each statement does.
-ghost use Rattle.std.specs.Prelude.{◌≡◌};
+ghost use Rattle.std.specs.Prelude.{◌≡◌, OnErr};
 ghost use Rattle.dx_io.specs.Devices.{Cause, WriteCause};
 ghost use Rattle.dx_ast.specs.Lawful.{IsLawful};
 ghost use Rattle.dx_ast.specs.Plain.{plain_expr, plain_stmt};
 ghost use Rattle.dx_sequencer.specs.Sequencer as seq;
+ghost use Rattle.dx_engine.specs.Ending.{HasPut};
 ghost use Rattle.dx_engine.specs.Keeping.{StateFits};
 ghost use Rattle.dx_shown.specs.Made.{coursed};
 ghost use Rattle.dx_shown.specs.Session as spec;
 ghost use Rattle.dx_making.specs.declared.end.End.TheVariants.{ReadFault, WriteFault, ExportFault};
+ghost use Rattle.dx_sessions.specs.Left.{LeavesSequencer, Stays};
 ghost use Rattle.dx_sessions.specs.Places.{in_statement};
 ghost use Rattle.dx_sessions.specs.Does.{DoesSo, OverSound, SetsSo, devices};
 
@@ -55,6 +57,9 @@ impl Session {
         ensures write_cause { Cause WriteFault (O.faults out.old) (O.faults out.new) result }
         ensures export_cause { Cause ExportFault (X.faults exports.old) (X.faults exports.new) result }
         ensures fits { StateFits self.new.state }
+        ensures stays { OnErr result (Stays (state_of self.old) (state_of self.new)) }
+        ensures moved { OnErr result (LeavesSequencer (plain_stmt s) self.old.sequencer self.new.sequencer) }
+        ensures written { HasPut (X.puts exports.old) (X.puts exports.new) self.old.state.written.files self.new.state.written.files }
         ensures does { OverSound L.answer (F.content files.old) self.old.state (λ x. DoesSo x self.old.listings (in_statement (coursed x) (state_of self.old) (plain_stmt s)) (spec.statement (coursed x) (state_of self.old) (plain_stmt s)) (devices (L.done lib.old) (F.asked files.old) (O.written out.old) (X.puts exports.old)) result self.new (devices (L.done lib.new) (F.asked files.new) (O.written out.new) (X.puts exports.new))) }
     {
         match s {

@@ -6,6 +6,9 @@ use Rattle.dx_telling.specs.declared.listings.Listings.{Listings}
 use Rattle.dx_sessions.specs.Does.{IsDone, IsCutAt, devices}
 use Rattle.dx_sessions.specs.Places.{here, moved}
 use Rattle.dx_sessions.specs.SessionView.{state_of}
+use Rattle.dx_sequencer.specs.Sequencer as seq
+use Rattle.dx_sessions.proofs.Doing.{silently_done}
+use Rattle.dx_sessions.proofs.Staying.{stays_itself, stays_on, none_put_yet, put_on}
 use Rattle.dx_sessions.proofs.Stepping.{step_more, step_cut}
 use Rattle.dx_sessions.proofs.session.Session.step_often.Goals as goal
 
@@ -20,11 +23,41 @@ returns-in_err-erred-clause-does g c = λ x answers files sound.
     (step_cut x c.args.self.now.listings c.loop.counter c.args.steps (state_of c.args.self.now) c.loop.self c.step.new.self was mid now c.loop.erred c.loop-test.true before
     (subst (λ (l : Listings). IsCutAt x l (here (moved (state_of c.loop.self))) (stepped (coursed x) (state_of c.loop.self)).shown mid c.step.new.self now) c.loop.invariant.listings (c.in_err-erred.ensures.does x answers (c.loop.invariant.same ∙ files) before.sound)))
 
+pub returns-in_err-erred-clause-stays : goal.returns-in_err-erred-clause-stays
+returns-in_err-erred-clause-stays g c = stays_on (state_of c.args.self.now) (state_of c.loop.self) (state_of c.step.new.self) c.loop.invariant.stays c.step.ensures.stays
+
+pub returns-in_err-erred-clause-moved : goal.returns-in_err-erred-clause-moved
+returns-in_err-erred-clause-moved g c =
+    let p = err_from_is_err_and c.from_residual.result c.from_residual.ensures.1 in
+    rw p.1 (c.loop.counter, c.loop-test.true, c.step.ensures.moved ∙ ap (λ (s : seq.State). seq.after_step s) c.loop.invariant.moved)
+
+pub returns-in_err-erred-clause-written : goal.returns-in_err-erred-clause-written
+returns-in_err-erred-clause-written g c = put_on _ (g.X.Exports.puts c.loop.exports) _ _ c.loop.self.state.written.files _ c.loop.invariant.written c.step.ensures.written
+
+pub loop-init : goal.loop-init
+loop-init g c =
+    record {
+      within = omega arith;
+      stays = stays_itself (state_of c.args.self.now);
+      moved = refl;
+      written = none_put_yet (g.X.Exports.puts c.args.exports.now) c.args.self.now.state.written.files;
+      fits = c.requires.fits;
+      listings = refl;
+      same = refl;
+      reads = omega arith;
+      puts = omega arith;
+      writes = omega arith;
+      done = λ x answers files sound. silently_done x c.args.self.now.listings (state_of c.args.self.now) c.args.self.now _ refl sound;
+    }
+
 pub loop-preserved : goal.loop-preserved
 loop-preserved g c =
     let step = c.in_ok-erred.ensures in
     record {
       within = omega arith;
+      stays = stays_on (state_of c.args.self.now) (state_of c.loop.self) (state_of c.step.new.self) c.loop.invariant.stays c.step.ensures.stays;
+      moved = rw add-one (c.step.ensures.moved ∙ ap (λ (s : seq.State). seq.after_step s) c.loop.invariant.moved);
+      written = put_on _ (g.X.Exports.puts c.loop.exports) _ _ c.loop.self.state.written.files _ c.loop.invariant.written c.step.ensures.written;
       fits = step.fits;
       listings = step.listings ∙ c.loop.invariant.listings;
       same = step.same ∙ c.loop.invariant.same;

@@ -1,0 +1,45 @@
+-- What stays, and what was put, over calls one behind the other.
+use Rattle.std.proofs.Common.{◌≡◌, ℕ, ◌<◌, ◌≤◌, List, [], ◌∷◌, ◌++◌, Option, refl, sym, ap, subst, ◌∙◌, inr}
+use Rattle.dx_io.proofs.Growing.{grows_by_nothing, grows_on}
+use Rattle.dx_ending.specs.Putting.{ArePut}
+use Rattle.dx_performing.specs.Execution.{Export, after_exports}
+use Rattle.dx_performing.specs.Kept.{Kept}
+use Rattle.dx_tags.specs.Files.{FileMap, file_put}
+use Rattle.dx_engine.specs.Ending.{HasPut}
+use Rattle.dx_sequencer.specs.Sequencer as seq
+use Rattle.dx_sequencer.specs.Sequencer.{IsPlay, at_play, max_steps, play_steps}
+use Rattle.dx_sequencer.proofs.Playing.{steps_are}
+use Rattle.dx_shown.specs.Session.{State}
+use Rattle.dx_sessions.specs.Left.{LeavesPlay, Stays, after_steps}
+
+pub stays_itself : (a : State Kept) → Stays a a
+stays_itself a = record { dictionary = refl; sequence = refl }
+
+pub stays_on : (a b c : State Kept) → Stays a b → Stays b c → Stays a c
+stays_on a b c first second = record { dictionary = second.dictionary ∙ first.dictionary; sequence = second.sequence ∙ first.sequence }
+
+pub stays_same : (a b : State Kept) → b ≡ a → Stays a b
+stays_same a b same = record { dictionary = ap (λ (s : State Kept). s.dictionary) same; sequence = ap (λ (s : State Kept). s.sequence) same }
+
+-- ---- what was put
+
+pub none_put_yet : (was : Option (List Export)) (files : FileMap) → HasPut was was files files
+none_put_yet was files = record { files = []; made = record { told = grows_by_nothing was; files = refl } }
+
+exports_on : (files : FileMap) (a b : List Export) → after_exports files (a ++ b) ≡ after_exports (after_exports files a) b
+exports_on files [] b = refl
+exports_on files (e ∷ es) b = exports_on (file_put files e.0 e.1) es b
+
+pub put_on : (was mid now : Option (List Export)) (before between behind : FileMap) → HasPut was mid before between → HasPut mid now between behind → HasPut was now before behind
+put_on was mid now before between behind first second = record {
+  files = first.files ++ second.files;
+  made = record {
+    told = grows_on was mid now first.files second.files first.made.told second.made.told;
+    files = second.made.files ∙ ap (λ (files : FileMap). after_exports files second.files) first.made.files ∙ sym (exports_on before first.files second.files);
+  };
+}
+
+-- ---- plays
+
+pub play_left : (s new : seq.State) (n counted : ℕ) → IsPlay (at_play s) n → n ≤ max_steps → counted < n → new ≡ seq.after_step (after_steps counted (at_play s)) → LeavesPlay s new
+play_left s new n counted play few lt moved = inr (counted, subst (λ (m : ℕ). counted < m) (sym (steps_are (at_play s) n play few)) lt, moved)
