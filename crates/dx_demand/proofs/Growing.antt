@@ -1,7 +1,7 @@
 -- Terms that are added change nothing of what earlier tags name.
 use Rattle.dx_demand.specs.Terms.{AreArguments, IsValue}
 use Rattle.dx_demand.proofs.Terms.{arguments_on, value_grow}
-use Rattle.std.proofs.Common.{◌≡◌, List, [], ◌∷◌, length, Option, Some, None, option_map, refl, sym, ap, ◌∙◌, arith}
+use Rattle.std.proofs.Common.{◌≡◌, List, [], ◌∷◌, length, Option, Some, None, option_map, refl, sym, ap, ◌∙◌, append-nil, arith}
 use Rattle.dx_graph.specs.Graph.{Node}
 use Rattle.dx_tags.specs.declared.term.Term.{Term}
 use Rattle.dx_tags.specs.declared.term.ValueTag.{ValueTag}
@@ -16,7 +16,7 @@ use Rattle.dx_demand.specs.Memo.{Answers, shown, SettledFits, node_scans, MemoFi
 use Rattle.dx_demand.specs.Stack.{FrameFits, StackFits, Begins, StackRight}
 use Rattle.dx_demand.specs.Picked.{LinksFit}
 use Rattle.dx_demand.specs.Steps.{Holds, Tells, Sees, LeftRight}
-use Rattle.std.specs.Prelude.{Result, Ok, Err, OnOk, IfOk}
+use Rattle.std.specs.Prelude.{Result, Ok, Err, OnOk, OnErr, IfOk}
 use Rattle.dx_demand.specs.declared.settled.Port.{Port}
 use Rattle.dx_demand.specs.declared.settled.Settled.{Settled}
 use Rattle.dx_demand.specs.declared.settled.Settled.TheVariants as settled
@@ -101,9 +101,19 @@ pub on_ok_then : {T E : Type 0} (r : Result T E) {A B : Type 0} → OnOk r A →
 on_ok_then (Ok x) h f = f h
 on_ok_then (Err e) h f = tt
 
-pub if_ok_by : {T E : Type 0} (r : Result T E) {A : Type 0} (P : T → Type 0) → OnOk r A → (A → IfOk r P) → IfOk r P
-if_ok_by (Ok x) P h f = f h
-if_ok_by (Err e) P h f = tt
+-- what holds however it answers
+pub on_ok_with : {T E : Type 0} (r : Result T E) {A B : Type 0} → A → (A → B) → OnOk r B
+on_ok_with (Ok x) h f = f h
+on_ok_with (Err e) h f = tt
+
+pub if_ok_with : {T E : Type 0} (r : Result T E) {A : Type 0} (P : T → Type 0) → A → (A → IfOk r P) → IfOk r P
+if_ok_with (Ok x) P h f = f h
+if_ok_with (Err e) P h f = tt
+
+-- the terms go on also where there is no memory for one
+pub always_on : {T E : Type 0} (r : Result T E) (old new : List Term) → OnOk r (GoesOn old new) → OnErr r (new ≡ old) → GoesOn old new
+always_on (Ok t) old new ok err = ok
+always_on (Err e) old new ok err = ([], err ∙ sym (append-nil old))
 
 pub left_right_grows : (s : Sight) (nodes : List Node) (old new : List Term) → GoesOn old new → (answers : Answers) (fs : List Frame) → StackFits nodes old answers fs → LeftRight s nodes old fs → LeftRight s nodes new fs
 left_right_grows s nodes old new g answers [] h r = tt

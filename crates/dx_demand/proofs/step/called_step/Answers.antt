@@ -6,7 +6,7 @@ use Rattle.dx_demand.proofs.Leading.{unnamed_halted}
 use Rattle.dx_demand.proofs.PortSteps.{nodes_of}
 use Rattle.dx_demand.specs.Forming.{formings}
 use Rattle.dx_demand.proofs.FormedPorts.{unnamed_formed}
-use Rattle.dx_demand.proofs.Growing.{on_ok_then}
+use Rattle.dx_demand.proofs.Growing.{on_ok_with}
 use Rattle.dx_demand.proofs.Calls.{selectors_kept}
 use Rattle.dx_demand.proofs.step.called_step.Goals as goal
 
@@ -35,5 +35,5 @@ returns-else-has_name-clause-forms g c = λ s tells wrote m b w a.
     c.module_step.ensures.forms s m b w a (unnamed_formed s nodes (nodes_of (graph_of c.args.g.now) c.args.g.now.lawful) c.args.port c.requires.port.0 c.args.called c.requires.what (names_none c.args.called cc) (formings nodes c.args.tags.now c.args.memo.now))
 
 pub returns-else-has_name-clause-selected : goal.returns-else-has_name-clause-selected
-returns-else-has_name-clause-selected g c = λ h. on_ok_then c.module_step.result c.module_step.ensures.goes_on (λ more.
+returns-else-has_name-clause-selected g c = λ h. on_ok_with c.module_step.result c.module_step.ensures.goes_on (λ more.
     selectors_kept (graph_of c.args.g.now).nodes c.args.memo.now c.module_step.new.memo c.module_step.ensures.answers c.module_step.ensures.selectors h)

@@ -11,7 +11,7 @@ use Rattle.dx_meaning.specs.Scan.{Forms}
 use Rattle.dx_demand.specs.Given.{value_behind}
 use Rattle.dx_demand.specs.Memo.{selector_of, selector_scan, node_scans}
 use Rattle.dx_demand.specs.Steps.{SelectionFits, SelectionRight, StepRight}
-use Rattle.dx_demand.proofs.Growing.{tells_before, begins_grows, on_ok_then, if_ok_by}
+use Rattle.dx_demand.proofs.Growing.{tells_before, begins_grows, on_ok_then, on_ok_with, if_ok_with}
 use Rattle.dx_demand.proofs.Memos.{same_selectors_keep}
 use Rattle.dx_demand.proofs.Ports.{name_is_import, name_selects, name_place, selector_needs, named_rule}
 use Rattle.dx_demand.proofs.Leading.{selector_stops, named_halted}
@@ -120,7 +120,7 @@ returns-in_ok-file-in-Some-clause-right g c =
     let term = value_term (heads_of mid) c.in-Selects.t in
     let selects = name_selects (node_at nodes c.args.port.node).what c.args.called c.requires.what c.requires.selects in
     let new = c.module_step.new.tags in
-    λ s tells wrote m b. if_ok_by c.module_step.result (λ x. StepRight s nodes new c.args.port x) c.module_step.ensures.goes_on (λ more.
+    λ s tells wrote m b. if_ok_with c.module_step.result (λ x. StepRight s nodes new c.args.port x) c.module_step.ensures.goes_on (λ more.
     let e : selector_scan s nodes c.args.port.node ≡ Forms term = subst (SelectionRight s nodes mid c.args.port) c.in-Selects.is (c.in_ok-first.ensures.right s m) in
     let before = tells_before told mid new more s tells in
     let v : s.told term ≡ Some (value_behind c.in-Some.v) = sym (before c.in-Selects.t fits) ∙ sym c.value.ensures ∙ ap (option_map value_behind) c.in-Some.is in
@@ -202,7 +202,7 @@ returns-in_ok-file-in-Some-clause-forms g c = λ s tells wrote m b w a.
     let new = c.module_step.new.tags in
     let count = length c.module_step.new.arguments in
     step_then c.module_step.result s nodes old c.args.memo.now mid memo new c.module_step.new.memo c.args.port count selected.0
-    (if_ok_by c.module_step.result (λ x. FormsStep s nodes mid memo new c.module_step.new.memo c.args.port count x) c.module_step.ensures.goes_on (λ more.
+    (if_ok_with c.module_step.result (λ x. FormsStep s nodes mid memo new c.module_step.new.memo c.args.port count x) c.module_step.ensures.goes_on (λ more.
     let before = tells_before told mid new more s tells in
     let v : s.told term ≡ Some (value_behind c.in-Some.v) = sym (before c.in-Selects.t fits) ∙ sym c.value.ensures ∙ ap (option_map value_behind) c.in-Some.is in
     let begun = begins_grows old mid c.in_ok-first.ensures.goes_on (node_scans s nodes c.args.port.node) c.args.arguments.now c.requires.earlier b in
@@ -230,8 +230,8 @@ returns-in_ok-file-in-Some-clause-valued g c = λ a.
     (c.module_step.ensures.valued (subst (λ (x : Answers). AreValued x inputs (length c.args.arguments.now)) (sym same) a))
 
 pub returns-in_ok-file-in-Some-clause-selected : goal.returns-in_ok-file-in-Some-clause-selected
-returns-in_ok-file-in-Some-clause-selected g c = λ h. on_ok_then c.module_step.result c.module_step.ensures.goes_on (λ more.
+returns-in_ok-file-in-Some-clause-selected g c = λ h. on_ok_with c.module_step.result c.module_step.ensures.goes_on (λ more.
     selectors_kept (graph_of c.args.g.now).nodes c.select_term.new.memo c.module_step.new.memo c.module_step.ensures.answers c.module_step.ensures.selectors (c.in_ok-first.ensures.selected h))
 
 pub returns-in_ok-file-in-Some-clause-goes_on : goal.returns-in_ok-file-in-Some-clause-goes_on
-returns-in_ok-file-in-Some-clause-goes_on g c = on_ok_then c.module_step.result c.module_step.ensures.goes_on (λ more. goes_on_then c.args.tags.now c.select_term.new.tags c.module_step.new.tags c.in_ok-first.ensures.goes_on more)
+returns-in_ok-file-in-Some-clause-goes_on g c = goes_on_then c.args.tags.now c.select_term.new.tags c.module_step.new.tags c.in_ok-first.ensures.goes_on c.module_step.ensures.goes_on

@@ -3,7 +3,7 @@ use Rattle.dx_demand.proofs.Finding.{kept_itself, kept_same, all_found_grows, me
 use Rattle.dx_demand.proofs.Terms.{arguments_on}
 use Rattle.dx_graph.specs.GraphView.{graph_of}
 use Rattle.dx_demand.specs.Memo.{node_scans}
-use Rattle.dx_demand.proofs.Growing.{memo_fits_grows, memo_right_grows, begins_grows, on_ok_then}
+use Rattle.dx_demand.proofs.Growing.{memo_fits_grows, memo_right_grows, begins_grows, on_ok_with}
 use Rattle.std.proofs.Common.{length}
 use Rattle.dx_demand.proofs.FormedSteps.{step_with}
 use Rattle.dx_demand.proofs.step.next_step.Goals as goal
@@ -18,45 +18,45 @@ pub returns-in-GetLocal-clause-right : goal.returns-in-GetLocal-clause-right
 returns-in-GetLocal-clause-right g c = λ s sees m b. c.selector_step-in-GetLocal.ensures.right s sees.told sees.linked m
 
 pub returns-in-Effect-clause-earlier : goal.returns-in-Effect-clause-earlier
-returns-in-Effect-clause-earlier g c = on_ok_then c.effect_step.result c.effect_step.ensures.goes_on (λ more. arguments_on c.args.tags.now c.effect_step.new.tags more c.args.arguments.now c.requires.earlier)
+returns-in-Effect-clause-earlier g c = on_ok_with c.effect_step.result c.effect_step.ensures.goes_on (λ more. arguments_on c.args.tags.now c.effect_step.new.tags more c.args.arguments.now c.requires.earlier)
 
 pub returns-in-Effect-clause-memo : goal.returns-in-Effect-clause-memo
-returns-in-Effect-clause-memo g c = on_ok_then c.effect_step.result c.effect_step.ensures.goes_on (λ more. memo_fits_grows (graph_of c.args.g.now).nodes c.args.tags.now c.effect_step.new.tags more c.args.memo.now c.requires.memo)
+returns-in-Effect-clause-memo g c = on_ok_with c.effect_step.result c.effect_step.ensures.goes_on (λ more. memo_fits_grows (graph_of c.args.g.now).nodes c.args.tags.now c.effect_step.new.tags more c.args.memo.now c.requires.memo)
 
 pub returns-in-Effect-clause-fits : goal.returns-in-Effect-clause-fits
 returns-in-Effect-clause-fits g c = c.effect_step.ensures.fits (g.G.Given.told c.args.given.now)
 
 pub returns-in-Effect-clause-memo_right : goal.returns-in-Effect-clause-memo_right
-returns-in-Effect-clause-memo_right g c = λ s m. on_ok_then c.effect_step.result c.effect_step.ensures.goes_on (λ more. memo_right_grows s (graph_of c.args.g.now).nodes c.args.tags.now c.effect_step.new.tags more c.args.memo.now c.requires.memo m)
+returns-in-Effect-clause-memo_right g c = λ s m. on_ok_with c.effect_step.result c.effect_step.ensures.goes_on (λ more. memo_right_grows s (graph_of c.args.g.now).nodes c.args.tags.now c.effect_step.new.tags more c.args.memo.now c.requires.memo m)
 
 pub returns-in-Effect-clause-begins : goal.returns-in-Effect-clause-begins
-returns-in-Effect-clause-begins g c = λ s m b. on_ok_then c.effect_step.result c.effect_step.ensures.goes_on (λ more. begins_grows c.args.tags.now c.effect_step.new.tags more (node_scans s (graph_of c.args.g.now).nodes c.args.port.node) c.args.arguments.now c.requires.earlier b)
+returns-in-Effect-clause-begins g c = λ s m b. on_ok_with c.effect_step.result c.effect_step.ensures.goes_on (λ more. begins_grows c.args.tags.now c.effect_step.new.tags more (node_scans s (graph_of c.args.g.now).nodes c.args.port.node) c.args.arguments.now c.requires.earlier b)
 
 pub returns-in-Switch-clause-earlier : goal.returns-in-Switch-clause-earlier
-returns-in-Switch-clause-earlier g c = on_ok_then c.selector_step.result c.selector_step.ensures.goes_on (λ more. arguments_on c.args.tags.now c.selector_step.new.tags more c.args.arguments.now c.requires.earlier)
+returns-in-Switch-clause-earlier g c = on_ok_with c.selector_step.result c.selector_step.ensures.goes_on (λ more. arguments_on c.args.tags.now c.selector_step.new.tags more c.args.arguments.now c.requires.earlier)
 
 pub returns-in-Switch-clause-begins : goal.returns-in-Switch-clause-begins
-returns-in-Switch-clause-begins g c = λ s m b. on_ok_then c.selector_step.result c.selector_step.ensures.goes_on (λ more. begins_grows c.args.tags.now c.selector_step.new.tags more (node_scans s (graph_of c.args.g.now).nodes c.args.port.node) c.args.arguments.now c.requires.earlier b)
+returns-in-Switch-clause-begins g c = λ s m b. on_ok_with c.selector_step.result c.selector_step.ensures.goes_on (λ more. begins_grows c.args.tags.now c.selector_step.new.tags more (node_scans s (graph_of c.args.g.now).nodes c.args.port.node) c.args.arguments.now c.requires.earlier b)
 
 pub returns-in-GetLocal-clause-earlier : goal.returns-in-GetLocal-clause-earlier
-returns-in-GetLocal-clause-earlier g c = on_ok_then c.selector_step-in-GetLocal.result c.selector_step-in-GetLocal.ensures.goes_on (λ more. arguments_on c.args.tags.now c.selector_step-in-GetLocal.new.tags more c.args.arguments.now c.requires.earlier)
+returns-in-GetLocal-clause-earlier g c = on_ok_with c.selector_step-in-GetLocal.result c.selector_step-in-GetLocal.ensures.goes_on (λ more. arguments_on c.args.tags.now c.selector_step-in-GetLocal.new.tags more c.args.arguments.now c.requires.earlier)
 
 pub returns-in-GetLocal-clause-begins : goal.returns-in-GetLocal-clause-begins
-returns-in-GetLocal-clause-begins g c = λ s m b. on_ok_then c.selector_step-in-GetLocal.result c.selector_step-in-GetLocal.ensures.goes_on (λ more. begins_grows c.args.tags.now c.selector_step-in-GetLocal.new.tags more (node_scans s (graph_of c.args.g.now).nodes c.args.port.node) c.args.arguments.now c.requires.earlier b)
+returns-in-GetLocal-clause-begins g c = λ s m b. on_ok_with c.selector_step-in-GetLocal.result c.selector_step-in-GetLocal.ensures.goes_on (λ more. begins_grows c.args.tags.now c.selector_step-in-GetLocal.new.tags more (node_scans s (graph_of c.args.g.now).nodes c.args.port.node) c.args.arguments.now c.requires.earlier b)
 
 pub returns-in-Effect-clause-memo_found : goal.returns-in-Effect-clause-memo_found
-returns-in-Effect-clause-memo_found g c = λ m f. on_ok_then c.effect_step.result c.effect_step.ensures.goes_on (λ more. memo_found_grows (graph_of c.args.g.now).nodes c.args.tags.now c.effect_step.new.tags more c.requires.formed.formed c.args.links.now.links c.args.memo.now c.requires.memo m)
+returns-in-Effect-clause-memo_found g c = λ m f. on_ok_with c.effect_step.result c.effect_step.ensures.goes_on (λ more. memo_found_grows (graph_of c.args.g.now).nodes c.args.tags.now c.effect_step.new.tags more c.requires.formed.formed c.args.links.now.links c.args.memo.now c.requires.memo m)
 
 pub returns-in-Effect-clause-arguments_found : goal.returns-in-Effect-clause-arguments_found
-returns-in-Effect-clause-arguments_found g c = λ m f. on_ok_then c.effect_step.result c.effect_step.ensures.goes_on (λ more.
+returns-in-Effect-clause-arguments_found g c = λ m f. on_ok_with c.effect_step.result c.effect_step.ensures.goes_on (λ more.
     all_found_grows c.args.tags.now c.effect_step.new.tags more c.args.links.now.links (formed_of c.args.memo.now) (formed_of c.args.memo.now) (kept_itself (formed_of c.args.memo.now)) c.args.arguments.now c.requires.earlier.earlier f)
 
 pub returns-in-Switch-clause-arguments_found : goal.returns-in-Switch-clause-arguments_found
-returns-in-Switch-clause-arguments_found g c = λ m f. on_ok_then c.selector_step.result c.selector_step.ensures.goes_on (λ more.
+returns-in-Switch-clause-arguments_found g c = λ m f. on_ok_with c.selector_step.result c.selector_step.ensures.goes_on (λ more.
     all_found_grows c.args.tags.now c.selector_step.new.tags more c.args.links.now.links (formed_of c.args.memo.now) (formed_of c.selector_step.new.memo) (kept_same c.args.memo.now c.selector_step.new.memo c.selector_step.ensures.same) c.args.arguments.now c.requires.earlier.earlier f)
 
 pub returns-in-GetLocal-clause-arguments_found : goal.returns-in-GetLocal-clause-arguments_found
-returns-in-GetLocal-clause-arguments_found g c = λ m f. on_ok_then c.selector_step-in-GetLocal.result c.selector_step-in-GetLocal.ensures.goes_on (λ more.
+returns-in-GetLocal-clause-arguments_found g c = λ m f. on_ok_with c.selector_step-in-GetLocal.result c.selector_step-in-GetLocal.ensures.goes_on (λ more.
     all_found_grows c.args.tags.now c.selector_step-in-GetLocal.new.tags more c.args.links.now.links (formed_of c.args.memo.now) (formed_of c.selector_step-in-GetLocal.new.memo) (kept_same c.args.memo.now c.selector_step-in-GetLocal.new.memo c.selector_step-in-GetLocal.ensures.same) c.args.arguments.now c.requires.earlier.earlier f)
 
 pub returns-in-Module-clause-forms : goal.returns-in-Module-clause-forms
@@ -87,13 +87,13 @@ pub returns-in-GetLocal-clause-met : goal.returns-in-GetLocal-clause-met
 returns-in-GetLocal-clause-met g c = λ s sees m a. c.selector_step-in-GetLocal.ensures.met s sees.told sees.linked m
 
 pub returns-in-Effect-clause-valued : goal.returns-in-Effect-clause-valued
-returns-in-Effect-clause-valued g c = λ a. on_ok_then c.effect_step.result c.effect_step.ensures.goes_on (λ more. a)
+returns-in-Effect-clause-valued g c = λ a. on_ok_with c.effect_step.result c.effect_step.ensures.goes_on (λ more. a)
 
 pub returns-in-Switch-clause-valued : goal.returns-in-Switch-clause-valued
-returns-in-Switch-clause-valued g c = λ a. on_ok_then c.selector_step.result c.selector_step.ensures.goes_on (λ more. a)
+returns-in-Switch-clause-valued g c = λ a. on_ok_with c.selector_step.result c.selector_step.ensures.goes_on (λ more. a)
 
 pub returns-in-GetLocal-clause-valued : goal.returns-in-GetLocal-clause-valued
-returns-in-GetLocal-clause-valued g c = λ a. on_ok_then c.selector_step-in-GetLocal.result c.selector_step-in-GetLocal.ensures.goes_on (λ more. a)
+returns-in-GetLocal-clause-valued g c = λ a. on_ok_with c.selector_step-in-GetLocal.result c.selector_step-in-GetLocal.ensures.goes_on (λ more. a)
 
 pub returns-in-Effect-clause-selected : goal.returns-in-Effect-clause-selected
-returns-in-Effect-clause-selected g c = λ h. on_ok_then c.effect_step.result c.effect_step.ensures.goes_on (λ more. h)
+returns-in-Effect-clause-selected g c = λ h. on_ok_with c.effect_step.result c.effect_step.ensures.goes_on (λ more. h)

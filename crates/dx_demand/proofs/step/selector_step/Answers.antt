@@ -9,7 +9,7 @@ use Rattle.dx_demand.specs.Given.{value_behind}
 use Rattle.dx_meaning.specs.Scan.{Forms}
 use Rattle.dx_demand.specs.Memo.{selector_of, selector_scan}
 use Rattle.dx_demand.specs.Steps.{SelectionFits, SelectionRight, StepRight}
-use Rattle.dx_demand.proofs.Growing.{links_fit_grows, memo_fits_grows, memo_right_grows, tells_before, on_ok_then, if_ok_by}
+use Rattle.dx_demand.proofs.Growing.{links_fit_grows, memo_fits_grows, memo_right_grows, tells_before, on_ok_with, if_ok_with}
 use Rattle.dx_demand.proofs.Ports.{picking_selects, selector_needs, selector_picks}
 use Rattle.dx_demand.proofs.Leading.{selector_stops, selector_halted_by}
 use Rattle.dx_demand.proofs.PortSteps.{nodes_of}
@@ -76,7 +76,7 @@ returns-in-Some-clause-memo g c =
     let told = g.G.Given.told c.args.given.now in
     let mid = c.select_term.new.tags in
     let memo = c.select_term.new.memo in
-    on_ok_then c.picked.result c.picked.ensures.goes_on (λ more. memo_fits_grows nodes mid c.picked.new.tags more memo c.in_ok-first.ensures.memo)
+    on_ok_with c.picked.result c.picked.ensures.goes_on (λ more. memo_fits_grows nodes mid c.picked.new.tags more memo c.in_ok-first.ensures.memo)
 
 pub returns-in-Some-clause-fits : goal.returns-in-Some-clause-fits
 returns-in-Some-clause-fits g c =
@@ -90,7 +90,7 @@ returns-in-Some-clause-memo_right g c =
     let told = g.G.Given.told c.args.given.now in
     let mid = c.select_term.new.tags in
     let memo = c.select_term.new.memo in
-    λ s m. on_ok_then c.picked.result c.picked.ensures.goes_on (λ more. memo_right_grows s nodes mid c.picked.new.tags more memo c.in_ok-first.ensures.memo (c.in_ok-first.ensures.memo_right s m))
+    λ s m. on_ok_with c.picked.result c.picked.ensures.goes_on (λ more. memo_right_grows s nodes mid c.picked.new.tags more memo c.in_ok-first.ensures.memo (c.in_ok-first.ensures.memo_right s m))
 
 pub returns-in-Some-clause-right : goal.returns-in-Some-clause-right
 returns-in-Some-clause-right g c =
@@ -103,7 +103,7 @@ returns-in-Some-clause-right g c =
     let fact : selector_of memo c.args.port.node ≡ Some c.in-Selects.t = subst (SelectionFits nodes mid told memo c.args.port) c.in-Selects.is (c.in_ok-first.ensures.fits told) in
     let fits : IsValue mid c.in-Selects.t = c.in_ok-first.ensures.memo.selectors c.args.port.node c.in-Selects.t fact in
     let term = value_term (heads_of mid) c.in-Selects.t in
-    λ s tells holds m. if_ok_by c.picked.result (λ x. StepRight s nodes c.picked.new.tags c.args.port x) c.picked.ensures.goes_on (λ more.
+    λ s tells holds m. if_ok_with c.picked.result (λ x. StepRight s nodes c.picked.new.tags c.args.port x) c.picked.ensures.goes_on (λ more.
     let before = tells_before told mid c.picked.new.tags more s tells in
     let e : selector_scan s nodes c.args.port.node ≡ Forms term = subst (SelectionRight s nodes mid c.args.port) c.in-Selects.is (c.in_ok-first.ensures.right s m) in
     let v : s.told term ≡ Some (value_behind c.in-Some.v) = sym (before c.in-Selects.t fits) ∙ sym c.value.ensures ∙ ap (option_map value_behind) c.in-Some.is in
@@ -113,10 +113,10 @@ pub select_term-requires-clause-selects : goal.select_term-requires-clause-selec
 select_term-requires-clause-selects g c = picking_selects (node_at (graph_of c.args.g.now).nodes c.args.port.node).what c.requires.selects
 
 pub returns-in-Some-clause-goes_on : goal.returns-in-Some-clause-goes_on
-returns-in-Some-clause-goes_on g c = on_ok_then c.picked.result c.picked.ensures.goes_on (λ more. goes_on_then c.args.tags.now c.select_term.new.tags c.picked.new.tags c.in_ok-first.ensures.goes_on more)
+returns-in-Some-clause-goes_on g c = goes_on_then c.args.tags.now c.select_term.new.tags c.picked.new.tags c.in_ok-first.ensures.goes_on c.picked.ensures.goes_on
 
 pub returns-in-Some-clause-memo_found : goal.returns-in-Some-clause-memo_found
-returns-in-Some-clause-memo_found g c = λ m. on_ok_then c.picked.result c.picked.ensures.goes_on (λ more.
+returns-in-Some-clause-memo_found g c = λ m. on_ok_with c.picked.result c.picked.ensures.goes_on (λ more.
     memo_found_grows (graph_of c.args.g.now).nodes c.select_term.new.tags c.picked.new.tags more c.in_ok-first.ensures.formed.formed c.args.links.now.links c.select_term.new.memo c.in_ok-first.ensures.memo (c.in_ok-first.ensures.memo_found c.args.links.now.links m))
 
 pub returns-in-Before-clause-forms : goal.returns-in-Before-clause-forms
@@ -168,7 +168,7 @@ returns-in-Some-clause-forms g c = λ s tells holds m w.
     let there = subst (SelectionForms s nodes (formings nodes mid memo) c.args.port) c.in-Selects.is selected.1 in
     let e : selector_scan s nodes c.args.port.node ≡ Forms term = subst (SelectionRight s nodes mid c.args.port) c.in-Selects.is (c.in_ok-first.ensures.right s m) in
     step_then c.picked.result s nodes old c.args.memo.now mid memo c.picked.new.tags memo c.args.port 0 selected.0
-    (if_ok_by c.picked.result (λ x. FormsStep s nodes mid memo c.picked.new.tags memo c.args.port 0 x) c.picked.ensures.goes_on (λ more.
+    (if_ok_with c.picked.result (λ x. FormsStep s nodes mid memo c.picked.new.tags memo c.args.port 0 x) c.picked.ensures.goes_on (λ more.
     let before = tells_before told mid c.picked.new.tags more s tells in
     let v : s.told term ≡ Some (value_behind c.in-Some.v) = sym (before c.in-Selects.t fits) ∙ sym c.value.ensures ∙ ap (option_map value_behind) c.in-Some.is in
     let front = selector_picked s nodes lawful c.args.port lt c.requires.selects (picking_selects (node_at nodes c.args.port.node).what c.requires.selects) term e (value_behind c.in-Some.v) v (formings nodes mid memo) there in
@@ -190,11 +190,11 @@ returns-in-Some-clause-met g c = λ s tells holds m.
     let fits : IsValue mid c.in-Selects.t = c.in_ok-first.ensures.memo.selectors c.args.port.node c.in-Selects.t fact in
     let term = value_term (heads_of mid) c.in-Selects.t in
     subst (λ (x : Answers). IfOk c.picked.result (λ y. StepMet s nodes x c.args.port y)) c.in_ok-first.ensures.answers
-    (if_ok_by c.picked.result (λ x. StepMet s nodes (answers_of memo) c.args.port x) c.picked.ensures.goes_on (λ more.
+    (if_ok_with c.picked.result (λ x. StepMet s nodes (answers_of memo) c.args.port x) c.picked.ensures.goes_on (λ more.
     let before = tells_before told mid c.picked.new.tags more s tells in
     let e : selector_scan s nodes c.args.port.node ≡ Forms term = subst (SelectionRight s nodes mid c.args.port) c.in-Selects.is (c.in_ok-first.ensures.right s m) in
     let v : s.told term ≡ Some (value_behind c.in-Some.v) = sym (before c.in-Selects.t fits) ∙ sym c.value.ensures ∙ ap (option_map value_behind) c.in-Some.is in
     c.picked.ensures.met s holds (picking_no_module (node_at nodes c.args.port.node).what c.requires.selects) (selector_meets s nodes lawful c.args.port lt c.requires.selects term e (value_behind c.in-Some.v) v)))
 
 pub returns-in-Some-clause-selected : goal.returns-in-Some-clause-selected
-returns-in-Some-clause-selected g c = λ h. on_ok_then c.picked.result c.picked.ensures.goes_on (λ more. c.in_ok-first.ensures.selected h)
+returns-in-Some-clause-selected g c = λ h. on_ok_with c.picked.result c.picked.ensures.goes_on (λ more. c.in_ok-first.ensures.selected h)
