@@ -33,23 +33,83 @@ fn push_attribute(
     Ok(())
 }
 
+// The items of a component.
+#[derive(Clone, Copy)]
+enum Items<'a> {
+    /// Stored numbers.
+    List(&'a [i64]),
+    /// Stored pairs of numbers.
+    Pairs(&'a [i64]),
+    /// So many times this number.
+    Constant(u64, i64),
+    /// So many numbers from the first on, and the step between them.
+    Regular(u64, i64, i64),
+    /// The points of a grid with these counts, all at the same place.
+    Points(&'a [u32]),
+    /// The cells of a grid with these counts.
+    Cells(&'a [u32]),
+}
+
 fn ints(alloc: Global, values: &[i64]) -> Result<Array, Fail> {
     let values = Vec::from_slice(alloc, values)?;
     Ok(Array::plain(ElemType::Int, Shape::new(alloc), values)?)
 }
 
-// Its name, its values, and what its attributes `dep` and `ref` say.
-type Component<'a> = (&'a [u8], &'a [i64], &'a [u8], &'a [u8]);
+fn pairs(alloc: Global, values: &[i64]) -> Result<Array, Fail> {
+    let shape = Shape::from_vec(Vec::from_slice(alloc, &[2])?);
+    let values = Vec::from_slice(alloc, values)?;
+    Ok(Array::plain(ElemType::Short, shape, values)?)
+}
+
+fn regular(alloc: Global, items: u64, first: i64, step: i64) -> Result<Array, Fail> {
+    let origin = Vec::from_slice(alloc, &[first])?;
+    let delta = Vec::from_slice(alloc, &[step])?;
+    let shape = Shape::new(alloc);
+    Ok(Array::regular(ElemType::Int, shape, items, origin, delta)?)
+}
+
+fn constant(alloc: Global, items: u64, value: i64) -> Result<Array, Fail> {
+    let value = Vec::from_slice(alloc, &[value])?;
+    let shape = Shape::new(alloc);
+    Ok(Array::constant(ElemType::Int, shape, items, value)?)
+}
+
+fn points(alloc: Global, counts: &[u32]) -> Result<Array, Fail> {
+    let zeros: &[i64] = &[0, 0, 0, 0, 0, 0, 0, 0, 0];
+    let (origin, deltas) = match counts.len() {
+        1 => (&zeros[..1], &zeros[..1]),
+        2 => (&zeros[..2], &zeros[..4]),
+        _ => (&zeros[..3], &zeros[..9]),
+    };
+    let origin = Vec::from_slice(alloc, origin)?;
+    let deltas = Vec::from_slice(alloc, deltas)?;
+    let counts = Vec::from_slice(alloc, counts)?;
+    Ok(Array::grid_positions(counts, origin, deltas)?)
+}
+
+fn array(alloc: Global, items: Items<'_>) -> Result<Array, Fail> {
+    match items {
+        Items::List(values) => ints(alloc, values),
+        Items::Pairs(values) => pairs(alloc, values),
+        Items::Constant(items, value) => constant(alloc, items, value),
+        Items::Regular(items, first, step) => regular(alloc, items, first, step),
+        Items::Points(counts) => points(alloc, counts),
+        Items::Cells(counts) => Ok(Array::grid_connections(Vec::from_slice(alloc, counts)?)?),
+    }
+}
+
+// Its name, its items, and what its attributes `dep` and `ref` say.
+type Component<'a> = (&'a [u8], Items<'a>, &'a [u8], &'a [u8]);
 
 fn component(alloc: Global, row: &Component<'_>) -> Result<Part, Fail> {
-    let (name, values, dep, reference) = row;
+    let (name, items, dep, reference) = row;
     let mut attributes = Parts::new(alloc);
     push_attribute(alloc, &mut attributes, b"dep", dep)?;
     push_attribute(alloc, &mut attributes, b"ref", reference)?;
     part(
         alloc,
         name,
-        Object::array(ints(alloc, values)?, attributes)?,
+        Object::array(array(alloc, *items)?, attributes)?,
     )
 }
 
@@ -83,42 +143,293 @@ fn shown(alloc: Global, object: &Object) -> Result<Vec<u8>, AllocError> {
 const FAULTS: &[(&[Component<'static>], &[u8])] = &[
     (&[], b""),
     (
-        &[(b"a", &[1, 2], b"", b""), (b"b", &[3, 4], b"a", b"")],
+        &[
+            (b"a", Items::List(&[1, 2]), b"", b""),
+            (b"b", Items::List(&[3, 4]), b"a", b""),
+        ],
         b"",
     ),
     (
-        &[(b"a", &[3, 4], b"b", b""), (b"b", &[1, 2], b"", b"")],
+        &[
+            (b"a", Items::List(&[3, 4]), b"b", b""),
+            (b"b", Items::List(&[1, 2]), b"", b""),
+        ],
         b"",
     ),
-    (&[(b"a", &[1, 2], b"c", b"")], b"missing"),
-    (&[(b"a", &[1, 2], b"#", b"")], b"missing"),
-    (&[(b"a", &[0], b"", b"c")], b"missing"),
-    (&[(b"a", &[0], b"", b"#")], b"missing"),
+    (&[(b"a", Items::List(&[1, 2]), b"c", b"")], b"missing"),
+    (&[(b"a", Items::List(&[1, 2]), b"#", b"")], b"missing"),
+    (&[(b"a", Items::List(&[0]), b"", b"c")], b"missing"),
+    (&[(b"a", Items::List(&[0]), b"", b"#")], b"missing"),
+    (&[(b"a", Items::List(&[]), b"", b"c")], b"missing"),
+    (&[(b"a", Items::List(&[]), b"c", b"")], b"missing"),
     (
-        &[(b"a", &[1], b"", b""), (b"b", &[3, 4], b"a", b"")],
+        &[
+            (b"a", Items::List(&[1]), b"", b""),
+            (b"b", Items::List(&[3, 4]), b"a", b""),
+        ],
         b"2 on 1",
     ),
-    (&[(b"a", &[], b"", b""), (b"b", &[3], b"a", b"")], b"1 on 0"),
     (
-        &[(b"a", &[1, 2], b"", b""), (b"b", &[0, 1, 2], b"", b"a")],
+        &[
+            (b"a", Items::List(&[]), b"", b""),
+            (b"b", Items::List(&[3]), b"a", b""),
+        ],
+        b"1 on 0",
+    ),
+    (
+        &[
+            (b"a", Items::List(&[3]), b"", b""),
+            (b"b", Items::List(&[]), b"a", b""),
+        ],
+        b"0 on 1",
+    ),
+    (
+        &[
+            (b"a", Items::List(&[1, 2]), b"", b""),
+            (b"b", Items::List(&[0, 1, 2]), b"", b"a"),
+        ],
         b"value 2",
     ),
     (
-        &[(b"a", &[1, 2], b"", b""), (b"b", &[-1], b"", b"a")],
+        &[
+            (b"a", Items::List(&[1, 2]), b"", b""),
+            (b"b", Items::List(&[-1]), b"", b"a"),
+        ],
         b"value 0",
     ),
-    (&[(b"a", &[1, 0], b"", b"a")], b""),
+    (&[(b"a", Items::List(&[1, 0]), b"", b"a")], b""),
+    (&[(b"a", Items::List(&[1, 0]), b"a", b"a")], b""),
     (
-        &[(b"a", &[1, 2], b"", b""), (b"b", &[5], b"c", b"a")],
+        &[
+            (b"a", Items::List(&[]), b"", b""),
+            (b"b", Items::List(&[]), b"a", b"a"),
+        ],
+        b"",
+    ),
+    (
+        &[
+            (b"a", Items::List(&[]), b"", b""),
+            (b"b", Items::List(&[0]), b"", b"a"),
+        ],
+        b"value 0",
+    ),
+    (
+        &[
+            (b"a", Items::List(&[1, 2]), b"", b""),
+            (b"b", Items::List(&[5]), b"c", b"a"),
+        ],
         b"missing",
     ),
     (
-        &[(b"a", &[1, 2], b"", b""), (b"b", &[5], b"a", b"c")],
+        &[
+            (b"a", Items::List(&[1, 2]), b"", b""),
+            (b"b", Items::List(&[5]), b"a", b"c"),
+        ],
         b"1 on 2",
     ),
     (
-        &[(b"a", &[9], b"", b"b"), (b"b", &[1], b"c", b"")],
+        &[
+            (b"a", Items::List(&[1, 2]), b"", b""),
+            (b"b", Items::List(&[5]), b"a", b"a"),
+        ],
+        b"1 on 2",
+    ),
+    (
+        &[
+            (b"a", Items::List(&[1, 2]), b"", b""),
+            (b"b", Items::List(&[1, 5]), b"a", b"a"),
+        ],
+        b"value 1",
+    ),
+    (
+        &[
+            (b"a", Items::List(&[1, 2]), b"", b""),
+            (b"b", Items::List(&[1, 5]), b"a", b"c"),
+        ],
+        b"missing",
+    ),
+    (
+        &[
+            (b"a", Items::List(&[9]), b"", b"b"),
+            (b"b", Items::List(&[1]), b"c", b""),
+        ],
         b"value 0",
+    ),
+    (
+        &[
+            (b"a", Items::List(&[1]), b"c", b""),
+            (b"b", Items::List(&[9]), b"", b"a"),
+        ],
+        b"missing",
+    ),
+    (
+        &[
+            (b"b", Items::List(&[1, 2]), b"a", b""),
+            (b"a", Items::List(&[1]), b"c", b""),
+        ],
+        b"2 on 1",
+    ),
+    (
+        &[
+            (b"b", Items::List(&[1]), b"", b"c"),
+            (b"a", Items::List(&[1, 2]), b"b", b""),
+        ],
+        b"missing",
+    ),
+    (
+        &[
+            (b"c", Items::List(&[1]), b"", b""),
+            (b"b", Items::List(&[0, 1]), b"", b"c"),
+            (b"a", Items::List(&[1, 2]), b"c", b""),
+        ],
+        b"value 1",
+    ),
+    (
+        &[
+            (b"a", Items::List(&[1, 2]), b"", b""),
+            (b"b", Items::Pairs(&[0, 1, 1, 0]), b"a", b"a"),
+        ],
+        b"",
+    ),
+    (
+        &[
+            (b"a", Items::List(&[1, 2]), b"", b""),
+            (b"b", Items::Pairs(&[0, 1, 1, 2]), b"", b"a"),
+        ],
+        b"value 3",
+    ),
+    (
+        &[
+            (b"a", Items::List(&[1, 2]), b"", b""),
+            (b"b", Items::Pairs(&[0, 2, 1, 2]), b"", b"a"),
+        ],
+        b"value 1",
+    ),
+    (
+        &[
+            (b"a", Items::Pairs(&[1, 2, 3, 4]), b"", b""),
+            (b"b", Items::List(&[1, 2]), b"", b"a"),
+        ],
+        b"value 1",
+    ),
+    (
+        &[
+            (b"a", Items::Pairs(&[1, 2, 3, 4]), b"", b""),
+            (b"b", Items::List(&[1, 2]), b"a", b""),
+        ],
+        b"",
+    ),
+    (
+        &[
+            (b"a", Items::List(&[1, 2]), b"", b""),
+            (b"b", Items::Constant(3, 1), b"", b"a"),
+        ],
+        b"",
+    ),
+    (
+        &[
+            (b"a", Items::List(&[1, 2]), b"", b""),
+            (b"b", Items::Constant(3, 2), b"", b"a"),
+        ],
+        b"value 0",
+    ),
+    (
+        &[
+            (b"a", Items::List(&[1, 2]), b"", b""),
+            (b"b", Items::Constant(0, 2), b"", b"a"),
+        ],
+        b"",
+    ),
+    (
+        &[
+            (b"a", Items::List(&[1, 2]), b"", b""),
+            (b"b", Items::Regular(3, 0, 1), b"", b"a"),
+        ],
+        b"value 2",
+    ),
+    (
+        &[
+            (b"a", Items::List(&[1, 2]), b"", b""),
+            (b"b", Items::Regular(2, 1, -1), b"a", b"a"),
+        ],
+        b"",
+    ),
+    (
+        &[
+            (b"a", Items::List(&[1, 2]), b"", b""),
+            (b"b", Items::Regular(3, 1, -1), b"", b"a"),
+        ],
+        b"value 2",
+    ),
+    (
+        &[
+            (b"a", Items::Regular(3, 0, 1), b"", b""),
+            (b"b", Items::List(&[2, 1, 0]), b"a", b"a"),
+        ],
+        b"",
+    ),
+    (
+        &[
+            (b"a", Items::List(&[1]), b"", b""),
+            (b"b", Items::Points(&[2, 2]), b"", b"a"),
+        ],
+        b"",
+    ),
+    (
+        &[
+            (b"a", Items::List(&[]), b"", b""),
+            (b"b", Items::Points(&[2, 2]), b"", b"a"),
+        ],
+        b"value 0",
+    ),
+    (
+        &[
+            (b"a", Items::Points(&[2, 2]), b"", b""),
+            (b"b", Items::Cells(&[2, 2]), b"", b"a"),
+        ],
+        b"",
+    ),
+    (
+        &[
+            (b"a", Items::List(&[1, 2]), b"", b""),
+            (b"b", Items::Cells(&[3]), b"", b"a"),
+        ],
+        b"value 3",
+    ),
+    (
+        &[
+            (b"a", Items::List(&[1, 2, 3]), b"", b""),
+            (b"b", Items::Cells(&[2, 2]), b"", b"a"),
+        ],
+        b"value 3",
+    ),
+    (
+        &[
+            (b"a", Items::Points(&[2, 2]), b"", b""),
+            (b"b", Items::List(&[1, 2, 3]), b"a", b""),
+        ],
+        b"3 on 4",
+    ),
+    (
+        &[
+            (b"a", Items::Points(&[3, 1, 2]), b"", b""),
+            (b"b", Items::List(&[1, 2, 3, 4, 5, 6]), b"a", b""),
+        ],
+        b"",
+    ),
+    (
+        &[
+            (b"a", Items::Cells(&[3, 3]), b"", b""),
+            (b"b", Items::List(&[1, 2, 3, 4]), b"a", b""),
+        ],
+        b"",
+    ),
+    (
+        &[
+            (b"a", Items::Cells(&[3, 3]), b"", b""),
+            (b"b", Items::List(&[1, 2, 3]), b"a", b""),
+        ],
+        b"3 on 4",
     ),
 ];
 
@@ -132,31 +443,6 @@ fn first_faults(rt: HostRuntime) -> Result<(), Fail> {
         }
     }
     Ok(())
-}
-
-fn positions(alloc: Global, counts: &[u32]) -> Result<Object, Fail> {
-    let zeros: &[i64] = &[0, 0, 0, 0, 0, 0, 0, 0, 0];
-    let (origin, deltas) = match counts.len() {
-        1 => (&zeros[..1], &zeros[..1]),
-        2 => (&zeros[..2], &zeros[..4]),
-        _ => (&zeros[..3], &zeros[..9]),
-    };
-    let origin = Vec::from_slice(alloc, origin)?;
-    let deltas = Vec::from_slice(alloc, deltas)?;
-    let array = Array::grid_positions(Vec::from_slice(alloc, counts)?, origin, deltas)?;
-    Ok(Object::array(array, Parts::new(alloc))?)
-}
-
-// A field of points with these counts, and of cells with those, where there are any.
-fn grid(alloc: Global, points: &[u32], cells: &[u32]) -> Result<Object, Fail> {
-    let mut parts = Parts::new(alloc);
-    parts.push(part(alloc, b"positions", positions(alloc, points)?)?)?;
-    if !cells.is_empty() {
-        let array = Array::grid_connections(Vec::from_slice(alloc, cells)?)?;
-        let cells = Object::array(array, Parts::new(alloc))?;
-        parts.push(part(alloc, b"connections", cells)?)?;
-    }
-    Ok(Object::field(parts, Parts::new(alloc))?)
 }
 
 // Whether it is a grid of these counts, or none where there are no counts.
@@ -175,25 +461,229 @@ fn has_counts(object: &Object, wanted: &[u32]) -> bool {
     true
 }
 
-const GRIDS: &[(&[u32], &[u32], &[u32])] = &[
-    (&[5], &[5], &[5]),
-    (&[4, 3], &[4, 3], &[4, 3]),
-    (&[4, 3, 2], &[4, 3, 2], &[4, 3, 2]),
-    (&[4, 1, 3], &[4, 3], &[4, 1, 3]),
-    (&[1, 1], &[], &[1, 1]),
-    (&[1], &[], &[1]),
-    (&[4, 3], &[], &[]),
-    (&[4, 3], &[3, 4], &[]),
-    (&[4, 1], &[4, 1], &[]),
-    (&[1, 1], &[2], &[]),
-    (&[4, 3, 2], &[4, 3], &[]),
+// Where there are no counts, it is no grid.
+const GRIDS: &[(&[Component<'static>], &[u32])] = &[
+    (
+        &[
+            (b"positions", Items::Points(&[5]), b"", b""),
+            (b"connections", Items::Cells(&[5]), b"", b""),
+        ],
+        &[5],
+    ),
+    (
+        &[
+            (b"positions", Items::Points(&[4, 3]), b"", b""),
+            (b"connections", Items::Cells(&[4, 3]), b"", b""),
+        ],
+        &[4, 3],
+    ),
+    (
+        &[
+            (b"positions", Items::Points(&[4, 3, 2]), b"", b""),
+            (b"connections", Items::Cells(&[4, 3, 2]), b"", b""),
+        ],
+        &[4, 3, 2],
+    ),
+    (
+        &[
+            (b"positions", Items::Points(&[2, 2, 2]), b"", b""),
+            (b"connections", Items::Cells(&[2, 2, 2]), b"", b""),
+        ],
+        &[2, 2, 2],
+    ),
+    (
+        &[
+            (b"positions", Items::Points(&[4, 1, 3]), b"", b""),
+            (b"connections", Items::Cells(&[4, 3]), b"", b""),
+        ],
+        &[4, 1, 3],
+    ),
+    (
+        &[
+            (b"positions", Items::Points(&[1, 4, 3]), b"", b""),
+            (b"connections", Items::Cells(&[4, 3]), b"", b""),
+        ],
+        &[1, 4, 3],
+    ),
+    (
+        &[
+            (b"positions", Items::Points(&[4, 3, 1]), b"", b""),
+            (b"connections", Items::Cells(&[4, 3]), b"", b""),
+        ],
+        &[4, 3, 1],
+    ),
+    (
+        &[
+            (b"positions", Items::Points(&[1, 1, 4]), b"", b""),
+            (b"connections", Items::Cells(&[4]), b"", b""),
+        ],
+        &[1, 1, 4],
+    ),
+    (
+        &[
+            (b"positions", Items::Points(&[1, 4, 1]), b"", b""),
+            (b"connections", Items::Cells(&[4]), b"", b""),
+        ],
+        &[1, 4, 1],
+    ),
+    (
+        &[
+            (b"positions", Items::Points(&[4, 1]), b"", b""),
+            (b"connections", Items::Cells(&[4]), b"", b""),
+        ],
+        &[4, 1],
+    ),
+    (
+        &[(b"positions", Items::Points(&[1, 1, 1]), b"", b"")],
+        &[1, 1, 1],
+    ),
+    (&[(b"positions", Items::Points(&[1, 1]), b"", b"")], &[1, 1]),
+    (&[(b"positions", Items::Points(&[1]), b"", b"")], &[1]),
+    (
+        &[
+            (b"data", Items::List(&[1, 2, 3, 4]), b"positions", b""),
+            (b"connections", Items::Cells(&[2, 2]), b"", b"positions"),
+            (b"positions", Items::Points(&[2, 2]), b"data", b""),
+            (b"at", Items::List(&[1]), b"", b""),
+        ],
+        &[2, 2],
+    ),
+    (&[(b"positions", Items::Points(&[4, 3]), b"", b"")], &[]),
+    (
+        &[
+            (b"positions", Items::Points(&[4, 3]), b"", b""),
+            (b"connections", Items::Cells(&[3, 4]), b"", b""),
+        ],
+        &[],
+    ),
+    (
+        &[
+            (b"positions", Items::Points(&[4, 1]), b"", b""),
+            (b"connections", Items::Cells(&[4, 1]), b"", b""),
+        ],
+        &[],
+    ),
+    (
+        &[
+            (b"positions", Items::Points(&[4, 1, 3]), b"", b""),
+            (b"connections", Items::Cells(&[4, 1, 3]), b"", b""),
+        ],
+        &[],
+    ),
+    (
+        &[
+            (b"positions", Items::Points(&[4, 1, 3]), b"", b""),
+            (b"connections", Items::Cells(&[3, 4]), b"", b""),
+        ],
+        &[],
+    ),
+    (
+        &[
+            (b"positions", Items::Points(&[4, 3]), b"", b""),
+            (b"connections", Items::Cells(&[4]), b"", b""),
+        ],
+        &[],
+    ),
+    (
+        &[
+            (b"positions", Items::Points(&[4, 3, 2]), b"", b""),
+            (b"connections", Items::Cells(&[4, 3]), b"", b""),
+        ],
+        &[],
+    ),
+    (
+        &[
+            (b"positions", Items::Points(&[4, 3]), b"", b""),
+            (b"connections", Items::Cells(&[4, 3, 2]), b"", b""),
+        ],
+        &[],
+    ),
+    (
+        &[
+            (b"positions", Items::Points(&[4]), b"", b""),
+            (b"connections", Items::Cells(&[3]), b"", b""),
+        ],
+        &[],
+    ),
+    (
+        &[
+            (b"positions", Items::Points(&[1, 1]), b"", b""),
+            (b"connections", Items::Cells(&[2]), b"", b""),
+        ],
+        &[],
+    ),
+    (
+        &[
+            (b"positions", Items::Points(&[1, 1]), b"", b""),
+            (b"connections", Items::Cells(&[1, 1]), b"", b""),
+        ],
+        &[],
+    ),
+    (
+        &[
+            (b"positions", Items::Points(&[1]), b"", b""),
+            (b"connections", Items::Cells(&[1]), b"", b""),
+        ],
+        &[],
+    ),
+    (&[], &[]),
+    (&[(b"connections", Items::Cells(&[4]), b"", b"")], &[]),
+    (
+        &[
+            (b"points", Items::Points(&[4]), b"", b""),
+            (b"connections", Items::Cells(&[4]), b"", b""),
+        ],
+        &[],
+    ),
+    (
+        &[
+            (b"positions", Items::List(&[0, 1, 2, 3]), b"", b""),
+            (b"connections", Items::Cells(&[4]), b"", b""),
+        ],
+        &[],
+    ),
+    (
+        &[
+            (b"positions", Items::Regular(4, 0, 1), b"", b""),
+            (b"connections", Items::Cells(&[4]), b"", b""),
+        ],
+        &[],
+    ),
+    (
+        &[
+            (b"positions", Items::Cells(&[4]), b"", b""),
+            (b"connections", Items::Cells(&[4]), b"", b""),
+        ],
+        &[],
+    ),
+    (
+        &[
+            (b"positions", Items::Points(&[4]), b"", b""),
+            (b"connections", Items::Points(&[4]), b"", b""),
+        ],
+        &[],
+    ),
+    (
+        &[
+            (b"positions", Items::Points(&[4]), b"", b""),
+            (b"connections", Items::Pairs(&[0, 1, 1, 2, 2, 3]), b"", b""),
+        ],
+        &[],
+    ),
+    (
+        &[
+            (b"positions", Items::Points(&[1]), b"", b""),
+            (b"connections", Items::List(&[0]), b"", b""),
+        ],
+        &[],
+    ),
 ];
 
 #[test]
 fn regular_grids(rt: HostRuntime) -> Result<(), Fail> {
     let alloc = rt.alloc();
-    for (points, cells, wanted) in GRIDS {
-        let object = grid(alloc, points, cells)?;
+    for (rows, wanted) in GRIDS {
+        let object = field(alloc, rows)?;
         assert!(rt; has_counts(&object, wanted));
     }
     Ok(())

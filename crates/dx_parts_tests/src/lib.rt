@@ -7,6 +7,8 @@ mod calls;
 #[cfg(test)]
 mod fields;
 #[cfg(test)]
+mod limits;
+#[cfg(test)]
 mod rows;
 #[cfg(test)]
 mod shown;
