@@ -1,2 +1,3 @@
 pub mod StrayLaws
+pub mod CellLaws
 pub mod GridLaws

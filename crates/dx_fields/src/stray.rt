@@ -1,17 +1,35 @@
 // Values that name no item.
-ghost use Rattle.std.specs.Prelude.{◌≡◌, ◌<◌, ◌≤◌, Some};
+ghost use Rattle.std.specs.Prelude.{◌≡◌, ◌<◌, ◌≤◌, true, None, Some};
 ghost use Rattle.dx_arrays.specs.Classes.{plain_of};
 ghost use Rattle.dx_fields.specs.Stray as spec;
 
-use dx_objects::Array;
+use dx_arrays::point_count;
+use dx_objects::{Array, ArrayClass};
 
 /// The number of the first value of an array that names none of so many items, the values counted item by item from 0.
 pub(crate) fn first_stray(array: &Array, items: u64) -> Option<u64>
     ensures { result ≡ spec.first_stray array.now items }
 {
-    match array.plain_values() {
-        Some(values) => first_stored_stray(array, values, items),
-        None => first_stray_by_number(array, items),
+    if let Some(values) = array.plain_values() {
+        return first_stored_stray(array, values, items);
+    }
+    if joins_few(array, items) {
+        return None;
+    }
+    first_stray_by_number(array, items)
+}
+
+// Whether the array is the cells of a grid of at most so many points: the corners of a cell are points, so none of them is
+// astray.
+fn joins_few(array: &Array, items: u64) -> bool
+    ensures { result ≡ true → spec.first_stray array.now items ≡ None }
+{
+    // Asked so that the proof knows that the array can be made.
+    let _items = array.items();
+    match array.class() {
+        // The greatest number stands for all greater ones.
+        ArrayClass::GridConnections => items < u64::MAX && point_count(array.counts()) <= items,
+        _ => false,
     }
 }
 

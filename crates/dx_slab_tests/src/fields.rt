@@ -43,3 +43,88 @@ pub(crate) const LONG: &str =
 // A constant of many bytes, which fit no object where they stand one by one.
 pub(crate) const WIDE: &str =
     "object 1 class gridpositions counts 2 2097152\norigin 0 0\ndelta 1 0\ndelta 0 1\nobject 2 class gridconnections counts 2 2097152\nobject 3 class constantarray type int rank 1 shape 32 items 4194304 data follows\n1 1 1 1 1 1 1 1 1 1 1 1 1 1 1 1 1 1 1 1 1 1 1 1 1 1 1 1 1 1 1 1\nattribute \"dep\" string \"positions\"\nobject 4 class field\ncomponent \"positions\" value 1\ncomponent \"connections\" value 2\ncomponent \"data\" value 3\nend\n";
+
+// Four points on a line, and its points as the last component.
+pub(crate) const EDGE: &str =
+    "object 1 class gridpositions counts 4\norigin 10\ndelta -2\nobject 2 class gridconnections counts 4\nattribute \"element type\" string \"lines\"\nattribute \"ref\" string \"positions\"\nobject 3 class array type unsigned byte rank 0 items 4 data follows\n5\n6\n7\n8\nattribute \"dep\" string \"positions\"\nobject 4 class regulararray type int rank 0 items 3\norigin 100\ndelta 1\nattribute \"dep\" string \"connections\"\nobject 5 class field\ncomponent \"data\" value 3\ncomponent \"cells\" value 4\ncomponent \"connections\" value 2\ncomponent \"positions\" value 1\nend\n";
+
+// Three by two points that depend on the data, cells that depend on another component, and components of the classes of grids.
+pub(crate) const TIED: &str =
+    "object 1 class gridpositions counts 3 2\norigin 0 0\ndelta 1 0\ndelta 0 1\nattribute \"dep\" string \"data\"\nobject 2 class gridconnections counts 3 2\nattribute \"dep\" string \"cells\"\nobject 3 class array type unsigned short rank 0 items 6 data follows\n60000\n60001\n60002\n60003\n60004\n60005\nattribute \"dep\" string \"positions\"\nobject 4 class array type signed byte rank 0 items 2 data follows\n-1\n-2\nattribute \"dep\" string \"connections\"\nobject 5 class gridpositions counts 6\norigin 5\ndelta 5\nattribute \"dep\" string \"positions\"\nobject 6 class gridconnections counts 2 3\nattribute \"dep\" string \"connections\"\nobject 7 class constantarray type unsigned int rank 0 items 6 data follows\n4000000000\nattribute \"dep\" string \"positions\"\nobject 8 class array type int rank 0 items 2 data follows\n1\n2\nattribute \"dep\" string \"self\"\nobject 9 class field\ncomponent \"positions\" value 1\ncomponent \"connections\" value 2\ncomponent \"data\" value 3\ncomponent \"cells\" value 4\ncomponent \"places\" value 5\ncomponent \"near\" value 6\ncomponent \"level\" value 7\ncomponent \"self\" value 8\nend\n";
+
+// A grid and nothing on it.
+pub(crate) const BARE: &str =
+    "object 1 class gridpositions counts 2 3\norigin 0 0\ndelta 0 7\ndelta -1 0\nobject 2 class gridconnections counts 2 3\nobject 3 class field\ncomponent \"positions\" value 1\ncomponent \"connections\" value 2\nend\n";
+
+// Its points refer to themselves.
+pub(crate) const POINTED: &str =
+    "object 1 class gridpositions counts 2 2\norigin 0 0\ndelta 1 0\ndelta 0 1\nattribute \"ref\" string \"positions\"\nobject 2 class gridconnections counts 2 2\nobject 3 class field\ncomponent \"positions\" value 1\ncomponent \"connections\" value 2\nend\n";
+
+// A component refers to a point that isn't there.
+pub(crate) const STRAY: &str =
+    "object 1 class gridpositions counts 2 2\norigin 0 0\ndelta 1 0\ndelta 0 1\nobject 2 class gridconnections counts 2 2\nobject 3 class array type int rank 0 items 1 data follows\n4\nattribute \"ref\" string \"positions\"\nobject 4 class field\ncomponent \"positions\" value 1\ncomponent \"connections\" value 2\ncomponent \"data\" value 3\nend\n";
+
+// Its cells refer to a component that isn't there.
+pub(crate) const LOST: &str =
+    "object 1 class gridpositions counts 2 2\norigin 0 0\ndelta 1 0\ndelta 0 1\nobject 2 class gridconnections counts 2 2\nattribute \"ref\" string \"points\"\nobject 3 class field\ncomponent \"positions\" value 1\ncomponent \"connections\" value 2\nend\n";
+
+// Its points are no grid, and its data depends on nothing that is there.
+pub(crate) const APART_LOST: &str =
+    "object 1 class array type int rank 1 shape 2 items 2 data follows\n0 0\n1 1\nobject 2 class array type int rank 0 items 2 data follows\n1\n2\nattribute \"dep\" string \"points\"\nobject 3 class field\ncomponent \"positions\" value 1\ncomponent \"data\" value 2\nend\n";
+
+// Its data has no `dep` and three items for four points, and another component refers to the points.
+pub(crate) const ODD_REFERS: &str =
+    "object 1 class gridpositions counts 2 2\norigin 0 0\ndelta 1 0\ndelta 0 1\nobject 2 class gridconnections counts 2 2\nobject 3 class array type int rank 0 items 3 data follows\n1\n2\n3\nobject 4 class array type int rank 0 items 1 data follows\n0\nattribute \"ref\" string \"positions\"\nobject 5 class field\ncomponent \"positions\" value 1\ncomponent \"connections\" value 2\ncomponent \"data\" value 3\ncomponent \"at\" value 4\nend\n";
+
+// Its points are a grid, and it has no cells.
+pub(crate) const UNJOINED: &str =
+    "object 1 class gridpositions counts 2 2\norigin 0 0\ndelta 1 0\ndelta 0 1\nobject 2 class field\ncomponent \"positions\" value 1\nend\n";
+
+// A single point with cells, though there are none between it and others.
+pub(crate) const ONES: &str =
+    "object 1 class gridpositions counts 1 1\norigin 0 0\ndelta 1 0\ndelta 0 1\nobject 2 class gridconnections counts 1 1\nobject 3 class field\ncomponent \"positions\" value 1\ncomponent \"connections\" value 2\nend\n";
+
+// Its cells are listed one by one.
+pub(crate) const LISTED: &str =
+    "object 1 class gridpositions counts 3\norigin 0\ndelta 1\nobject 2 class array type int rank 1 shape 2 items 2 data follows\n0 1\n1 2\nattribute \"ref\" string \"positions\"\nobject 3 class field\ncomponent \"positions\" value 1\ncomponent \"connections\" value 2\nend\n";
+
+// A field without components.
+pub(crate) const EMPTY: &str = "object 1 class field\nend\n";
+
+// A composite group of a grid.
+pub(crate) const GROUPED: &str =
+    "object 1 class gridpositions counts 1\norigin 0\ndelta 1\nobject 2 class field\ncomponent \"positions\" value 1\nobject 3 class compositefield\nmember 0 value 2\nend\n";
+
+// A number.
+pub(crate) const FIVE: &str = "object 1 class array type int rank 0 items 1 data follows\n5\nend\n";
+
+// A text.
+pub(crate) const WORD: &str = "object 1 class string \"data\"\nend\n";
+
+// NULL.
+pub(crate) const NOTHING: &str = "";
+
+// ---- inputs behind the field
+
+// The number 1 as a constant.
+pub(crate) const ONE: &str =
+    "object 1 class constantarray type byte rank 0 items 1 data follows\n1\nend\n";
+
+// The number 0 as a line of one item.
+pub(crate) const ZERO: &str =
+    "object 1 class regulararray type short rank 0 items 1\norigin 0\ndelta 3\nend\n";
+
+// A vector of one value, which is no number.
+pub(crate) const VECTOR: &str =
+    "object 1 class array type int rank 1 shape 1 items 1 data follows\n0\nend\n";
+
+// Two numbers.
+pub(crate) const PAIR: &str =
+    "object 1 class array type int rank 0 items 2 data follows\n0\n0\nend\n";
+
+// No number.
+pub(crate) const NONE: &str = "object 1 class array type int rank 0 items 0 data follows\nend\n";
+
+// A number above the int range.
+pub(crate) const FAR: &str =
+    "object 1 class array type uint rank 0 items 1 data follows\n3000000000\nend\n";

@@ -6,4 +6,6 @@ mod asked;
 #[cfg(test)]
 mod fields;
 #[cfg(test)]
+mod refused;
+#[cfg(test)]
 mod slabs;
