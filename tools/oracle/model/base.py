@@ -1,5 +1,9 @@
 """Element types, limits, refusals, numbers and quoting: what all other parts of the evaluator use."""
 
+import sys
+
+sys.set_int_max_str_digits(0)
+
 INT_MIN, INT_MAX = -2147483648, 2147483647
 UINT_MAX = 4294967295
 

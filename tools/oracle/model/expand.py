@@ -4,7 +4,7 @@ from bisect import bisect_left
 
 from .base import MAX_CALLS, MAX_NESTING
 from .functions import EFFECTS, FUNCTIONS
-from .script import Call, Macro
+from .script import Call
 
 NULL = (None, ("N",))
 
@@ -242,5 +242,3 @@ def has_call(value):
     """Whether an expression of an assignment has a call in its text."""
     return isinstance(value, Call)
 
-
-__all__ = ["Dictionary", "Expansion", "Macro", "StaticFault", "Walk", "has_call"]

@@ -2,7 +2,7 @@
 
 from collections import OrderedDict
 
-from .base import MAX_TERMS, Refuse
+from .base import MAX_TERMS
 from .functions import MODULES
 from .meaning import OFF, link_key, link_name, object_of
 
@@ -226,5 +226,3 @@ class Machine:
             self.get(term)
         return terms
 
-
-__all__ = ["Halted", "Machine", "Refuse", "Refused"]

@@ -2,14 +2,13 @@
 
 import re
 
-from .base import MAX_LEVEL_OF_INCLUDES, MAX_LOADED, decimal, quoted
+from .base import MAX_LEVEL_OF_INCLUDES, MAX_LOADED, Refuse, quoted
 from .expand import Dictionary, Expansion, StaticFault, Walk, has_call
 from .machine import Halted, Machine, Refused
 from .meaning import Library, Meaning, link_key
 from .modules import answer
 from .native_write import write_object
 from .printing import echo_text, export_pair, print_text, set_pair
-from .base import Refuse
 from .script import ScriptError, parse
 from .sequencer import Sequencer
 
@@ -268,5 +267,3 @@ def run(words, files):
         session.statement(statement)
     return b"".join(session.out), session.exports, 1 if session.failed else 0
 
-
-__all__ = ["decimal", "run"]
