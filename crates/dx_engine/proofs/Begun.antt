@@ -145,10 +145,6 @@ pub gathers_fit : (setup : Setup) (st : State) (r : Result Gathered Short) (at :
 gathers_fit setup st (Ok g) at h = record { error = error_fits setup g.error h.error; changes = h.changes }
 gathers_fit setup st (Err short) at h = tt
 
-pub goes_on_from : (st : State) (r : Result Gathered Short) (old new : List Term) → old ≡ st.tags → OnOk r (GoesOn old new) → OnOk r (GoesOn st.tags new)
-goes_on_from st (Ok g) old new e h = subst (λ y. GoesOn y new) e h
-goes_on_from st (Err short) old new e h = tt
-
 -- what the effects come to from here
 abbrev pub RunsHere : Setup → List CallTree → Option (List ℕ) → Result Gathered Short → Progress → Told → Option (List ℕ) → Fixed → Kept → Told → Machine → Formings → Type 0
 RunsHere setup all before r at now written x k base s f = RunsSo setup x k base all s f before r at now written

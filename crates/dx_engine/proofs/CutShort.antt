@@ -11,7 +11,7 @@ use Rattle.dx_demand.specs.Terms.{AreExact}
 use Rattle.dx_demand.specs.Picked.{LinksFit}
 use Rattle.dx_demand.proofs.Growing.{links_fit_grows}
 use Rattle.dx_machine.specs.Sound.{IsSound}
-use Rattle.dx_getting.specs.Stands.{EntriesRight, world}
+use Rattle.dx_getting.specs.Stands.{EntriesRight, named, world}
 use Rattle.dx_getting.specs.Steps.{AreCalls}
 use Rattle.dx_performing.specs.Kept.{Kept, LinkTerms}
 use Rattle.dx_performing.specs.Course.{Fixed, around_of, begins}
@@ -51,7 +51,7 @@ module _ (st st1 st2 : State) (fits : StateFits st) (cut : IsCutFrom st st1) (go
     budget = s.budget ∙ sym (gone.budget ∙ cut.budget);
     links = subst (λ (a : Around). LinksRight a (kept_of st2).links) (sym (around_is x)) (subst (LinksRight (around_of x (kept_of st))) (sym terms_are) s.links);
     entries = subst (EntriesRight (setting_of st2) (world x.answer x.file)) (sym gone.entries) tt;
-    sound = subst (λ es. IsSound (around_of x (kept_of st2)) x.budget (record { entries = map _ es; known = []; events = [] })) (sym gone.entries) (record { entries = tt; bounded = omega arith; known = tt });
+    sound = subst (λ es. IsSound (around_of x (kept_of st2)) x.budget (record { entries = map (named (heads_of st2.tags)) es; known = []; events = [] })) (sym gone.entries) (record { entries = tt; bounded = omega arith; known = tt });
   }
 
 -- ---- at a cut behind the last effect

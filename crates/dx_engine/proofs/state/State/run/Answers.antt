@@ -7,7 +7,7 @@ use Rattle.dx_getting.specs.Told.{told}
 use Rattle.dx_looking.specs.Setting.{fixed}
 use Rattle.dx_engine.specs.Keeping.{StateFits}
 use Rattle.dx_engine.specs.Beginning.{GathersFit}
-use Rattle.dx_engine.proofs.Begun.{looking_begun, effects_from, nothing_done, state_fits, gathers_fit, goes_on_from}
+use Rattle.dx_engine.proofs.Begun.{looking_begun, effects_from, nothing_done, state_fits, gathers_fit}
 use Rattle.dx_engine.proofs.state.State.run.Goals as goal
 
 pub returns-in_err-seen-clause-effects : goal.returns-in_err-seen-clause-effects
@@ -27,7 +27,7 @@ pub returns-clause-fits : goal.returns-clause-fits
 returns-clause-fits g c = subst (λ y. OnOk c.run_effects-ran.result (StateFits y)) (sym c.take_back.ensures) (state_fits _ c.args.self.now (record { links = refl; bound = refl; held = refl; written = refl }) c.run_effects-ran.result c.run_effects-ran.new.at c.run_effects-ran.ensures.looking)
 
 pub returns-clause-goes_on : goal.returns-clause-goes_on
-returns-clause-goes_on g c = subst (λ y. OnOk c.run_effects-ran.result (GoesOn c.args.self.now.tags y.tags)) (sym c.take_back.ensures) (goes_on_from c.args.self.now c.run_effects-ran.result c.fresh-at.result.tags c.run_effects-ran.new.at.tags (c.fresh-at.ensures.tags ∙ c.replace-tags.ensures.value) c.run_effects-ran.ensures.goes_on)
+returns-clause-goes_on g c = subst (λ y. GoesOn c.args.self.now.tags y.tags) (sym c.take_back.ensures) (subst (λ old. GoesOn old c.run_effects-ran.new.at.tags) (c.fresh-at.ensures.tags ∙ c.replace-tags.ensures.value) c.run_effects-ran.ensures.goes_on)
 
 pub returns-clause-gathers : goal.returns-clause-gathers
 returns-clause-gathers g c = subst (λ y. IfOk c.run_effects-ran.result (λ x. GathersFit (graph_of c.args.g.now).nodes y x)) (sym c.take_back.ensures) (gathers_fit _ c.args.self.now c.run_effects-ran.result c.run_effects-ran.new.at c.run_effects-ran.ensures.fits)
