@@ -4,8 +4,11 @@ pub mod Roots
 pub mod Narrowed
 pub mod Five
 pub mod BinsLaws
+pub mod SlopeLaws
 pub mod CountLaws
 pub mod MedianLaws
 pub mod NumberLaws
 pub mod FieldLaws
 pub mod Few
+pub mod Enough
+pub mod StepLaws

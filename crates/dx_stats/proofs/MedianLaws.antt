@@ -1,12 +1,15 @@
--- The number that is found by halving has the rank, and no other has it.
-use Rattle.std.proofs.Common.{◌≡◌, ℕ, ◌+◌, ◌-◌, ◌/◌, ◌<◌, ◌≤◌, ℤ, pos, ◌+ℤ◌, ◌-ℤ◌, ◌≤ℤ◌, ◌<ℤ◌, List, [], ◌∷◌, length, cond, Bool, true, false, ◌&&◌, refl, sym, ap, ◌∙◌, arith}
-use Rattle.std.specs.Prelude.{int_lt, int_le, unsigned_abs, nat_le, nat_lt, Some, None, find, filter, count_by}
+-- The number that is selected has the rank, and no other has it.
+use Rattle.std.proofs.Common.{◌≡◌, ℕ, suc, ◌+◌, ◌-◌, ◌/◌, ◌<◌, ◌≤◌, ℤ, ◌≤ℤ◌, ◌<ℤ◌, List, [], ◌∷◌, ◌++◌, length, cond, Bool, true, false, ◌&&◌, refl, sym, ap, ◌∙◌, arith}
+use Rattle.std.specs.Prelude.{int_lt, int_le, nat_le, nat_lt, Some, None, find, count_by}
+use Rattle.std.specs.List.{All}
+use Rattle.std.specs.List.Sorted.{IsPermutation, IsSplitAround}
+use Rattle.std.specs.Ordering.{int_cmp, is_lt}
 use Rattle.std.proofs.lemmas.Int.{ints, by_lt_z}
 use Rattle.std.proofs.lemmas.Bool.{and_parts}
 use Rattle.std.proofs.lemmas.Bool.Decides.{nat_tests}
-use Rattle.std.proofs.lemmas.List.Sums.{length-filter, sum_by-cons, sum_by-le-sum_by}
-use Rattle.dx_stats.specs.declared.bins.Bins.{Bins}
-use Rattle.dx_stats.specs.Bins.{AreBins, span, is_between, is_counted, counted, has_rank, item_of_rank, middle_rank, median, up_to}
+use Rattle.std.proofs.lemmas.List.Sorted.{sum_by-IsPermutation}
+use Rattle.std.proofs.lemmas.List.Sums.{count_by-le-length, sum_by-append, sum_by-cons, sum_by-le-sum_by}
+use Rattle.dx_stats.specs.Bins.{has_rank, item_of_rank, middle_rank, middle}
 
 -- ---- tests of numbers
 
@@ -16,11 +19,6 @@ one_if b = cond b 1 0
 count_cons : (p : ℤ → Bool) (v : ℤ) (vs : List ℤ) → count_by p (v ∷ vs) ≡ one_if (p v) + count_by p vs
 count_cons p v vs = sum_by-cons (λ x. one_if (p x)) v vs
 
--- equal tests count the same
-count_same : (p q : ℤ → Bool) (vs : List ℤ) → ((v : ℤ) → p v ≡ q v) → count_by p vs ≡ count_by q vs
-count_same p q [] h = refl
-count_same p q (v ∷ vs) h = count_cons p v vs ∙ ap (λ b. one_if b + count_by p vs) (h v) ∙ ap (λ n. one_if (q v) + n) (count_same p q vs h) ∙ sym (count_cons q v vs)
-
 one_le : (a b : Bool) → (a ≡ true → b ≡ true) → one_if a ≤ one_if b
 one_le false b h = omega arith
 one_le true b h = rw (h refl) (omega arith)
@@ -29,45 +27,19 @@ one_le true b h = rw (h refl) (omega arith)
 count_le : (p q : ℤ → Bool) (vs : List ℤ) → ((v : ℤ) → p v ≡ true → q v ≡ true) → count_by p vs ≤ count_by q vs
 count_le p q vs h = sum_by-le-sum_by (λ x. one_if (p x)) (λ x. one_if (q x)) vs (λ v. one_le (p v) (q v) (h v))
 
-none_pass : (p : ℤ → Bool) (vs : List ℤ) → ((v : ℤ) → p v ≡ false) → count_by p vs ≡ 0
+none_pass : (p : ℤ → Bool) (vs : List ℤ) → All (λ v. p v ≡ false) vs → count_by p vs ≡ 0
 none_pass p [] h = refl
 none_pass p (v ∷ vs) h =
-    let zero_more : one_if false + count_by p vs ≡ count_by p vs = omega arith in
-    count_cons p v vs ∙ ap (λ b. one_if b + count_by p vs) (h v) ∙ zero_more ∙ none_pass p vs h
+    let here = ap one_if (h 0 v (omega arith)) in
+    let rest = none_pass p vs (λ i d lt. h (suc i) d (omega arith)) in
+    omega (arith, count_cons p v vs, here, rest)
 
-zero_more : (n : ℕ) → 0 + n ≡ n
-zero_more n = omega arith
-
--- what is counted among those that pass another test
-count_filter : (p q : ℤ → Bool) (vs : List ℤ) → count_by p (filter q vs) ≡ count_by (λ v. q v && p v) vs
-count_filter p q [] = refl
-count_filter p q (v ∷ vs) =
-    elim (q v) as (λ b. count_by p (cond b (v ∷ filter q vs) (filter q vs)) ≡ one_if (b && p v) + count_by (λ w. q w && p w) vs) [
-      | true ↦ count_cons p v (filter q vs) ∙ ap (λ n. one_if (p v) + n) (count_filter p q vs)
-      | false ↦ count_filter p q vs ∙ sym (zero_more (count_by (λ w. q w && p w) vs))
-    ] ∙ sym (count_cons (λ w. q w && p w) v vs)
-
--- ---- numbers that count, up to one of them
-
-both_le : (low high x v : ℤ) → x ≤ℤ high → (is_between low high v && int_le v x) ≡ is_between low x v
-both_le low high x v h = grind (arith, ints)
-
-both_lt : (low high x v : ℤ) → x ≤ℤ high → (is_between low high v && int_lt v x) ≡ is_between low (x -ℤ pos 1) v
-both_lt low high x v h = grind (arith, ints)
-
--- those that aren't above x
-pub count_up_to : (b : Bins) (vs : List ℤ) (x : ℤ) → x ≤ℤ b.high → count_by (λ w. int_le w x) (counted b vs) ≡ up_to b vs x
-count_up_to b vs x h = count_filter (λ w. int_le w x) (is_counted b) vs ∙ count_same (λ v. is_counted b v && int_le v x) (is_between b.low x) vs (λ v. both_le b.low b.high x v h)
-
--- those that are below x
-pub count_below : (b : Bins) (vs : List ℤ) (x : ℤ) → x ≤ℤ b.high → count_by (λ w. int_lt w x) (counted b vs) ≡ up_to b vs (x -ℤ pos 1)
-count_below b vs x h = count_filter (λ w. int_lt w x) (is_counted b) vs ∙ count_same (λ v. is_counted b v && int_lt v x) (is_between b.low (x -ℤ pos 1)) vs (λ v. both_lt b.low b.high x v h)
-
-none_before : (low v : ℤ) → is_between low (low -ℤ pos 1) v ≡ false
-none_before low v = grind (arith, ints)
-
-pub up_to_none : (b : Bins) (vs : List ℤ) → up_to b vs (b.low -ℤ pos 1) ≡ 0
-up_to_none b vs = none_pass (is_between b.low (b.low -ℤ pos 1)) vs (none_before b.low)
+all_pass : (p : ℤ → Bool) (vs : List ℤ) → All (λ v. p v ≡ true) vs → count_by p vs ≡ length vs
+all_pass p [] h = refl
+all_pass p (v ∷ vs) h =
+    let here = ap one_if (h 0 v (omega arith)) in
+    let rest = all_pass p vs (λ i d lt. h (suc i) d (omega arith)) in
+    omega (arith, count_cons p v vs, here, rest)
 
 -- ---- one number has the rank
 
@@ -117,69 +89,53 @@ found p x (v ∷ vs) only at more =
 rank_true : (r a b : ℕ) → a ≤ r → r < b → (nat_le a r && nat_lt r b) ≡ true
 rank_true r a b h k = grind (arith, nat_tests)
 
--- so the number up to which more than so many count, and before which no more than so many do, has the rank
-pub rank_found : (b : Bins) (vs : List ℤ) (r : ℕ) (x : ℤ) → x ≤ℤ b.high → up_to b vs (x -ℤ pos 1) ≤ r → r < up_to b vs x → item_of_rank r (counted b vs) ≡ Some x
-rank_found b vs r x h low high =
-    let below = count_below b vs x h in
-    let above = count_up_to b vs x h in
-    let at : has_rank r (counted b vs) x ≡ true = rank_true r _ _ (omega (arith, below, low)) (omega (arith, above, high)) in
-    found (has_rank r (counted b vs)) x (counted b vs) (λ v p. one_rank r (counted b vs) v x p at) at (omega (arith, below, above, low, high))
+-- ---- the number that is selected
 
--- ---- the median
+is_below : (a b : ℤ) → a <ℤ b → int_lt a b ≡ true
+is_below a b h = grind (arith, ints)
 
-empty_of : (b : Bins) (vs : List ℤ) (ws : List ℤ) → ws ≡ counted b vs → length ws ≡ 0 → item_of_rank (middle_rank (length ws)) ws ≡ None
-empty_of b vs [] e h = refl
-empty_of b vs (w ∷ ws) e h = absurd (omega arith)
+lt_cmp : (a b : ℤ) → a <ℤ b → is_lt (int_cmp a b) ≡ true
+lt_cmp a b h = rw (is_below a b h) refl
 
-pub no_median : (b : Bins) (vs : List ℤ) → up_to b vs b.high ≡ 0 → median b vs ≡ None
-unfolding median
-no_median b vs h = empty_of b vs (counted b vs) refl (length-filter (is_counted b) vs ∙ h)
+not_above : (m v : ℤ) → is_lt (int_cmp m v) ≡ false → int_le v m ≡ true
+not_above m v h = by_lt_z m v (λ lt. absurd (cc (lt_cmp m v lt, h))) (λ le. grind (arith, ints))
 
-pub median_is : (b : Bins) (vs : List ℤ) (r : ℕ) (x : ℤ) → r ≡ (up_to b vs b.high - 1) / 2 → item_of_rank r (counted b vs) ≡ Some x → median b vs ≡ Some x
-unfolding median
-median_is b vs r x e h =
-    let count : length (counted b vs) ≡ up_to b vs b.high = length-filter (is_counted b) vs in
-    ap (λ n. item_of_rank (middle_rank n) (counted b vs)) count ∙ ap (λ n. item_of_rank n (counted b vs)) (sym e) ∙ h
+not_below : (m v : ℤ) → is_lt (int_cmp v m) ≡ false → int_lt v m ≡ false
+not_below m v h = by_lt_z v m (λ lt. absurd (cc (lt_cmp v m lt, h))) (λ le. grind (arith, ints))
 
-pub middle_few : (m : ℕ) → 0 < m → (m - 1) / 2 < m
-middle_few m h = omega arith
+self_lt : (m : ℤ) → int_lt m m ≡ false
+self_lt m = grind (arith, ints)
 
--- ---- halving
+self_le : (m : ℤ) → int_le m m ≡ true
+self_le m = grind (arith, ints)
 
-pub begin_low : (b : Bins) (vs : List ℤ) (r : ℕ) → up_to b vs (b.low +ℤ pos 0 -ℤ pos 1) ≤ r
-begin_low b vs r =
-    let same : b.low +ℤ pos 0 -ℤ pos 1 ≡ b.low -ℤ pos 1 = omega (arith, ints) in
-    let none = up_to_none b vs in
-    rw (same, none) (omega arith)
+counted_parts : (p : ℤ → Bool) (vs front back : List ℤ) (m : ℤ) → IsPermutation vs (front ++ m ∷ back) → count_by p vs ≡ count_by p front + (one_if (p m) + count_by p back)
+counted_parts p vs front back m perm =
+    let f : ℤ → ℕ = λ v. one_if (p v) in
+    sym (sum_by-IsPermutation f vs (front ++ m ∷ back) perm) ∙ sum_by-append f front (m ∷ back) ∙ ap (λ n. count_by p front + n) (count_cons p m back)
 
-reach : (a b : ℤ) (n : ℕ) → a ≤ℤ b → n ≡ unsigned_abs (b -ℤ a) → a +ℤ pos n ≡ b
-reach a b n h e = grind (arith, ints)
+-- where so many aren't above a number that stands before the others, none of which are below it, the number has that rank
+pub selected : (vs front back : List ℤ) (m : ℤ) (r : ℕ) → IsPermutation vs (front ++ m ∷ back) → length front ≡ r → IsSplitAround int_cmp front m back → item_of_rank r vs ≡ Some m
+selected vs front back m r perm len split =
+    let low = counted_parts (λ w. int_lt w m) vs front back m perm in
+    let low_front = count_by-le-length (λ w. int_lt w m) front in
+    let low_self = ap one_if (self_lt m) in
+    let low_back = none_pass (λ w. int_lt w m) back (λ i d lt. not_below m _ (split.1 i d lt)) in
+    let high = counted_parts (λ w. int_le w m) vs front back m perm in
+    let high_front = all_pass (λ w. int_le w m) front (λ i d lt. not_above m _ (split.0 i d lt)) in
+    let high_self = ap one_if (self_le m) in
+    let below : count_by (λ w. int_lt w m) vs ≤ r = omega (arith, low, low_front, low_self, low_back, len) in
+    let above : r < count_by (λ w. int_le w m) vs = omega (arith, high, high_front, high_self, len) in
+    let at : has_rank r vs m ≡ true = rank_true r _ _ below above in
+    found (has_rank r vs) m vs (λ v p. one_rank r vs v m p at) at (omega (arith, below, above))
 
-pub high_at : (b : Bins) (n : ℕ) → AreBins b → n + 1 ≡ span b → b.low +ℤ pos n ≡ b.high
-high_at b n h e = reach b.low b.high n h.order (omega arith)
+-- ---- the number in the middle
 
-pub begin_high : (b : Bins) (vs : List ℤ) (r n : ℕ) → AreBins b → n + 1 ≡ span b → r < up_to b vs b.high → r < up_to b vs (b.low +ℤ pos n)
-begin_high b vs r n h e low = rw (high_at b n h e) low
+pub middle_of_none : (vs : List ℤ) → length vs ≡ 0 → middle vs ≡ None
+unfolding middle
+middle_of_none [] h = refl
+middle_of_none (v ∷ vs) h = absurd (omega arith)
 
-lt_of : (a b : ℕ) → nat_lt a b ≡ true → a < b
-lt_of a b h = grind (arith, nat_tests)
-
-le_of : (a b : ℕ) → nat_lt a b ≡ false → b ≤ a
-le_of a b h = grind (arith, nat_tests)
-
-pub step_high : (b : Bins) (vs : List ℤ) (r m : ℕ) → nat_lt r (up_to b vs (b.low +ℤ pos m)) ≡ true → r < up_to b vs (b.low +ℤ pos m)
-step_high b vs r m h = lt_of r (up_to b vs (b.low +ℤ pos m)) h
-
-pub step_low : (b : Bins) (vs : List ℤ) (r m : ℕ) → nat_lt r (up_to b vs (b.low +ℤ pos m)) ≡ false → up_to b vs (b.low +ℤ pos (m + 1) -ℤ pos 1) ≤ r
-step_low b vs r m h =
-    let same : b.low +ℤ pos (m + 1) -ℤ pos 1 ≡ b.low +ℤ pos m = omega (arith, ints) in
-    rw same (le_of r (up_to b vs (b.low +ℤ pos m)) h)
-
-below_high : (a b : ℤ) (n : ℕ) → a ≤ℤ b → n < unsigned_abs (b -ℤ a) + 1 → (a +ℤ pos n) ≤ℤ b
-below_high a b n h k = grind (arith, ints)
-
--- where both ends meet, the number there has the rank
-pub meets : (b : Bins) (vs : List ℤ) (r n m : ℕ) → AreBins b → n ≤ m → m ≤ n → m < span b → up_to b vs (b.low +ℤ pos n -ℤ pos 1) ≤ r → r < up_to b vs (b.low +ℤ pos m) → item_of_rank r (counted b vs) ≡ Some (b.low +ℤ pos n)
-meets b vs r n m h le ge within low high =
-    let same : m ≡ n = omega arith in
-    rank_found b vs r (b.low +ℤ pos n) (below_high b.low b.high n h.order (omega arith)) low (rw same at high)
+pub middle_is : (vs front back : List ℤ) (m : ℤ) → IsPermutation vs (front ++ m ∷ back) → length front ≡ (length vs - 1) / 2 → IsSplitAround int_cmp front m back → middle vs ≡ Some m
+unfolding middle
+middle_is vs front back m perm len split = selected vs front back m (middle_rank (length vs)) perm len split

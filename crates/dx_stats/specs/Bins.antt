@@ -48,16 +48,25 @@ has_rank r vs v = nat_le (count_by (λ w. int_lt w v) vs) r && nat_lt r (count_b
 abbrev pub item_of_rank : ℕ → List ℤ → Option ℤ
 item_of_rank r vs = find (has_rank r vs) vs
 
--- how many numbers from the least one on are at most x
-abbrev pub up_to : Bins → List ℤ → ℤ → ℕ
-up_to b vs x = count_by (is_between b.low x) vs
-
 abbrev pub middle_rank : ℕ → ℕ
 middle_rank m = (m - 1) / 2
 
+-- the lower of the two in the middle, where they are an even number
+unfoldable pub middle : List ℤ → Option ℤ
+middle vs = item_of_rank (middle_rank (length vs)) vs
+
 -- the median of those that count
-unfoldable pub median : Bins → List ℤ → Option ℤ
-median b vs = item_of_rank (middle_rank (length (counted b vs))) (counted b vs)
+abbrev pub median : Bins → List ℤ → Option ℤ
+median b vs = middle (counted b vs)
+
+-- a slope, which tells the bin of a number without a division: 2^66 times the bins, divided by the span, and a little more
+abbrev pub scale : ℕ
+scale = 73786976294838206464
+
+pub record IsSlope (b : Bins) (slope : ℕ) : Type 0 where
+  pub low : b.count * scale ≤ slope * span b
+  pub high : slope * span b ≤ b.count * scale + span b
+  pub few : slope ≤ 4835703278458516698824705
 
 -- bins that can be: some, no more than 65,536, between two numbers that some type of values holds
 pub record AreBins (b : Bins) : Type 0 where

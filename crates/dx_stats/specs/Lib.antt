@@ -5,3 +5,4 @@ pub mod Bins
 pub mod Tally
 pub mod Histogram
 pub mod Results
+pub mod Laws

@@ -1,10 +1,13 @@
 // Bins of equal width over the whole numbers from one to another.
-ghost use Rattle.std.specs.Prelude.{◌≡◌, ◌+◌, ◌*◌, ◌<◌, ◌≤◌, ◌+ℤ◌, ◌≤ℤ◌, pos, length, replicate, All, vec_len, IsTrue, IfOk};
+ghost use Rattle.std.specs.Prelude.{◌≡◌, ◌+◌, ◌*◌, ◌<◌, ◌≤◌, ◌≤ℤ◌, pos, length, replicate, All, vec_len, IsTrue, IfOk};
 ghost use Rattle.dx_stats.specs.Bins as spec;
-ghost use Rattle.dx_stats.specs.Bins.{AreBins};
+ghost use Rattle.dx_stats.specs.Bins.{AreBins, IsSlope};
 ghost use Rattle.dx_stats.specs.Tally.{tallied};
 
 use std::alloc::{AllocError, Global};
+
+/// 2^66, above the square of each span.
+const SCALE: u128 = 73786976294838206464;
 
 /// So many bins over the whole numbers from the least to the greatest.
 #[derive(Clone, Copy)]
@@ -32,24 +35,24 @@ impl Bins {
         self.high.abs_diff(self.low) + 1
     }
 
-    /// The number at a distance from the least.
-    pub(crate) fn number_at(self, distance: u64) -> i64
-        requires bins { AreBins self }
-        requires within { distance ≤ 8589934592 }
-        ensures { result ≡ self.low +ℤ pos distance }
+    // By how much a distance from the least number is multiplied to give its bin, in parts of SCALE.
+    fn slope(self) -> u128
+        requires { AreBins self }
+        ensures { IsSlope self result }
     {
-        self.low + distance as i64
+        u128::from(self.count) * SCALE / u128::from(self.span()) + 1
     }
 
-    /// The bin of a number that counts.
+    // The bin of a number that counts.
     #[inline]
-    pub(crate) fn bin_of(self, value: i64) -> u64
+    fn bin_of(self, slope: u128, value: i64) -> u64
         requires bins { AreBins self }
+        requires slope { IsSlope self slope }
         requires counted { IsTrue (spec.is_counted self value) }
         ensures bin { result ≡ spec.bin_of self value }
         ensures within { result < self.count }
     {
-        product(value.abs_diff(self.low), self.count) / self.span()
+        (u128::from(value.abs_diff(self.low)) * slope / SCALE) as u64
     }
 
     // The least number of a bin, and behind the last bin the number that follows.
@@ -74,30 +77,32 @@ impl Bins {
         Ok(borders)
     }
 
-    /// How many of some numbers fall into each bin.
+    /// How many of some numbers fall into each bin, in one pass without a division.
     pub(crate) fn counts(self, alloc: Global, values: &[i64]) -> Result<Vec<i64>, AllocError>
         requires bins { AreBins self }
         requires few { length values.now ≤ 16777216 }
         ensures { IfOk result (λ counts. counts.items ≡ spec.bin_counts self values.now) }
     {
+        let slope = self.slope();
         let mut counts = zeros(alloc, self.count)?;
         for value in values {
-            self.tally(&mut counts, *value);
+            self.tally(slope, &mut counts, *value);
         }
         Ok(counts)
     }
 
     // Counts a number in its bin.
     #[inline]
-    fn tally(self, counts: &mut Vec<i64>, value: i64)
+    fn tally(self, slope: u128, counts: &mut Vec<i64>, value: i64)
         requires bins { AreBins self }
+        requires slope { IsSlope self slope }
         requires len { vec_len counts.old ≡ self.count }
         requires some { All (λ n. pos 0 ≤ℤ n) counts.old.items }
         requires few { All (λ n. n ≤ℤ pos 16777216) counts.old.items }
         ensures { counts.new.items ≡ tallied self value counts.old.items }
     {
         if self.is_counted(value) {
-            let bin = self.bin_of(value) as usize;
+            let bin = self.bin_of(slope, value) as usize;
             counts[bin] += 1;
         }
     }

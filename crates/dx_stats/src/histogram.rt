@@ -74,7 +74,8 @@ fn histogram_of(alloc: Global, values: &[i64], inputs: &Outs) -> Result<Outs, Ru
         Ok(bins) => bins,
     };
     let field = histogram_field(alloc, values, bins)?;
-    Ok(results_of(alloc, field, median(values, bins))?)
+    let median = median(alloc, values, bins)?;
+    Ok(results_of(alloc, field, median)?)
 }
 
 fn results_of(alloc: Global, field: Object, median: Option<i64>) -> Result<Outs, AllocError>

@@ -4,6 +4,7 @@
 mod bins;
 mod field;
 mod histogram;
+mod laws;
 mod median;
 mod numbers;
 mod results;
@@ -12,4 +13,5 @@ mod sums;
 
 pub use dx_objects::{Code, Outs, RunFail};
 pub use histogram::run_histogram;
+pub use laws::{steps_law, sums_law};
 pub use statistics::run_statistics;

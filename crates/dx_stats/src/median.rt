@@ -1,57 +1,40 @@
-// The median of the numbers that count, found by halving the range in which it lies: each step counts once over all numbers,
-// and takes no memory.
-ghost use Rattle.std.specs.Prelude.{◌≡◌, ◌+◌, ◌<◌, ◌≤◌, ◌+ℤ◌, ◌≤ℤ◌, pos, nat_lt, count_by, Some};
+// The median of the numbers that count, which is selected from a copy of them: in linear time on average, without a sort of all.
+ghost use Rattle.std.specs.Prelude.{◌≡◌, IfOk};
 ghost use Rattle.dx_stats.specs.Bins as spec;
-ghost use Rattle.dx_stats.specs.Bins.{AreBins, is_between, up_to};
 
 use crate::bins::Bins;
+use std::alloc::{AllocError, Global};
 
 /// The number of the middle rank among those that count, the lower of two, and none where none counts.
-#[tactic(auto, using(crate::proofs::MedianLaws::no_median, crate::proofs::MedianLaws::median_is, crate::proofs::MedianLaws::middle_few))]
-pub(crate) fn median(values: &[i64], bins: Bins) -> Option<i64>
-    requires { AreBins bins }
-    ensures { result ≡ spec.median bins values.now }
+pub(crate) fn median(alloc: Global, values: &[i64], bins: Bins) -> Result<Option<i64>, AllocError>
+    ensures { IfOk result (λ m. m ≡ spec.median bins values.now) }
 {
-    let counted = count_between(values, bins.low, bins.high);
-    if counted == 0 {
-        None
-    } else {
-        Some(item_of_rank(values, bins, (counted - 1) / 2))
-    }
+    let mut counted = counted_in(alloc, values, bins)?;
+    Ok(middle_of(counted.as_mut_slice()))
 }
 
-// The number of a rank among those that count.
-#[tactic(auto, using(crate::proofs::MedianLaws::begin_low, crate::proofs::MedianLaws::begin_high, crate::proofs::MedianLaws::step_low, crate::proofs::MedianLaws::step_high))]
-fn item_of_rank(values: &[i64], bins: Bins, rank: u64) -> i64
-    requires bins { AreBins bins }
-    requires rank { rank < up_to bins values.now bins.high }
-    ensures { spec.item_of_rank rank (spec.counted bins values.now) ≡ Some result }
+// The numbers that count.
+fn counted_in(alloc: Global, values: &[i64], bins: Bins) -> Result<Vec<i64>, AllocError>
+    ensures { IfOk result (λ counted. counted.items ≡ spec.counted bins values.now) }
 {
-    let mut from = 0;
-    let mut to = bins.span() - 1;
-    while from < to {
-        let middle = from + (to - from) / 2;
-        if has_more(values, bins, middle, rank) {
-            to = middle;
-        } else {
-            from = middle + 1;
+    let mut counted = Vec::with_capacity(alloc, values.len())?;
+    for value in values {
+        if bins.is_counted(*value) {
+            counted.push(*value)?;
         }
     }
-    bins.number_at(from)
+    Ok(counted)
 }
 
-// Whether more than so many of those that count are at most the number at this distance.
-fn has_more(values: &[i64], bins: Bins, distance: u64, rank: u64) -> bool
-    requires bins { AreBins bins }
-    requires near { distance ≤ 8589934592 }
-    ensures { result ≡ nat_lt rank (up_to bins values.now (bins.low +ℤ pos distance)) }
+// The number of the middle rank among some numbers, which are put in another order, and none where there are none.
+#[tactic(auto, using(crate::proofs::MedianLaws::middle_of_none))]
+fn middle_of(numbers: &mut [i64]) -> Option<i64>
+    ensures { result ≡ spec.middle numbers.old }
 {
-    rank < count_between(values, bins.low, bins.number_at(distance))
-}
-
-// How many numbers there are from one to another.
-fn count_between(values: &[i64], low: i64, high: i64) -> u64
-    ensures { result ≡ count_by (is_between low high) values.now }
-{
-    values.iter().filter(|v| low <= **v && **v <= high).count() as u64
+    if numbers.is_empty() {
+        return None;
+    }
+    let rank = (numbers.len() - 1) / 2;
+    let (_, middle, _) = numbers.select_nth_unstable(rank);
+    Some(*middle)
 }
