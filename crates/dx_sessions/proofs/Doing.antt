@@ -4,13 +4,16 @@ use Rattle.dx_performing.specs.Course.{Fixed}
 use Rattle.dx_performing.specs.Kept.{Kept, current}
 use Rattle.dx_engine.specs.Keeping.{IsSoundState}
 use Rattle.dx_engine.specs.Executing.{Devices}
-use Rattle.dx_shown.specs.Made.{Coursed}
-use Rattle.dx_shown.specs.Session.{Done, Shown, State, and_then, silently}
+use Rattle.dx_ast.specs.Syntax.{Stmt, Assigns, Calls, Defines, Includes, Sets, Says, Sequences}
+use Rattle.dx_sequencer.specs.Sequencer as seq
+use Rattle.dx_shown.specs.Made.{Coursed, coursed}
+use Rattle.dx_shown.specs.Session.{Done, Shown, State, and_then, silently, statement}
 use Rattle.dx_shown.specs.Listed.{any_error}
 use Rattle.dx_telling.specs.declared.listings.Listings.{Listings}
 use Rattle.dx_sessions.specs.Does.{IsWhole, IsFront, IsCutShort, IsCutAt, IsDone}
-use Rattle.dx_sessions.specs.Left.{LeavesCurrent}
-use Rattle.dx_sessions.specs.Places.{here}
+use Rattle.dx_sessions.specs.Left.{LeavesCurrent, LeavesSequencer}
+use Rattle.dx_sessions.specs.Places.{here, in_statement}
+use Rattle.dx_sessions.proofs.Statements.{IsDefining}
 use Rattle.dx_sessions.specs.SessionView.{state_of}
 use Rattle.dx_sessions.specs.declared.session.Session.{Session}
 use Rattle.dx_sessions.proofs.Folding.{errors_append, none_whole, whole_on, cut_at_once, cut_in_one}
@@ -61,3 +64,23 @@ stays_at_line x l s was now st new leaves front same sound = record {
   };
   sound = sound;
 }
+
+-- the definition of a macro
+pub defining_cut : (x : Fixed) (l : Listings) (was : Devices) (st : State Kept) (new : Session) (t : Stmt) → IsDefining t → state_of new ≡ st → IsSoundState x new.state
+    → IsCutAt x l (in_statement (coursed x) st t) (statement (coursed x) st t).shown was new was
+defining_cut x l was st new (Defines m) d same sound = stays_at_once x l [] was st new same sound
+defining_cut x l was st new (Assigns targets e) d same sound = absurd d
+defining_cut x l was st new (Calls c) d same sound = absurd d
+defining_cut x l was st new (Includes name) d same sound = absurd d
+defining_cut x l was st new (Sets v e) d same sound = absurd d
+defining_cut x l was st new (Says w) d same sound = absurd d
+defining_cut x l was st new (Sequences c) d same sound = absurd d
+
+pub defining_stays : (t : Stmt) (s : seq.State) → IsDefining t → LeavesSequencer t s s
+defining_stays (Defines m) s d = refl
+defining_stays (Assigns targets e) s d = absurd d
+defining_stays (Calls c) s d = absurd d
+defining_stays (Includes name) s d = absurd d
+defining_stays (Sets v e) s d = absurd d
+defining_stays (Says w) s d = absurd d
+defining_stays (Sequences c) s d = absurd d

@@ -17,7 +17,6 @@ use Rattle.dx_macros.specs.Tree.{CallTree}
 use Rattle.dx_macros.specs.Walk.{Fault, first_fault}
 use Rattle.dx_ast.specs.declared.sequencing.Frames.{Frames}
 use Rattle.dx_tags.specs.Closed.{Head, heads_of}
-use Rattle.dx_tags.specs.declared.files.Written.{Written}
 use Rattle.dx_getting.specs.Stands.{Answers}
 use Rattle.dx_getting.specs.Told.{Told, Adds, AddsSome}
 use Rattle.dx_getting.proofs.TellLaws.{some_all, some_later}
@@ -138,7 +137,7 @@ links_same : (st st' : State) → st'.links ≡ st.links → (current (kept_of s
 links_same st st' same = ap (λ (y : CodeLinks). objects_of (links_of (heads_of st'.tags) y.links)) same ∙ objects_same (heads_of st'.tags) (heads_of st.tags) st.links.links
 
 before_unput : (c : Coursed) (st st' : State) (was now : Devices) → st'.links ≡ st.links → NonePut st was st' now → IsBefore c (current (kept_of st)) (current (kept_of st'))
-before_unput c st st' was now same none = record { front = []; rest = c.execution.exports; split = refl; links = links_same st st' same; written = ap (λ (w : Written). w.files) none.files }
+before_unput c st st' was now same none = record { front = []; rest = c.execution.exports; split = refl; links = links_same st st' same; written = ap (λ w. w.files) none.files }
 
 before_put : (c : Coursed) (st st' : State) (was now : Devices) → st'.links ≡ st.links → SomeArePut c st was st' now → IsBefore c (current (kept_of st)) (current (kept_of st'))
 before_put c st st' was now same some = record { front = some.front; rest = some.rest; split = some.split; links = links_same st st' same; written = some.made.files }

@@ -66,14 +66,14 @@ whole_on l a b was mid now first second = record {
 
 -- ---- as much as was done before it was cut short
 
-front_of_none : (l : Listings) (was : Devices) → IsFront l [] was was
+pub front_of_none : (l : Listings) (was : Devices) → IsFront l [] was was
 front_of_none l was = record {
   printed = ([], [], refl, grows_by_nothing was.written);
   puts = ([], [], refl, grows_by_nothing was.puts);
   told = record { front = []; rest = []; whole = refl; done = (adds_none was.told).done; next = []; is_next = tt; asked = (adds_none was.told).asked };
 }
 
-none_is_few : length {A = Shown Coursed} [] ≤ 1
+pub none_is_few : length {A = Shown Coursed} [] ≤ 1
 none_is_few = omega arith
 
 -- nothing was done
@@ -89,7 +89,7 @@ cut_at_once l shown was = record {
   front = front_of_none l was;
 }
 
-one_is_few : (s : Shown Coursed) → length (s ∷ []) ≤ 1
+pub one_is_few : (s : Shown Coursed) → length (s ∷ []) ≤ 1
 one_is_few s = omega arith
 
 abbrev pub cut_in_one : (l : Listings) (s : Shown Coursed) (was now : Devices) → IsFront l (s ∷ []) was now → IsCutShort l (s ∷ []) was now

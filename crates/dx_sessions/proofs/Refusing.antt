@@ -1,6 +1,7 @@
 -- Plays and frame settings that are refused, which have a line alone; and those that aren't.
 use Rattle.std.proofs.Common.{◌≡◌, ℕ, ◌≤◌, ℤ, List, [], ◌∷◌, ◌++◌, Option, Bool, true, false, ◌||◌, Result, Ok, Err, refl, sym, ap, subst, ◌∙◌, append-nil}
 use Rattle.std.specs.Prelude.{if◌then◌else◌}
+use Rattle.std.specs.Bool.{MatchBool}
 use Rattle.dx_io.specs.declared.fails.SinkFail.{SinkFail}
 use Rattle.dx_io.specs.Devices.{Grows, GrowsInto}
 use Rattle.dx_io.proofs.Growing.{grows_by_nothing}
@@ -76,7 +77,7 @@ long_done x l st new was now long same sound grown alone =
     (record { whole = line_whole l PlayTooLong was now tt grown alone; erred = refl; state = same; sound = sound })
 
 abbrev places_by : Making Kept Coursed → State Kept → Bool → List (Shown Coursed) → State Kept → Type 0
-places_by make st long before at = if long then here st before at else IsAmongSteps make (play_steps (at_play st.sequencer)) (with_sequencer (at_play st.sequencer) st) before at
+places_by make st long before at = MatchBool long (here st before at) (IsAmongSteps make (play_steps (at_play st.sequencer)) (with_sequencer (at_play st.sequencer) st) before at)
 
 abbrev played_so : Making Kept Coursed → State Kept → Bool → Done Kept Coursed
 played_so make st long = if long then refused PlayTooLong st else stepped_often make (play_steps (at_play st.sequencer)) (with_sequencer (at_play st.sequencer) st)

@@ -1,5 +1,5 @@
 -- The code's statements as plain ones.
-use Rattle.std.proofs.Common.{◌≡◌, ◌∙◌, ap}
+use Rattle.std.proofs.Common.{◌≡◌, ◌∙◌, ap, sym, subst}
 use Rattle.dx_ast.specs.declared.expressions.Call.{Call}
 use Rattle.dx_ast.specs.declared.expressions.Expr.{Expr}
 use Rattle.dx_ast.specs.declared.sequencing.FrameVar.{FrameVar}
@@ -10,7 +10,7 @@ use Rattle.dx_ast.specs.declared.statements.Stmt.{Stmt}
 use Rattle.dx_ast.specs.declared.statements.Stmt as shape
 use Rattle.dx_ast.specs.declared.statements.Stmt.TheVariants as code
 use Rattle.dx_ast.specs.Syntax as plain
-use Rattle.dx_ast.specs.Plain.{plain_call, plain_expr, plain_macro, plain_stmt}
+use Rattle.dx_ast.specs.Plain.{plain_call, plain_expr, plain_stmt}
 use Rattle.dx_ast.proofs.PlainLaws.{plain_stmt_out}
 
 pub assign_is : (s : Stmt) (a : Assign) → s ≡ code.Assign a → plain_stmt s ≡ plain.Assigns a.targets (plain_expr a.value)
@@ -21,9 +21,14 @@ pub call_is : (s : Stmt) (c : Call) → s ≡ code.Call c → plain_stmt s ≡ p
 unfolding shape.out-Stmt denote.Hole.Carrier.out
 call_is s c is = ap plain_stmt is ∙ plain_stmt_out (code.Call c)
 
-pub macro_is : (s : Stmt) (m : MacroDef) → s ≡ code.Macro m → plain_stmt s ≡ plain.Defines (plain_macro m)
+-- it defines a macro
+abbrev pub IsDefining : plain.Stmt → Type 0
+IsDefining (plain.Defines m) = Unit {0}
+IsDefining other = ⊥
+
+pub macro_is : (s : Stmt) (m : MacroDef) → s ≡ code.Macro m → IsDefining (plain_stmt s)
 unfolding shape.out-Stmt denote.Hole.Carrier.out
-macro_is s m is = ap plain_stmt is ∙ plain_stmt_out (code.Macro m)
+macro_is s m is = subst IsDefining (sym (ap plain_stmt is ∙ plain_stmt_out (code.Macro m))) tt
 
 pub setting_is : (s : Stmt) (v : FrameVar) (e : Expr) → s ≡ code.SetFrame v e → plain_stmt s ≡ plain.Sets v (plain_expr e)
 unfolding shape.out-Stmt denote.Hole.Carrier.out

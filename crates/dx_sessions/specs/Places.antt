@@ -1,5 +1,6 @@
 -- Where what a statement shows next begins: behind what it has shown before, in the state that there is then.
-use Rattle.std.specs.Prelude.{◌≡◌, ◌<◌, ℕ, List, [], if◌then◌else◌}
+use Rattle.std.specs.Prelude.{◌≡◌, ◌<◌, ℕ, List, []}
+use Rattle.std.specs.Bool.{MatchBool}
 use Rattle.dx_ast.specs.declared.sequencing.Word.{Word}
 use Rattle.dx_ast.specs.declared.sequencing.Word.TheVariants as word
 use Rattle.dx_ast.specs.Syntax.{Stmt, Says}
@@ -27,7 +28,7 @@ pub record IsAmongSteps (make : Making Kept Coursed) (steps : ℕ) (st : State K
 abbrev pub in_play : Making Kept Coursed → State Kept → List (Shown Coursed) → State Kept → Type 0
 in_play make st before at =
     let s = seq.at_play st.sequencer in
-    if seq.is_too_long s then here st before at else IsAmongSteps make (seq.play_steps s) (with_sequencer s st) before at
+    MatchBool (seq.is_too_long s) (here st before at) (IsAmongSteps make (seq.play_steps s) (with_sequencer s st) before at)
 
 abbrev pub in_word : Making Kept Coursed → Word → State Kept → List (Shown Coursed) → State Kept → Type 0
 in_word make word.Play st = in_play make st

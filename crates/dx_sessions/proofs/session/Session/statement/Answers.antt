@@ -12,7 +12,7 @@ use Rattle.dx_sessions.specs.Does.{DoesSo, IsCutAt, devices}
 use Rattle.dx_sessions.specs.Places.{here, in_statement}
 use Rattle.dx_sessions.specs.Sequence.{IsSequenceCall}
 use Rattle.dx_sessions.specs.SessionView.{state_of}
-use Rattle.dx_sessions.proofs.Doing.{stays_at_once}
+use Rattle.dx_sessions.proofs.Doing.{defining_cut}
 use Rattle.dx_sessions.proofs.Refusing.{set_cut_from}
 use Rattle.dx_sessions.proofs.Statements.{call_is, macro_is, setting_is, word_is, sequence_is}
 use Rattle.dx_sessions.proofs.session.Session.statement.Goals as goal
@@ -31,8 +31,7 @@ returns-in_err-define-in-Macro-clause-does g c = λ x answers files sound.
     let st = state_of c.args.self.now in
     let was = devices (g.L.Library.done c.args.lib.now) (g.F.Files.asked c.args.files.now) (g.O.Sink.written c.args.out.now) (g.X.Exports.puts c.args.exports.now) in
     rw p.1
-    (subst (λ (s : Stmt). IsCutAt x c.args.self.now.listings (in_statement (coursed x) st s) (statement (coursed x) st s).shown was _ was) (sym (macro_is c.args.s c.in-Macro.m c.in-Macro.is))
-    (stays_at_once x c.args.self.now.listings _ was st _ (ap (λ (d : Dictionary). with_dictionary d st) c.in_err-define-in-Macro.ensures.err) sound))
+    (defining_cut x c.args.self.now.listings was st _ _ (macro_is c.args.s c.in-Macro.m c.in-Macro.is) (ap (λ (d : Dictionary). with_dictionary d st) c.in_err-define-in-Macro.ensures.err) sound)
 
 pub returns-in-SetFrame-clause-does : goal.returns-in-SetFrame-clause-does
 returns-in-SetFrame-clause-does g c = λ x answers files sound.
