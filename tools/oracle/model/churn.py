@@ -122,3 +122,31 @@ class CacheWriter:
         if rng.random() < 0.1 and self.cells:
             out.insert(rng.randint(kept, len(out)), self.macro(rng.choice(self.cells)))
         return out
+
+
+def long_session(rng):
+    """Words and text of a session of some ten thousand executions, which forms so many terms that the machine is emptied."""
+    steps = rng.choice([12000, 23000, 34000, 40000])
+    lines = ["a = GetGlobal(0, \"n\");",
+             'b = Compute("($0 * 31 + $1) %% %d", a, %s)%s;' % (rng.choice([7, 1000, 1000000]), rng.choice(
+                 ["@frame", "Compute(\"$0 * 2\", @frame)", "Compute(\"$0 %% 100\", @frame)[cache: %d]" %
+                  rng.randint(0, 2)]), rng.choice(["", "", "[cache: 2]", "[cache: 0]"])),
+             "SetGlobal(b, %s);" % rng.choice(['"n"', '"n"', 'Select({"n" "m"}, Compute("$0 % 2", @frame))'])]
+    if rng.random() < 0.5:
+        lines.append('SetGlobal(Switch(Compute("$0 % 5 + 1", @frame), b, a, NULL, {1 2}), "k");')
+    if rng.random() < 0.5:
+        lines.append('Print(Collect(GetGlobal(1, "k"), Compute("$0", a)), "rd");')
+    if rng.random() < 0.3:
+        lines.append('Export(Compute("$0 / 3", @frame), "o"); Echo(Import("o"));')
+    if rng.random() < 0.4:
+        lines.append('Echo(Compute("$0 % 3 == 0 ? 1 / 0 : 5", @frame));')
+    if rng.random() < 0.4:
+        lines.append('t, u = Route(Compute("$0 % 3", @frame), a); Print(Compute("$0 + 1", u), "d");')
+    rest = lines[2:]
+    rng.shuffle(rest)
+    lines = lines[:2] + rest if rng.random() < 0.8 else rest + lines[:2]
+    text = "@endframe = %d; macro main() { %s } sequence main(); play; Print(GetGlobal(9, \"n\"), \"d\"); main();" % (
+        steps, " ".join(lines))
+    words = ["s.net", "--trace"] + (["--memory", str(rng.choice([0, 68, 136, 700, 5000, 300000]))]
+                                    if rng.random() < 0.8 else [])
+    return words, text.encode()

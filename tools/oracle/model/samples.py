@@ -281,3 +281,37 @@ def random_file(rng):
     return data, rng.choice([None] * 8 + [b"1", b"f", b"g", b"none"])
 
 
+
+
+EACH = b' "#,\n0-.a9\\\xff5x'
+SAMPLES = HEADS + GROUPS + [
+    FIELD + b"end\n",
+    b"object 1 class array category real\nobject 2",
+    b'object 1 class array type signed short category real rank 2 shape 2 1 items 2 msb ieee data follows\n'
+    b'\x00\x01\x80\x00\x7f\xff\x00\x00 attribute "a" value b object b class string "" default b end',
+    b"object 1 class constantarray type uint items 4 data follows 4294967295 object 2 class regulararray type "
+    b"signed byte rank 1 shape 2 items 3 origin -128 0 delta 127 -1 object 3 class gridpositions counts 2 1 3 origin "
+    b"1 2 3 delta 1 0 0 delta 0 1 0 delta 0 0 1 object 4 class gridconnections counts 2 3 attribute \"x\" number 3\n",
+    b'object s class series member 0 position 2147483647 value a member 1 position -2147483648 "a" '
+    b'attribute "file" file object file class string "f" object a class group member "x" s2 member 1 value "s2" '
+    b'object s2 class compositefield default s']
+
+
+def count_of_damage(sample):
+    """How many prefixes and changed bytes a sample has."""
+    return (len(sample) + 1) + len(sample) * len(EACH)
+
+
+ALL_DAMAGE = sum(count_of_damage(sample) for sample in SAMPLES)
+
+
+def damaged_sample(i):
+    """Damage number i, below ALL_DAMAGE: each prefix of each sample, and each place with each of the bytes."""
+    for sample in SAMPLES:
+        if i < count_of_damage(sample):
+            break
+        i -= count_of_damage(sample)
+    if i <= len(sample):
+        return sample[:i]
+    at, which = divmod(i - len(sample) - 1, len(EACH))
+    return sample[:at] + EACH[which:which + 1] + sample[at + 1:]
