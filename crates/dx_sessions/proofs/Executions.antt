@@ -31,7 +31,7 @@ use Rattle.dx_engine.specs.declared.state.State.{State}
 use Rattle.dx_shown.specs.Made.{Coursed, coursed, coursed_unless}
 use Rattle.dx_sequencer.specs.Sequencer as seq
 use Rattle.dx_sequencer.specs.Sequencer.{frames_of}
-use Rattle.dx_shown.specs.Session.{Shown, Executes, executed, with_kept, State as SessionState}
+use Rattle.dx_shown.specs.Session.{Shown, Executes, executed, sequence_executed, with_kept, State as SessionState}
 use Rattle.dx_shown.specs.Listed.{all_exports, all_tasks, any_error}
 use Rattle.dx_making.specs.Failing.{FailsAs}
 use Rattle.dx_making.specs.Making.{IsMade, IsCutEarly, IsCutLate, SomeArePut, MakesSo}
@@ -41,7 +41,8 @@ use Rattle.dx_making.specs.declared.failing.Failing.{Failing}
 use Rattle.dx_making.specs.declared.failing.Failing.TheVariants.{Faulty, Refused}
 use Rattle.dx_telling.specs.Shown.{behind_of, shown_texts}
 use Rattle.dx_telling.specs.declared.listings.Listings.{Listings}
-use Rattle.dx_sessions.specs.Does.{OverSound, IsWhole, IsFront, IsCutShort, IsDone, OthersStay, ShowsSo}
+use Rattle.dx_sessions.specs.Does.{OverSound, IsWhole, IsFront, IsCutShort, IsCutAt, IsDone, OthersStay, ShowsSo}
+use Rattle.dx_sessions.specs.Places.{here}
 use Rattle.dx_sessions.specs.Ended.{is_error}
 use Rattle.dx_sessions.specs.Executes.{IsExecuted, IsCutIn, ExecutesSo}
 use Rattle.dx_sessions.specs.Left.{IsBefore}
@@ -174,6 +175,16 @@ cut_telling x l st st' made was mid now failing behind m grown told puts = recor
 }
 
 -- ---- in a session
+
+-- the sequence call, which is there
+pub sequence_cut : (x : Fixed) (l : Listings) (st : SessionState Kept) (new : Session) (o : Option Stmt) (s : Stmt) (was now : Devices) → o ≡ Some s
+    → IsCutAt x l (here st) (executed (coursed x) st s).shown was new now → IsCutAt x l (here st) (sequence_executed (coursed x) o st).shown was new now
+sequence_cut x l st new o s was now is cut = subst (λ (y : Option Stmt). IsCutAt x l (here st) (sequence_executed (coursed x) y st).shown was new now) (sym is) cut
+
+pub sequence_done : (x : Fixed) (l : Listings) (st : SessionState Kept) (new : Session) (o : Option Stmt) (s : Stmt) (was now : Devices) (erred failed : Bool) → erred ≡ failed → o ≡ Some s
+    → IsDone x l (executed (coursed x) st s) was failed new now → IsDone x l (sequence_executed (coursed x) o st) was erred new now
+sequence_done x l st new o s was now erred failed same is done =
+    subst (λ (y : Option Stmt). IsDone x l (sequence_executed (coursed x) y st) was erred new now) (sym is) (subst (λ (b : Bool). IsDone x l (executed (coursed x) st s) was b new now) (sym same) done)
 
 or_false : (b : Bool) → b ≡ b || false
 or_false true = refl

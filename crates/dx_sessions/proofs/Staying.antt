@@ -6,6 +6,15 @@ use Rattle.dx_performing.specs.Execution.{Export, after_exports}
 use Rattle.dx_performing.specs.Kept.{Kept}
 use Rattle.dx_tags.specs.Files.{FileMap, file_put}
 use Rattle.dx_engine.specs.Ending.{HasPut}
+use Rattle.dx_engine.specs.declared.state.State.{State as EngineState}
+use Rattle.std.specs.Prelude.{Result, Ok, Err, OnErr, option_map}
+use Rattle.dx_ast.specs.declared.statements.Stmt.{Stmt as CodeStmt}
+use Rattle.dx_ast.specs.Plain.{plain_stmt}
+use Rattle.dx_macros.specs.declared.dictionary.Dictionary.{Dictionary}
+use Rattle.dx_macros.specs.DictionaryView.{dictionary_of}
+use Rattle.dx_sessions.specs.Does.{OthersStay}
+use Rattle.dx_sessions.specs.SessionView.{state_of}
+use Rattle.dx_sessions.specs.declared.session.Session.{Session}
 use Rattle.dx_sequencer.specs.Sequencer as seq
 use Rattle.dx_sequencer.specs.Sequencer.{IsPlay, at_play, max_steps, play_steps}
 use Rattle.dx_sequencer.proofs.Playing.{steps_are}
@@ -21,10 +30,21 @@ stays_on a b c first second = record { dictionary = second.dictionary ∙ first.
 pub stays_same : (a b : State Kept) → b ≡ a → Stays a b
 stays_same a b same = record { dictionary = ap (λ (s : State Kept). s.dictionary) same; sequence = ap (λ (s : State Kept). s.sequence) same }
 
+pub stays_by_others : (old new : Session) → OthersStay old new → Stays (state_of old) (state_of new)
+stays_by_others old new others = record { dictionary = ap (λ (d : Dictionary). dictionary_of d) others.dictionary; sequence = ap (λ (s : Option CodeStmt). option_map plain_stmt s) others.sequence }
+
+-- however it answers
+pub on_err_with : {T E A : Type 0} (r : Result T E) → A → OnErr r A
+on_err_with (Ok x) h = tt
+on_err_with (Err e) h = h
+
 -- ---- what was put
 
 pub none_put_yet : (was : Option (List Export)) (files : FileMap) → HasPut was was files files
 none_put_yet was files = record { files = []; made = record { told = grows_by_nothing was; files = refl } }
+
+pub none_put_same : (was : Option (List Export)) (st st' : EngineState) → st' ≡ st → HasPut was was st.written.files st'.written.files
+none_put_same was st st' same = record { files = []; made = record { told = grows_by_nothing was; files = ap (λ (s : EngineState). s.written.files) same } }
 
 exports_on : (files : FileMap) (a b : List Export) → after_exports files (a ++ b) ≡ after_exports (after_exports files a) b
 exports_on files [] b = refl

@@ -9,6 +9,7 @@ use Rattle.dx_sessions.specs.Does.{IsDone, devices}
 use Rattle.dx_sessions.specs.SessionView.{state_of}
 use Rattle.dx_sessions.proofs.Causes.{no_cause}
 use Rattle.dx_sessions.proofs.Doing.{silently_done}
+use Rattle.dx_sessions.proofs.Staying.{none_put_same}
 use Rattle.dx_sessions.proofs.Switching.{switched}
 use Rattle.dx_sessions.proofs.session.Session.tell.Goals as goal
 
@@ -23,6 +24,9 @@ returns-in_default g c =
       read_cause = no_cause ReadFault (g.F.Files.faults c.args.files.now) false;
       write_cause = no_cause WriteFault (g.O.Sink.faults c.args.out.now) false;
       export_cause = no_cause ExportFault (g.X.Exports.faults c.args.exports.now) false;
+      stays = c.switch.ensures.stays;
+      moved = tt;
+      written = none_put_same (g.X.Exports.puts c.args.exports.now) c.args.self.now.state new.state c.switch.ensures.state;
       fits = subst StateFits (sym c.switch.ensures.state) c.requires.fits;
       does = λ x answers files sound.
           subst (λ (d : Done Kept Coursed). IsDone x l d was false new was) (sym (switched c.args.w c.in_default.not-Play c.in_default.not-Step (state_of c.args.self.now) (state_of new) c.switch.ensures.switches (coursed x)))
