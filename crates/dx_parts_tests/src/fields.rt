@@ -1,7 +1,8 @@
-// Fields of components that a row lists.
-use dx_base::Bytes;
+// The first fault of a field, and which fields are regular grids.
+use dx_base::{Bytes, push_count};
+use dx_fields::{FieldFault, check_field, grid_of};
 use dx_objects::{Array, ElemType, Object, Part, Parts, Shape};
-use std::alloc::Global;
+use std::alloc::{AllocError, Global};
 use std::rc::Rc;
 use std::test::Fail;
 
@@ -32,48 +33,108 @@ fn push_attribute(
     Ok(())
 }
 
-/// The items of a component.
-#[derive(Clone, Copy)]
-pub(crate) enum Items<'a> {
-    /// Stored numbers.
-    List(&'a [i64]),
-    /// Stored pairs of numbers.
-    Pairs(&'a [i64]),
-    /// So many times this number.
-    Constant(u64, i64),
-    /// So many numbers from the first on, and the step between them.
-    Regular(u64, i64, i64),
-    /// The points of a grid with these counts, all at the same place.
-    Points(&'a [u32]),
-    /// The cells of a grid with these counts.
-    Cells(&'a [u32]),
-}
-
 fn ints(alloc: Global, values: &[i64]) -> Result<Array, Fail> {
     let values = Vec::from_slice(alloc, values)?;
     Ok(Array::plain(ElemType::Int, Shape::new(alloc), values)?)
 }
 
-fn pairs(alloc: Global, values: &[i64]) -> Result<Array, Fail> {
-    let shape = Shape::from_vec(Vec::from_slice(alloc, &[2])?);
-    let values = Vec::from_slice(alloc, values)?;
-    Ok(Array::plain(ElemType::Short, shape, values)?)
+// Its name, its values, and what its attributes `dep` and `ref` say.
+type Component<'a> = (&'a [u8], &'a [i64], &'a [u8], &'a [u8]);
+
+fn component(alloc: Global, row: &Component<'_>) -> Result<Part, Fail> {
+    let (name, values, dep, reference) = row;
+    let mut attributes = Parts::new(alloc);
+    push_attribute(alloc, &mut attributes, b"dep", dep)?;
+    push_attribute(alloc, &mut attributes, b"ref", reference)?;
+    part(
+        alloc,
+        name,
+        Object::array(ints(alloc, values)?, attributes)?,
+    )
 }
 
-fn regular(alloc: Global, items: u64, first: i64, step: i64) -> Result<Array, Fail> {
-    let origin = Vec::from_slice(alloc, &[first])?;
-    let delta = Vec::from_slice(alloc, &[step])?;
-    let shape = Shape::new(alloc);
-    Ok(Array::regular(ElemType::Int, shape, items, origin, delta)?)
+fn field(alloc: Global, rows: &[Component<'_>]) -> Result<Object, Fail> {
+    let mut parts = Parts::new(alloc);
+    for row in rows {
+        parts.push(component(alloc, row)?)?;
+    }
+    Ok(Object::field(parts, Parts::new(alloc))?)
 }
 
-fn constant(alloc: Global, items: u64, value: i64) -> Result<Array, Fail> {
-    let value = Vec::from_slice(alloc, &[value])?;
-    let shape = Shape::new(alloc);
-    Ok(Array::constant(ElemType::Int, shape, items, value)?)
+// `missing`, `2 on 1` or `value 3`.
+fn shown(alloc: Global, object: &Object) -> Result<Vec<u8>, AllocError> {
+    let mut text = Vec::new(alloc);
+    match check_field(object) {
+        Ok(()) => {}
+        Err(FieldFault::DepMissing) => text.extend_from_slice(b"missing")?,
+        Err(FieldFault::CountMismatch(own, other)) => {
+            push_count(&mut text, own)?;
+            text.extend_from_slice(b" on ")?;
+            push_count(&mut text, other)?;
+        }
+        Err(FieldFault::RefOutOfRange(i)) => {
+            text.extend_from_slice(b"value ")?;
+            push_count(&mut text, i)?;
+        }
+    }
+    Ok(text)
 }
 
-fn points(alloc: Global, counts: &[u32]) -> Result<Array, Fail> {
+const FAULTS: &[(&[Component<'static>], &[u8])] = &[
+    (&[], b""),
+    (
+        &[(b"a", &[1, 2], b"", b""), (b"b", &[3, 4], b"a", b"")],
+        b"",
+    ),
+    (
+        &[(b"a", &[3, 4], b"b", b""), (b"b", &[1, 2], b"", b"")],
+        b"",
+    ),
+    (&[(b"a", &[1, 2], b"c", b"")], b"missing"),
+    (&[(b"a", &[1, 2], b"#", b"")], b"missing"),
+    (&[(b"a", &[0], b"", b"c")], b"missing"),
+    (&[(b"a", &[0], b"", b"#")], b"missing"),
+    (
+        &[(b"a", &[1], b"", b""), (b"b", &[3, 4], b"a", b"")],
+        b"2 on 1",
+    ),
+    (&[(b"a", &[], b"", b""), (b"b", &[3], b"a", b"")], b"1 on 0"),
+    (
+        &[(b"a", &[1, 2], b"", b""), (b"b", &[0, 1, 2], b"", b"a")],
+        b"value 2",
+    ),
+    (
+        &[(b"a", &[1, 2], b"", b""), (b"b", &[-1], b"", b"a")],
+        b"value 0",
+    ),
+    (&[(b"a", &[1, 0], b"", b"a")], b""),
+    (
+        &[(b"a", &[1, 2], b"", b""), (b"b", &[5], b"c", b"a")],
+        b"missing",
+    ),
+    (
+        &[(b"a", &[1, 2], b"", b""), (b"b", &[5], b"a", b"c")],
+        b"1 on 2",
+    ),
+    (
+        &[(b"a", &[9], b"", b"b"), (b"b", &[1], b"c", b"")],
+        b"value 0",
+    ),
+];
+
+#[test]
+fn first_faults(rt: HostRuntime) -> Result<(), Fail> {
+    let alloc = rt.alloc();
+    for (rows, wanted) in FAULTS {
+        let object = field(alloc, rows)?;
+        if shown(alloc, &object)?.as_slice() != *wanted {
+            return Err(Fail::from(*wanted));
+        }
+    }
+    Ok(())
+}
+
+fn positions(alloc: Global, counts: &[u32]) -> Result<Object, Fail> {
     let zeros: &[i64] = &[0, 0, 0, 0, 0, 0, 0, 0, 0];
     let (origin, deltas) = match counts.len() {
         1 => (&zeros[..1], &zeros[..1]),
@@ -82,41 +143,58 @@ fn points(alloc: Global, counts: &[u32]) -> Result<Array, Fail> {
     };
     let origin = Vec::from_slice(alloc, origin)?;
     let deltas = Vec::from_slice(alloc, deltas)?;
-    let counts = Vec::from_slice(alloc, counts)?;
-    Ok(Array::grid_positions(counts, origin, deltas)?)
+    let array = Array::grid_positions(Vec::from_slice(alloc, counts)?, origin, deltas)?;
+    Ok(Object::array(array, Parts::new(alloc))?)
 }
 
-fn array(alloc: Global, items: Items<'_>) -> Result<Array, Fail> {
-    match items {
-        Items::List(values) => ints(alloc, values),
-        Items::Pairs(values) => pairs(alloc, values),
-        Items::Constant(items, value) => constant(alloc, items, value),
-        Items::Regular(items, first, step) => regular(alloc, items, first, step),
-        Items::Points(counts) => points(alloc, counts),
-        Items::Cells(counts) => Ok(Array::grid_connections(Vec::from_slice(alloc, counts)?)?),
-    }
-}
-
-/// Its name, its items, and what its attributes `dep` and `ref` say, which are none where it is empty.
-pub(crate) type Component<'a> = (&'a [u8], Items<'a>, &'a [u8], &'a [u8]);
-
-fn component(alloc: Global, row: &Component<'_>) -> Result<Part, Fail> {
-    let (name, items, dep, reference) = row;
-    let mut attributes = Parts::new(alloc);
-    push_attribute(alloc, &mut attributes, b"dep", dep)?;
-    push_attribute(alloc, &mut attributes, b"ref", reference)?;
-    part(
-        alloc,
-        name,
-        Object::array(array(alloc, *items)?, attributes)?,
-    )
-}
-
-/// A field of these components.
-pub(crate) fn field(alloc: Global, rows: &[Component<'_>]) -> Result<Object, Fail> {
+// A field of points with these counts, and of cells with those, where there are any.
+fn grid(alloc: Global, points: &[u32], cells: &[u32]) -> Result<Object, Fail> {
     let mut parts = Parts::new(alloc);
-    for row in rows {
-        parts.push(component(alloc, row)?)?;
+    parts.push(part(alloc, b"positions", positions(alloc, points)?)?)?;
+    if !cells.is_empty() {
+        let array = Array::grid_connections(Vec::from_slice(alloc, cells)?)?;
+        let cells = Object::array(array, Parts::new(alloc))?;
+        parts.push(part(alloc, b"connections", cells)?)?;
     }
     Ok(Object::field(parts, Parts::new(alloc))?)
+}
+
+// Whether it is a grid of these counts, or none where there are no counts.
+fn has_counts(object: &Object, wanted: &[u32]) -> bool {
+    let Some(grid) = grid_of(object) else {
+        return wanted.is_empty();
+    };
+    if grid.dimensions() as usize != wanted.len() {
+        return false;
+    }
+    for d in 0..grid.dimensions() {
+        if grid.count(d) != wanted[d as usize] {
+            return false;
+        }
+    }
+    true
+}
+
+const GRIDS: &[(&[u32], &[u32], &[u32])] = &[
+    (&[5], &[5], &[5]),
+    (&[4, 3], &[4, 3], &[4, 3]),
+    (&[4, 3, 2], &[4, 3, 2], &[4, 3, 2]),
+    (&[4, 1, 3], &[4, 3], &[4, 1, 3]),
+    (&[1, 1], &[], &[1, 1]),
+    (&[1], &[], &[1]),
+    (&[4, 3], &[], &[]),
+    (&[4, 3], &[3, 4], &[]),
+    (&[4, 1], &[4, 1], &[]),
+    (&[1, 1], &[2], &[]),
+    (&[4, 3, 2], &[4, 3], &[]),
+];
+
+#[test]
+fn regular_grids(rt: HostRuntime) -> Result<(), Fail> {
+    let alloc = rt.alloc();
+    for (points, cells, wanted) in GRIDS {
+        let object = grid(alloc, points, cells)?;
+        assert!(rt; has_counts(&object, wanted));
+    }
+    Ok(())
 }

@@ -5,13 +5,7 @@
 #[cfg(test)]
 mod calls;
 #[cfg(test)]
-mod faults;
-#[cfg(test)]
 mod fields;
-#[cfg(test)]
-mod grids;
-#[cfg(test)]
-mod limits;
 #[cfg(test)]
 mod rows;
 #[cfg(test)]

@@ -1,5 +1,4 @@
 // The objects of the rows, each named by a letter.
-use crate::limits::at_limit;
 use dx_base::Bytes;
 use dx_objects::{Array, ElemType, Object, Part, Parts, Shape, Value};
 use std::alloc::Global;
@@ -7,7 +6,7 @@ use std::rc::Rc;
 use std::test::Fail;
 
 // An array of this type and shape.
-pub(crate) fn array(
+fn array(
     alloc: Global,
     elem: ElemType,
     extents: &[u32],
@@ -19,22 +18,17 @@ pub(crate) fn array(
     Ok(Rc::new(alloc, Object::array(array, attributes)?)?)
 }
 
-pub(crate) fn number(alloc: Global, elem: ElemType, n: i64) -> Result<Rc<Object>, Fail> {
+fn number(alloc: Global, elem: ElemType, n: i64) -> Result<Rc<Object>, Fail> {
     array(alloc, elem, &[], &[n], Parts::new(alloc))
 }
 
-pub(crate) fn text(alloc: Global, bytes: &[u8]) -> Result<Rc<Object>, Fail> {
+fn text(alloc: Global, bytes: &[u8]) -> Result<Rc<Object>, Fail> {
     let object = Object::text(Bytes::copy_of(alloc, bytes)?, Parts::new(alloc))?;
     Ok(Rc::new(alloc, object)?)
 }
 
 // A part at a position, which has no name where the bytes are empty.
-pub(crate) fn part(
-    alloc: Global,
-    name: &[u8],
-    position: i32,
-    object: Rc<Object>,
-) -> Result<Part, Fail> {
+fn part(alloc: Global, name: &[u8], position: i32, object: Rc<Object>) -> Result<Part, Fail> {
     let name = if name.is_empty() {
         None
     } else {
@@ -54,37 +48,18 @@ fn attribute(alloc: Global) -> Result<Parts, Fail> {
     Ok(parts)
 }
 
-// A constant array of the one item 1, and a regular one of the one item 0.
-fn computed(alloc: Global, is_constant: bool) -> Result<Rc<Object>, Fail> {
-    let one = Vec::from_slice(alloc, &[1])?;
-    let array = if is_constant {
-        Array::constant(ElemType::Short, Shape::new(alloc), 1, one)?
-    } else {
-        let zero = Vec::from_slice(alloc, &[0])?;
-        Array::regular(ElemType::Int, Shape::new(alloc), 1, zero, one)?
-    };
-    Ok(Rc::new(alloc, Object::array(array, Parts::new(alloc))?)?)
-}
-
-// Digits are numbers, `m` is -1, `q` the least and `i` the greatest int, `p` one more, `k` is 1 and `r` is 0 by other
-// classes, `v` a vector, `l` a list, `e` an empty list, `B` a number with an attribute, `t` the empty text, and others are
-// texts.
+// Digits are numbers, `m` is -1, `u` a number above the int range, `v` a vector, `l` a list, `B` a number with an
+// attribute, and others are texts.
 fn leaf(alloc: Global, id: u8) -> Result<Rc<Object>, Fail> {
     match id {
         b'0'..=b'9' => number(alloc, ElemType::UByte, i64::from(id - b'0')),
         b'm' => number(alloc, ElemType::Short, -1),
-        b'q' => number(alloc, ElemType::Int, -2_147_483_648),
-        b'i' => number(alloc, ElemType::UInt, 2_147_483_647),
-        b'p' => number(alloc, ElemType::UInt, 2_147_483_648),
-        b'k' => computed(alloc, true),
-        b'r' => computed(alloc, false),
+        b'u' => number(alloc, ElemType::UInt, 3_000_000_000),
         b'v' => array(alloc, ElemType::Int, &[1], &[1], Parts::new(alloc)),
         b'l' => array(alloc, ElemType::Int, &[], &[7, 8], Parts::new(alloc)),
-        b'e' => array(alloc, ElemType::Int, &[], &[], Parts::new(alloc)),
         b'B' => array(alloc, ElemType::Int, &[], &[9], attribute(alloc)?),
         b'd' => text(alloc, b"data"),
         b's' => text(alloc, b"saved data"),
-        b't' => text(alloc, &[]),
         _ => text(alloc, &[id]),
     }
 }
@@ -147,8 +122,8 @@ fn group(alloc: Global, rows: &[Row<'_>], attributes: Parts) -> Result<Rc<Object
     Ok(Rc::new(alloc, object)?)
 }
 
-fn series(alloc: Global, rows: &[Row<'_>], attributes: Parts) -> Result<Rc<Object>, Fail> {
-    let object = Object::series(members(alloc, rows)?, attributes)?;
+fn series(alloc: Global, rows: &[Row<'_>]) -> Result<Rc<Object>, Fail> {
+    let object = Object::series(members(alloc, rows)?, Parts::new(alloc))?;
     Ok(Rc::new(alloc, object)?)
 }
 
@@ -157,8 +132,7 @@ fn composite(alloc: Global, rows: &[Row<'_>]) -> Result<Rc<Object>, Fail> {
     Ok(Rc::new(alloc, object)?)
 }
 
-// `R` and `N` are groups of numbers, `G`, `X` and `Y` groups of fields, `w` a group with a text, `M` an empty group, `S`, `Z` and
-// `A` series, `C`, `y` and `O` composite groups.
+// `R` and `N` are groups of numbers, `G`, `X` and `Y` groups of fields, `S` and `Z` series, `C` and `O` composite groups.
 fn large(alloc: Global, id: u8) -> Result<Rc<Object>, Fail> {
     match id {
         b'R' => group(alloc, &[(b"", 0, b'4'), (b"", 0, b'5')], Parts::new(alloc)),
@@ -166,50 +140,30 @@ fn large(alloc: Global, id: u8) -> Result<Rc<Object>, Fail> {
         b'G' => group(alloc, &[(b"a", 0, b'F'), (b"", 0, b'H')], attribute(alloc)?),
         b'X' => group(alloc, &[(b"", 0, b'J'), (b"", 0, b'4')], Parts::new(alloc)),
         b'Y' => group(alloc, &[(b"", 0, b'4'), (b"", 0, b'J')], Parts::new(alloc)),
-        b'w' => group(alloc, &[(b"", 0, b'x'), (b"", 0, b'J')], Parts::new(alloc)),
-        b'M' => group(alloc, &[], Parts::new(alloc)),
-        b'S' => series(alloc, &[(b"", 2, b'4'), (b"", -3, b'5')], Parts::new(alloc)),
-        b'Z' => series(alloc, &[(b"", 2, b'F'), (b"", -3, b'H')], Parts::new(alloc)),
-        b'A' => series(alloc, &[], attribute(alloc)?),
+        b'S' => series(alloc, &[(b"", 2, b'4'), (b"", -3, b'5')]),
+        b'Z' => series(alloc, &[(b"", 2, b'F'), (b"", -3, b'H')]),
         b'C' => composite(alloc, &[(b"a", 0, b'F'), (b"b", 0, b'H')]),
-        b'y' => composite(alloc, &[(b"a", 0, b'F'), (b"", 0, b'F')]),
         b'O' => composite(alloc, &[]),
         _ => small(alloc, id),
     }
 }
 
-// Groups and others, as parts without names.
-fn unnamed(alloc: Global, ids: &[u8]) -> Result<Parts, Fail> {
+// A group with a group in it.
+fn nested(alloc: Global, ids: &[u8]) -> Result<Rc<Object>, Fail> {
     let mut parts = Parts::new(alloc);
     for id in ids {
         parts.push(part(alloc, &[], 0, large(alloc, *id)?)?)?;
     }
-    Ok(parts)
-}
-
-// A group with a group in it.
-fn nested(alloc: Global, ids: &[u8]) -> Result<Rc<Object>, Fail> {
-    let object = Object::group(unnamed(alloc, ids)?, Parts::new(alloc))?;
-    Ok(Rc::new(alloc, object)?)
-}
-
-// A series with a composite group in it, which has an attribute.
-fn series_of(alloc: Global, ids: &[u8]) -> Result<Rc<Object>, Fail> {
-    let object = Object::series(unnamed(alloc, ids)?, attribute(alloc)?)?;
-    Ok(Rc::new(alloc, object)?)
+    Ok(Rc::new(alloc, Object::group(parts, Parts::new(alloc))?)?)
 }
 
 /// The value of a letter; `n` is NULL.
 pub(crate) fn value(alloc: Global, id: u8) -> Result<Value, Fail> {
-    if let Some(object) = at_limit(alloc, id)? {
-        return Ok(Some(object));
-    }
     match id {
         b'n' => Ok(None),
         b'T' => Ok(Some(nested(alloc, b"FC")?)),
         b'U' => Ok(Some(nested(alloc, b"XY")?)),
         b'V' => Ok(Some(nested(alloc, b"YX")?)),
-        b'z' => Ok(Some(series_of(alloc, b"CO")?)),
         _ => Ok(Some(large(alloc, id)?)),
     }
 }

@@ -14,17 +14,11 @@ pub(crate) enum Given<'a> {
     Null,
     Text(&'a str),
     Number(i64),
-    /// The object of a native text.
-    Object(&'a str),
 }
-
-/// A field, the inputs behind it, and what they give.
-pub(crate) type Rows<'a> = &'a [(&'a str, [Given<'a>; 3], &'a str)];
 
 fn value(alloc: Global, given: Given) -> Result<Value, Fail> {
     match given {
         Given::Null => Ok(None),
-        Given::Object(text) => read(alloc, text),
         Given::Number(n) => Ok(number(alloc, n)?),
         Given::Text(text) => {
             let bytes = Bytes::copy_of(alloc, text.as_bytes())?;
@@ -34,11 +28,8 @@ fn value(alloc: Global, given: Given) -> Result<Value, Fail> {
     }
 }
 
-// The object of a native text; an empty one stands for NULL.
+// The object of a native text.
 fn read(alloc: Global, text: &str) -> Result<Value, Fail> {
-    if text.is_empty() {
-        return Ok(None);
-    }
     match read_object(alloc, text.as_bytes(), None) {
         Ok(object) => Ok(Some(Rc::new(alloc, object)?)),
         Err(_) => Err(Fail::from("not read")),
@@ -64,8 +55,13 @@ fn is_object(alloc: Global, results: &Outs, text: &str) -> Result<bool, Fail> {
     Ok(results.len() == 1 && written.bytes() == text.as_bytes())
 }
 
-// Whether the slabs of the object of a native text have this canonical text, or are refused with the code of this name.
-fn answers(alloc: Global, object: &str, given: [Given; 3], wanted: &str) -> Result<bool, Fail> {
+/// Whether the slabs of the object of a native text have this canonical text, or are refused with the code of this name.
+pub(crate) fn answers(
+    alloc: Global,
+    object: &str,
+    given: [Given; 3],
+    wanted: &str,
+) -> Result<bool, Fail> {
     let mut inputs = Outs::new(alloc);
     inputs.push(read(alloc, object)?)?;
     let [dimension, position, thickness] = given;
@@ -80,14 +76,4 @@ fn answers(alloc: Global, object: &str, given: [Given; 3], wanted: &str) -> Resu
         Err(RunFail::Code(code)) => Ok(code_name(code) == wanted),
         Err(RunFail::Memory) => Ok(false),
     }
-}
-
-/// Whether each row gives what it should.
-pub(crate) fn all_give(alloc: Global, rows: Rows<'_>) -> Result<bool, Fail> {
-    for (field, given, wanted) in rows {
-        if !answers(alloc, field, *given, wanted)? {
-            return Ok(false);
-        }
-    }
-    Ok(true)
 }

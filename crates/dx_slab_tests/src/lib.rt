@@ -6,6 +6,4 @@ mod asked;
 #[cfg(test)]
 mod fields;
 #[cfg(test)]
-mod refused;
-#[cfg(test)]
 mod slabs;

@@ -1,11 +1,12 @@
-// Rows of a field, a dimension, a position and a thickness, and the slabs.
-use crate::asked::{Given, Rows, all_give};
-use crate::fields::{BARE, EDGE, LINE, ONE, PLANE, POINT, SOLID, TIED, ZERO};
+// Rows of a field, a dimension, a position and a thickness, and what they give.
+use crate::asked::{Given, answers};
+use crate::fields::{APART, JOINED, LINE, LONG, ODD, PLANE, POINT, REFERS, SHORT, SOLID, WIDE};
+use std::alloc::Global;
 use std::test::Fail;
 
 const NULL: Given<'static> = Given::Null;
 
-const SLABS: Rows<'static> = &[
+const SLABS: [(&str, [Given<'static>; 3], &str); 19] = [
     (
         PLANE,
         [Given::Text("y"), Given::Number(2), NULL],
@@ -101,100 +102,139 @@ const SLABS: Rows<'static> = &[
         [Given::Text("y"), NULL, NULL],
         "object 1 class gridpositions counts 1 1\norigin 3 4\ndelta 1 0\ndelta 0 1\nobject 2 class array type int rank 0 items 1 data follows\n9\nobject 3 class field\ncomponent \"positions\" value 1\ncomponent \"data\" value 2\nobject 4 class series\nmember 0 position 0 value 3\nend\n",
     ),
+];
+
+const REFUSED: [(&str, [Given<'static>; 3], &str); 26] = [
     (
         PLANE,
-        [Given::Number(0), Given::Number(1), NULL],
-        "object 1 class gridpositions counts 1 3\norigin 1 0\ndelta 1 0\ndelta 0 1\nobject 2 class gridconnections counts 3\nattribute \"element type\" string \"quads\"\nattribute \"ref\" string \"positions\"\nobject 3 class array type int rank 0 items 3 data follows\n4\n5\n6\nattribute \"dep\" string \"positions\"\nobject 4 class field\ncomponent \"positions\" value 1\ncomponent \"connections\" value 2\ncomponent \"data\" value 3\nend\n",
-    ),
-    (
-        PLANE,
-        [Given::Object(ONE), Given::Object(ZERO), Given::Object(ZERO)],
-        "object 1 class gridpositions counts 4 1\norigin 0 0\ndelta 1 0\ndelta 0 1\nobject 2 class gridconnections counts 4\nattribute \"element type\" string \"quads\"\nattribute \"ref\" string \"positions\"\nobject 3 class array type int rank 0 items 4 data follows\n1\n4\n7\n10\nattribute \"dep\" string \"positions\"\nobject 4 class field\ncomponent \"positions\" value 1\ncomponent \"connections\" value 2\ncomponent \"data\" value 3\nend\n",
+        [Given::Number(0), Given::Number(3), Given::Number(1)],
+        "BadArgument",
     ),
     (
         PLANE,
-        [Given::Text("x"), Given::Object(ONE), Given::Object(ONE)],
-        "object 1 class gridpositions counts 2 3\norigin 1 0\ndelta 1 0\ndelta 0 1\nobject 2 class gridconnections counts 2 3\nattribute \"element type\" string \"quads\"\nattribute \"ref\" string \"positions\"\nobject 3 class array type int rank 0 items 6 data follows\n4\n5\n6\n7\n8\n9\nattribute \"dep\" string \"positions\"\nobject 4 class field\ncomponent \"positions\" value 1\ncomponent \"connections\" value 2\ncomponent \"data\" value 3\nend\n",
+        [NULL, Given::Number(0), Given::Number(0)],
+        "BadArgument",
     ),
     (
-        EDGE,
-        [Given::Number(0), Given::Number(1), NULL],
-        "object 1 class array type unsigned byte rank 0 items 1 data follows\n6\nattribute \"dep\" string \"positions\"\nobject 2 class gridpositions counts 1\norigin 8\ndelta -2\nobject 3 class field\ncomponent \"data\" value 1\ncomponent \"positions\" value 2\nend\n",
+        PLANE,
+        [Given::Number(2), Given::Number(0), Given::Number(0)],
+        "BadArgument",
     ),
     (
-        EDGE,
-        [Given::Text("x"), Given::Number(3), Given::Number(0)],
-        "object 1 class array type unsigned byte rank 0 items 1 data follows\n8\nattribute \"dep\" string \"positions\"\nobject 2 class gridpositions counts 1\norigin 4\ndelta -2\nobject 3 class field\ncomponent \"data\" value 1\ncomponent \"positions\" value 2\nend\n",
+        PLANE,
+        [Given::Text("z"), Given::Number(0), Given::Number(0)],
+        "BadArgument",
     ),
     (
-        EDGE,
-        [Given::Number(0), Given::Number(1), Given::Number(2)],
-        "object 1 class array type unsigned byte rank 0 items 3 data follows\n6\n7\n8\nattribute \"dep\" string \"positions\"\nobject 2 class array type int rank 0 items 2 data follows\n101\n102\nattribute \"dep\" string \"connections\"\nobject 3 class gridconnections counts 3\nattribute \"element type\" string \"lines\"\nattribute \"ref\" string \"positions\"\nobject 4 class gridpositions counts 3\norigin 8\ndelta -2\nobject 5 class field\ncomponent \"data\" value 1\ncomponent \"cells\" value 2\ncomponent \"connections\" value 3\ncomponent \"positions\" value 4\nend\n",
+        PLANE,
+        [Given::Number(-1), Given::Number(0), Given::Number(0)],
+        "BadArgument",
     ),
     (
-        EDGE,
-        [Given::Number(0), Given::Number(0), Given::Number(3)],
-        "object 1 class array type unsigned byte rank 0 items 4 data follows\n5\n6\n7\n8\nattribute \"dep\" string \"positions\"\nobject 2 class array type int rank 0 items 3 data follows\n100\n101\n102\nattribute \"dep\" string \"connections\"\nobject 3 class gridconnections counts 4\nattribute \"element type\" string \"lines\"\nattribute \"ref\" string \"positions\"\nobject 4 class gridpositions counts 4\norigin 10\ndelta -2\nobject 5 class field\ncomponent \"data\" value 1\ncomponent \"cells\" value 2\ncomponent \"connections\" value 3\ncomponent \"positions\" value 4\nend\n",
+        PLANE,
+        [Given::Text("w"), Given::Number(0), Given::Number(0)],
+        "BadArgument",
     ),
     (
-        EDGE,
-        [Given::Number(0), NULL, Given::Number(2)],
-        "object 1 class array type unsigned byte rank 0 items 3 data follows\n5\n6\n7\nattribute \"dep\" string \"positions\"\nobject 2 class array type int rank 0 items 2 data follows\n100\n101\nattribute \"dep\" string \"connections\"\nobject 3 class gridconnections counts 3\nattribute \"element type\" string \"lines\"\nattribute \"ref\" string \"positions\"\nobject 4 class gridpositions counts 3\norigin 10\ndelta -2\nobject 5 class field\ncomponent \"data\" value 1\ncomponent \"cells\" value 2\ncomponent \"connections\" value 3\ncomponent \"positions\" value 4\nobject 6 class array type unsigned byte rank 0 items 3 data follows\n6\n7\n8\nattribute \"dep\" string \"positions\"\nobject 7 class array type int rank 0 items 2 data follows\n101\n102\nattribute \"dep\" string \"connections\"\nobject 8 class gridconnections counts 3\nattribute \"element type\" string \"lines\"\nattribute \"ref\" string \"positions\"\nobject 9 class gridpositions counts 3\norigin 8\ndelta -2\nobject 10 class field\ncomponent \"data\" value 6\ncomponent \"cells\" value 7\ncomponent \"connections\" value 8\ncomponent \"positions\" value 9\nobject 11 class series\nmember 0 position 0 value 5\nmember 1 position 1 value 10\nend\n",
+        PLANE,
+        [Given::Text("xy"), Given::Number(0), Given::Number(0)],
+        "BadArgument",
     ),
     (
-        EDGE,
-        [Given::Number(0), NULL, Given::Number(3)],
-        "object 1 class array type unsigned byte rank 0 items 4 data follows\n5\n6\n7\n8\nattribute \"dep\" string \"positions\"\nobject 2 class array type int rank 0 items 3 data follows\n100\n101\n102\nattribute \"dep\" string \"connections\"\nobject 3 class gridconnections counts 4\nattribute \"element type\" string \"lines\"\nattribute \"ref\" string \"positions\"\nobject 4 class gridpositions counts 4\norigin 10\ndelta -2\nobject 5 class field\ncomponent \"data\" value 1\ncomponent \"cells\" value 2\ncomponent \"connections\" value 3\ncomponent \"positions\" value 4\nobject 6 class series\nmember 0 position 0 value 5\nend\n",
+        PLANE,
+        [Given::Number(0), Given::Text("a"), Given::Number(0)],
+        "BadArgument",
     ),
     (
-        EDGE,
-        [Given::Text("x"), NULL, NULL],
-        "object 1 class array type unsigned byte rank 0 items 1 data follows\n5\nattribute \"dep\" string \"positions\"\nobject 2 class gridpositions counts 1\norigin 10\ndelta -2\nobject 3 class field\ncomponent \"data\" value 1\ncomponent \"positions\" value 2\nobject 4 class array type unsigned byte rank 0 items 1 data follows\n6\nattribute \"dep\" string \"positions\"\nobject 5 class gridpositions counts 1\norigin 8\ndelta -2\nobject 6 class field\ncomponent \"data\" value 4\ncomponent \"positions\" value 5\nobject 7 class array type unsigned byte rank 0 items 1 data follows\n7\nattribute \"dep\" string \"positions\"\nobject 8 class gridpositions counts 1\norigin 6\ndelta -2\nobject 9 class field\ncomponent \"data\" value 7\ncomponent \"positions\" value 8\nobject 10 class array type unsigned byte rank 0 items 1 data follows\n8\nattribute \"dep\" string \"positions\"\nobject 11 class gridpositions counts 1\norigin 4\ndelta -2\nobject 12 class field\ncomponent \"data\" value 10\ncomponent \"positions\" value 11\nobject 13 class series\nmember 0 position 0 value 3\nmember 1 position 1 value 6\nmember 2 position 2 value 9\nmember 3 position 3 value 12\nend\n",
+        PLANE,
+        [Given::Number(0), Given::Number(-1), Given::Number(0)],
+        "BadArgument",
     ),
     (
-        TIED,
-        [Given::Number(0), Given::Number(1), Given::Number(1)],
-        "object 1 class gridpositions counts 2 2\norigin 1 0\ndelta 1 0\ndelta 0 1\nattribute \"dep\" string \"data\"\nobject 2 class gridconnections counts 2 2\nattribute \"dep\" string \"cells\"\nobject 3 class array type unsigned short rank 0 items 4 data follows\n60002\n60003\n60004\n60005\nattribute \"dep\" string \"positions\"\nobject 4 class array type signed byte rank 0 items 1 data follows\n-2\nattribute \"dep\" string \"connections\"\nobject 5 class array type int rank 1 shape 1 items 4 data follows\n15\n20\n25\n30\nattribute \"dep\" string \"positions\"\nobject 6 class array type int rank 1 shape 4 items 1 data follows\n1 2 4 5\nattribute \"dep\" string \"connections\"\nobject 7 class array type unsigned int rank 0 items 4 data follows\n4000000000\n4000000000\n4000000000\n4000000000\nattribute \"dep\" string \"positions\"\nobject 8 class array type int rank 0 items 2 data follows\n1\n2\nattribute \"dep\" string \"self\"\nobject 9 class field\ncomponent \"positions\" value 1\ncomponent \"connections\" value 2\ncomponent \"data\" value 3\ncomponent \"cells\" value 4\ncomponent \"places\" value 5\ncomponent \"near\" value 6\ncomponent \"level\" value 7\ncomponent \"self\" value 8\nend\n",
+        PLANE,
+        [Given::Number(0), Given::Number(4), Given::Number(0)],
+        "BadArgument",
     ),
     (
-        TIED,
-        [Given::Number(0), Given::Number(2), NULL],
-        "object 1 class gridpositions counts 1 2\norigin 2 0\ndelta 1 0\ndelta 0 1\nattribute \"dep\" string \"data\"\nobject 2 class gridconnections counts 2\nattribute \"dep\" string \"cells\"\nobject 3 class array type unsigned short rank 0 items 2 data follows\n60004\n60005\nattribute \"dep\" string \"positions\"\nobject 4 class array type signed byte rank 0 items 1 data follows\n-2\nattribute \"dep\" string \"connections\"\nobject 5 class array type int rank 1 shape 1 items 2 data follows\n25\n30\nattribute \"dep\" string \"positions\"\nobject 6 class array type int rank 1 shape 4 items 1 data follows\n1 2 4 5\nattribute \"dep\" string \"connections\"\nobject 7 class array type unsigned int rank 0 items 2 data follows\n4000000000\n4000000000\nattribute \"dep\" string \"positions\"\nobject 8 class array type int rank 0 items 2 data follows\n1\n2\nattribute \"dep\" string \"self\"\nobject 9 class field\ncomponent \"positions\" value 1\ncomponent \"connections\" value 2\ncomponent \"data\" value 3\ncomponent \"cells\" value 4\ncomponent \"places\" value 5\ncomponent \"near\" value 6\ncomponent \"level\" value 7\ncomponent \"self\" value 8\nend\n",
+        PLANE,
+        [Given::Number(0), Given::Number(0), Given::Number(-1)],
+        "BadArgument",
     ),
     (
-        TIED,
-        [Given::Text("y"), Given::Number(1), NULL],
-        "object 1 class gridpositions counts 3 1\norigin 0 1\ndelta 1 0\ndelta 0 1\nattribute \"dep\" string \"data\"\nobject 2 class gridconnections counts 3\nattribute \"dep\" string \"cells\"\nobject 3 class array type unsigned short rank 0 items 3 data follows\n60001\n60003\n60005\nattribute \"dep\" string \"positions\"\nobject 4 class array type signed byte rank 0 items 2 data follows\n-1\n-2\nattribute \"dep\" string \"connections\"\nobject 5 class array type int rank 1 shape 1 items 3 data follows\n10\n20\n30\nattribute \"dep\" string \"positions\"\nobject 6 class array type int rank 1 shape 4 items 2 data follows\n0 1 3 4\n1 2 4 5\nattribute \"dep\" string \"connections\"\nobject 7 class array type unsigned int rank 0 items 3 data follows\n4000000000\n4000000000\n4000000000\nattribute \"dep\" string \"positions\"\nobject 8 class array type int rank 0 items 2 data follows\n1\n2\nattribute \"dep\" string \"self\"\nobject 9 class field\ncomponent \"positions\" value 1\ncomponent \"connections\" value 2\ncomponent \"data\" value 3\ncomponent \"cells\" value 4\ncomponent \"places\" value 5\ncomponent \"near\" value 6\ncomponent \"level\" value 7\ncomponent \"self\" value 8\nend\n",
+        PLANE,
+        [Given::Number(0), Given::Number(0), Given::Text("a")],
+        "BadArgument",
     ),
     (
-        TIED,
-        [Given::Text("y"), NULL, Given::Number(1)],
-        "object 1 class gridpositions counts 3 2\norigin 0 0\ndelta 1 0\ndelta 0 1\nattribute \"dep\" string \"data\"\nobject 2 class gridconnections counts 3 2\nattribute \"dep\" string \"cells\"\nobject 3 class array type unsigned short rank 0 items 6 data follows\n60000\n60001\n60002\n60003\n60004\n60005\nattribute \"dep\" string \"positions\"\nobject 4 class array type signed byte rank 0 items 2 data follows\n-1\n-2\nattribute \"dep\" string \"connections\"\nobject 5 class array type int rank 1 shape 1 items 6 data follows\n5\n10\n15\n20\n25\n30\nattribute \"dep\" string \"positions\"\nobject 6 class array type int rank 1 shape 4 items 2 data follows\n0 1 3 4\n1 2 4 5\nattribute \"dep\" string \"connections\"\nobject 7 class array type unsigned int rank 0 items 6 data follows\n4000000000\n4000000000\n4000000000\n4000000000\n4000000000\n4000000000\nattribute \"dep\" string \"positions\"\nobject 8 class array type int rank 0 items 2 data follows\n1\n2\nattribute \"dep\" string \"self\"\nobject 9 class field\ncomponent \"positions\" value 1\ncomponent \"connections\" value 2\ncomponent \"data\" value 3\ncomponent \"cells\" value 4\ncomponent \"places\" value 5\ncomponent \"near\" value 6\ncomponent \"level\" value 7\ncomponent \"self\" value 8\nobject 10 class series\nmember 0 position 0 value 9\nend\n",
+        PLANE,
+        [Given::Number(0), Given::Number(0), Given::Number(4)],
+        "BadArgument",
     ),
     (
-        BARE,
-        [Given::Number(0), Given::Number(1), NULL],
-        "object 1 class gridpositions counts 1 3\norigin 0 7\ndelta 0 7\ndelta -1 0\nobject 2 class gridconnections counts 3\nobject 3 class field\ncomponent \"positions\" value 1\ncomponent \"connections\" value 2\nend\n",
+        PLANE,
+        [Given::Number(1), NULL, Given::Number(3)],
+        "BadArgument",
     ),
     (
-        BARE,
-        [Given::Text("y"), Given::Number(1), Given::Number(1)],
-        "object 1 class gridpositions counts 2 2\norigin -1 0\ndelta 0 7\ndelta -1 0\nobject 2 class gridconnections counts 2 2\nobject 3 class field\ncomponent \"positions\" value 1\ncomponent \"connections\" value 2\nend\n",
+        PLANE,
+        [Given::Number(1), NULL, Given::Number(2147483647)],
+        "BadArgument",
     ),
     (
-        SOLID,
-        [Given::Text("z"), Given::Number(0), Given::Number(1)],
-        "object 1 class array type short rank 0 items 12 data follows\n10\n7\n4\n1\n-2\n-5\n-8\n-11\n-14\n-17\n-20\n-23\nobject 2 class gridpositions counts 2 3 2\norigin 5 -5 7\ndelta 1 2 3\ndelta 10 0 -1\ndelta 0 0 4\nattribute \"unit\" string \"m\"\nobject 3 class gridconnections counts 2 3 2\nattribute \"element type\" string \"quads\"\nattribute \"ref\" string \"positions\"\nobject 4 class array type unsigned byte rank 1 shape 2 items 2 data follows\n7 8\n7 8\nattribute \"dep\" string \"connections\"\nobject 5 class array type int rank 0 items 2 data follows\n21\n22\nattribute \"dep\" string \"connections\"\nobject 6 class array type int rank 1 shape 2 items 12 data follows\n0 100\n1 99\n2 98\n3 97\n4 96\n5 95\n6 94\n7 93\n8 92\n9 91\n10 90\n11 89\nattribute \"dep\" string \"positions\"\nattribute \"unit\" number 4\nobject 7 class array type int rank 0 items 12 data follows\n0\n1\n2\n3\n4\n5\n6\n7\n8\n9\n10\n11\nattribute \"dep\" string \"data\"\nobject 8 class array type int rank 0 items 3 data follows\n1\n2\n3\nobject 9 class field\ncomponent \"data\" value 1\ncomponent \"positions\" value 2\ncomponent \"connections\" value 3\ncomponent \"faces\" value 4\ncomponent \"cells\" value 5\ncomponent \"place\" value 6\ncomponent \"beside\" value 7\ncomponent \"alone\" value 8\nattribute \"name\" string \"solid\"\nend\n",
+        ODD,
+        [Given::Number(0), Given::Number(0), Given::Number(0)],
+        "BadField",
+    ),
+    (ODD, [NULL, Given::Number(0), Given::Number(0)], "BadField"),
+    (
+        REFERS,
+        [Given::Number(0), Given::Number(0), Given::Number(0)],
+        "NotRegular",
     ),
     (
-        SOLID,
-        [Given::Text("x"), Given::Number(1), NULL],
-        "object 1 class array type short rank 0 items 6 data follows\n-8\n-11\n-14\n-17\n-20\n-23\nobject 2 class gridpositions counts 1 3 2\norigin 6 -3 10\ndelta 1 2 3\ndelta 10 0 -1\ndelta 0 0 4\nattribute \"unit\" string \"m\"\nobject 3 class gridconnections counts 3 2\nattribute \"element type\" string \"quads\"\nattribute \"ref\" string \"positions\"\nobject 4 class array type unsigned byte rank 1 shape 2 items 2 data follows\n7 8\n7 8\nattribute \"dep\" string \"connections\"\nobject 5 class array type int rank 0 items 2 data follows\n21\n22\nattribute \"dep\" string \"connections\"\nobject 6 class array type int rank 1 shape 2 items 6 data follows\n6 94\n7 93\n8 92\n9 91\n10 90\n11 89\nattribute \"dep\" string \"positions\"\nattribute \"unit\" number 4\nobject 7 class array type int rank 0 items 12 data follows\n0\n1\n2\n3\n4\n5\n6\n7\n8\n9\n10\n11\nattribute \"dep\" string \"data\"\nobject 8 class array type int rank 0 items 3 data follows\n1\n2\n3\nobject 9 class field\ncomponent \"data\" value 1\ncomponent \"positions\" value 2\ncomponent \"connections\" value 3\ncomponent \"faces\" value 4\ncomponent \"cells\" value 5\ncomponent \"place\" value 6\ncomponent \"beside\" value 7\ncomponent \"alone\" value 8\nattribute \"name\" string \"solid\"\nend\n",
+        APART,
+        [Given::Number(0), Given::Number(0), Given::Number(0)],
+        "NotRegular",
+    ),
+    (SHORT, [NULL, NULL, NULL], "BadField"),
+    (
+        JOINED,
+        [Given::Number(0), Given::Number(0), Given::Number(0)],
+        "NotRegular",
+    ),
+    (LONG, [Given::Number(0), NULL, NULL], "TooLarge"),
+    (
+        LONG,
+        [Given::Number(0), NULL, Given::Number(-1)],
+        "BadArgument",
+    ),
+    (LONG, [Given::Number(1), NULL, NULL], "BadArgument"),
+    (WIDE, [Given::Number(0), NULL, NULL], "TooLarge"),
+    (
+        WIDE,
+        [Given::Number(0), Given::Number(0), Given::Number(1)],
+        "TooLarge",
     ),
 ];
 
+// Whether each row gives what it should.
+fn all_give(alloc: Global, rows: &[(&str, [Given<'_>; 3], &str)]) -> Result<bool, Fail> {
+    for (field, given, wanted) in rows {
+        if !answers(alloc, field, *given, wanted)? {
+            return Ok(false);
+        }
+    }
+    Ok(true)
+}
+
 #[test]
 fn slabs_are_cut(rt: HostRuntime) -> Result<(), Fail> {
-    assert!(rt; all_give(rt.alloc(), SLABS)?);
+    assert!(rt; all_give(rt.alloc(), &SLABS)?);
+    Ok(())
+}
+
+#[test]
+fn others_are_refused(rt: HostRuntime) -> Result<(), Fail> {
+    assert!(rt; all_give(rt.alloc(), &REFUSED)?);
     Ok(())
 }
