@@ -99,10 +99,12 @@ fn number(alloc: Global, n: i32) -> Result<String, Fail> {
 fn a_session_goes_on_behind_a_fault(rt: HostRuntime) -> Result<(), Fail> {
     let alloc = rt.alloc();
     let (none, one) = (number(alloc, 0)?, number(alloc, 1)?);
-    let linked = "macro m() { SetGlobal(1, \"n\"); Echo(Import(\"v.dx\")); } m(); Print(GetGlobal(0, \"n\"), \"d\"); m(); Print(GetGlobal(0, \"n\"), \"d\");";
+    let linked =
+        "macro m() { SetGlobal(1, \"n\"); Echo(Import(\"v.dx\")); } m(); Print(GetGlobal(0, \"n\"), \"d\"); m(); Print(GetGlobal(0, \"n\"), \"d\");";
     let linked_text = format!(in alloc; "{none}t\n{one}")?;
     let put = "Export(7, \"o\"); Echo(\"a\"); Export(8, \"o\"); Echo(\"b\");";
-    let played = "@startframe = 1; @endframe = 3; sequence Echo(Import(\"v.dx\")); play; Echo(@frame); Echo(@nextframe); play; Echo(@frame);";
+    let played =
+        "@startframe = 1; @endframe = 3; sequence Echo(Import(\"v.dx\")); play; Echo(@frame); Echo(@nextframe); play; Echo(@frame);";
     let read = Failing { read: 1, ..NONE };
     let write = Failing { write: 1, ..NONE };
     let export = Failing { put: 2, ..NONE };
