@@ -1,10 +1,10 @@
 -- What is kept behind an execution that was cut short fits and is sound.
-use Rattle.std.proofs.Common.{◌≡◌, ◌≤◌, ℕ, List, [], map, Option, refl, sym, ap, ap₂, ◌∙◌, subst, arith}
+use Rattle.std.proofs.Common.{◌≡◌, ◌≤◌, inl, inr, ℕ, List, [], map, Option, refl, sym, ap, ap₂, ◌∙◌, subst, arith}
 use Rattle.std.specs.Prelude.{Result, Ok, Err}
 use Rattle.dx_macros.specs.Tree.{CallTree}
 use Rattle.dx_tags.specs.Closed.{heads_of, GoesOn}
 use Rattle.dx_io.proofs.Growing.{grows_by_nothing}
-use Rattle.dx_ending.specs.Putting.{ArePut}
+use Rattle.dx_ending.specs.Putting.{ArePut, ArePutBefore}
 use Rattle.dx_performing.specs.Execution.{Export}
 use Rattle.dx_links.specs.Denotes.{Around}
 use Rattle.dx_demand.specs.Terms.{AreExact}
@@ -19,8 +19,8 @@ use Rattle.dx_performing.specs.Meant.{LinksRight}
 use Rattle.dx_looking.specs.Setting.{IsBound, links_of}
 use Rattle.dx_looking.proofs.Growth.{links_same}
 use Rattle.dx_engine.specs.Keeping.{StateFits, kept_of, setting_of, IsSoundState}
-use Rattle.dx_engine.specs.Ending.{OnEnd, OnCut, SomePut, HasPut}
-use Rattle.dx_engine.specs.Executing.{Devices, IsExecuted, IsCutEarly, IsCutLate, IsCut, NonePut, ExecutesSo}
+use Rattle.dx_engine.specs.Ending.{OnEnd, OnCut, CutsPuts, HasPut}
+use Rattle.dx_engine.specs.Executing.{Devices, IsExecuted, IsCutEarly, IsCutLate, NonePut, ExecutesSo}
 use Rattle.dx_engine.specs.Cutting.{IsCutFrom, IsForgotten}
 use Rattle.dx_engine.specs.declared.exec_error.ExecError.{ExecError}
 use Rattle.dx_engine.specs.declared.exec_error.ExecError.TheVariants.{Module, ReadFault, WriteFault, ExportFault, Memory}
@@ -83,16 +83,17 @@ pub none_has_put : (was : Option (List Export)) (st st1 : State) → st1.written
 none_has_put was st st1 same = record { files = []; made = record { told = grows_by_nothing was; files = ap (λ (w : _). w.files) same } }
 
 pub has_put : (r : Result (Unit {0}) ExecError) (all : List Export) (was now : Option (List Export)) (st st1 st2 : State) → st1.written ≡ st.written
-    → OnEnd r (ArePut was now st1.written.files st2.written.files all) → OnCut r (SomePut was now st1.written.files st2.written.files all) → HasPut was now st.written.files st2.written.files
-has_put r all was now st st1 st2 same put some = subst (λ (w : _). HasPut was now w.files st2.written.files) same (by r put some)
+    → OnEnd r (ArePut was now st1.written.files st2.written.files all) → CutsPuts r was now st1.written.files st2.written.files all → ¬ (r ≡ Err ReadFault) × ¬ (r ≡ Err WriteFault) → HasPut was now st.written.files st2.written.files
+has_put r all was now st st1 st2 same put cut faults = subst (λ (w : _). HasPut was now w.files st2.written.files) same (by r put cut faults)
   where
-    by : (r : Result (Unit {0}) ExecError) → OnEnd r (ArePut was now st1.written.files st2.written.files all) → OnCut r (SomePut was now st1.written.files st2.written.files all) → HasPut was now st1.written.files st2.written.files
-    by (Ok u) put some = record { files = all; made = put }
-    by (Err (Module site code)) put some = record { files = all; made = put }
-    by (Err ReadFault) put some = record { files = some.front; made = some.made }
-    by (Err WriteFault) put some = record { files = some.front; made = some.made }
-    by (Err ExportFault) put some = record { files = some.front; made = some.made }
-    by (Err Memory) put some = record { files = some.front; made = some.made }
+    by : (r : Result (Unit {0}) ExecError) → OnEnd r (ArePut was now st1.written.files st2.written.files all) → CutsPuts r was now st1.written.files st2.written.files all → ¬ (r ≡ Err ReadFault) × ¬ (r ≡ Err WriteFault) → HasPut was now st1.written.files st2.written.files
+    by (Ok u) put cut faults = record { files = all; made = put }
+    by (Err (Module site code)) put cut faults = record { files = all; made = put }
+    by (Err ReadFault) put cut faults = absurd (faults.0 refl)
+    by (Err WriteFault) put cut faults = absurd (faults.1 refl)
+    by (Err ExportFault) put cut faults = record { files = cut.front; made = cut.made }
+    by (Err Memory) put (inl none) faults = record { files = []; made = none }
+    by (Err Memory) put (inr before) faults = record { files = before.front; made = before.made }
 
 pub put_behind : (was now : Option (List Export)) (st st1 st2 : State) (r : Result (Unit {0}) ExecError) → HasPut was now st.written.files st1.written.files → OnEnd r (st2 ≡ st1) → OnCut r (IsForgotten st1 st2) → HasPut was now st.written.files st2.written.files
 put_behind was now st st1 st2 r h same gone = subst (λ (w : _). HasPut was now st.written.files w.files) (sym (by r same gone)) h
@@ -149,15 +150,16 @@ module _ (x : Fixed) (st st1 st2 : State) (effects : List CallTree) (was now : D
   sound_behind_cut (Err Memory) fits sound h cut same gone = sound_then st st1 st2 fits cut gone x sound
 
   none_put : st2.written ≡ st1.written → NonePut st was st1 now → NonePut st was st2 now
-  none_put e h = record { puts = h.puts; files = e ∙ h.files }
+  none_put e h = record { puts = h.puts; files = ap (λ (w : _). w.files) e ∙ h.files }
 
-  some_put : st2.written ≡ st1.written → (all : List _) → SomePut was.puts now.puts st.written.files st1.written.files all → SomePut was.puts now.puts st.written.files st2.written.files all
-  some_put e all h = subst (λ y. SomePut was.puts now.puts st.written.files y.files all) (sym e) h
+  put_before : st2.written ≡ st1.written → (all : List _) → ArePutBefore was.puts now.puts st.written.files st1.written.files all → ArePutBefore was.puts now.puts st.written.files st2.written.files all
+  put_before e all h = subst (λ y. ArePutBefore was.puts now.puts st.written.files y.files all) (sym e) h
 
   pub executes_behind : (r : Result (Unit {0}) ExecError) → ExecutesSo x st effects was r st1 now → OnEnd r (st2 ≡ st1) → OnCut r (IsForgotten st1 st2) → ExecutesSo x st effects was r st2 now
   executes_behind (Ok u) h same gone = subst (λ y. IsExecuted x st effects was (Ok u) y now) (sym same) h
   executes_behind (Err (Module site code)) h same gone = subst (λ y. IsExecuted x st effects was (Err (Module site code)) y now) (sym same) h
   executes_behind (Err ReadFault) h same gone = (h.0, none_put gone.written h.1)
   executes_behind (Err WriteFault) h same gone = (h.0, none_put gone.written h.1)
-  executes_behind (Err ExportFault) h same gone = record { printed = h.printed; told = h.told; puts = some_put gone.written _ h.puts }
-  executes_behind (Err Memory) h same gone = record { early = h.early; puts = some_put gone.written _ h.puts }
+  executes_behind (Err ExportFault) h same gone = record { printed = h.printed; told = h.told; puts = put_before gone.written _ h.puts }
+  executes_behind (Err Memory) (inl (early, none)) same gone = inl (early, none_put gone.written none)
+  executes_behind (Err Memory) (inr late) same gone = inr (record { printed = late.printed; told = late.told; puts = put_before gone.written _ late.puts })

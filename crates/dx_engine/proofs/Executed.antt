@@ -1,5 +1,5 @@
 -- What the parts of an execution come to.
-use Rattle.std.proofs.Common.{◌≡◌, ℕ, List, [], append-nil, Option, refl, sym, ap, ◌∙◌, subst}
+use Rattle.std.proofs.Common.{◌≡◌, inl, inr, ℕ, List, [], append-nil, Option, refl, sym, ap, ◌∙◌, subst}
 use Rattle.std.specs.Prelude.{Result, Ok, Err, is_some, IsErrAnd}
 use Rattle.dx_base.specs.declared.code.Code.{Code}
 use Rattle.dx_graph.specs.Graph.{Node}
@@ -7,28 +7,28 @@ use Rattle.dx_macros.specs.Tree.{CallTree}
 use Rattle.dx_tags.specs.Closed.{GoesOn}
 use Rattle.dx_machine.specs.Machine.{tasks_of}
 use Rattle.dx_getting.specs.Told.{Adds, AddsSome}
-use Rattle.dx_getting.proofs.TellLaws.{some_all}
 use Rattle.dx_demand.specs.Forming.{named_terms}
 use Rattle.dx_demand.specs.Memo.{site_of}
 use Rattle.dx_io.specs.Devices.{Grows}
+use Rattle.dx_io.proofs.Growing.{grows_by_nothing}
+use Rattle.dx_getting.proofs.TellLaws.{some_all}
 use Rattle.dx_performing.specs.Execution.{Error, Export, execution}
 use Rattle.dx_performing.specs.Kept.{is_full}
 use Rattle.dx_performing.specs.Course.{Fixed, world_of, committed, executed}
 use Rattle.dx_performing.specs.SoundEntries.{AreLawfulCalls}
-use Rattle.dx_ending.specs.Putting.{ArePut, exports_of}
+use Rattle.dx_ending.specs.Putting.{ArePut, ArePutBefore, exports_of}
 use Rattle.dx_engine.specs.Gathering.{error_of}
 use Rattle.dx_engine.specs.Keeping.{StateFits, kept_of, IsSoundState}
 use Rattle.dx_engine.specs.Beginning.{EffectsAre, EffectsCut, GathersFit, course_of}
 use Rattle.dx_engine.specs.Leaving.{links_behind, IsLeft}
-use Rattle.dx_engine.specs.Ending.{OnEnd, OnCut, ErrorIs, SomePut, short_error}
-use Rattle.dx_engine.specs.Executing.{Devices, EndsIn, IsExecuted, IsCutEarly, NonePut, ExecutesSo}
+use Rattle.dx_engine.specs.Ending.{OnEnd, OnCut, ErrorIs, CutsPuts, short_error}
+use Rattle.dx_engine.specs.Executing.{Devices, EndsIn, IsExecuted, IsCutEarly, IsCutLate, NonePut, ExecutesSo}
 use Rattle.dx_engine.specs.declared.exec_error.ExecError.{ExecError}
 use Rattle.dx_engine.specs.declared.exec_error.ExecError.TheVariants.{Module, ReadFault, WriteFault, ExportFault, Memory}
 use Rattle.dx_engine.specs.declared.gathered.Gathered.{Gathered}
 use Rattle.dx_engine.specs.declared.short.Short.{Short}
 use Rattle.dx_engine.specs.declared.short.Short.TheVariants as short
 use Rattle.dx_engine.specs.declared.state.State.{State}
-use Rattle.dx_engine.proofs.Finished.{none_put}
 use Rattle.dx_engine.proofs.LeftBehind.{IsFinished, fits_left, kept_left, sound_left, events_left, told_left, current_left}
 use Rattle.dx_engine.proofs.SoundBehind.{tasks_stay, told_behind}
 
@@ -41,15 +41,12 @@ cut_so x st st' effects was now s cut puts files = by s
     early = record { printed = cut.printed; told = subst (AddsSome was.told now.told) (sym (tasks_stay (committed (kept_of st) (execution (world_of x (kept_of st)) effects) (course_of x st effects)) (course_of x st effects))) cut.told }
 
     none : NonePut st was st' now
-    none = record { puts = puts; files = files }
+    none = record { puts = puts; files = ap (λ w. w.files) files }
 
     by : (s : Short) → ExecutesSo x st effects was (Err (short_error s)) st' now
     by short.ReadFault = (early, none)
     by short.WriteFault = (early, none)
-    by short.Memory = record {
-      early = early;
-      puts = subst (λ (p : Option (List Export)). SomePut was.puts p st.written.files st'.written.files (execution (world_of x (kept_of st)) effects).exports) (sym puts) (none_put was.puts st.written.files st'.written.files _ (ap (λ w. w.files) files));
-    }
+    by short.Memory = inl (early, none)
 
 pub short_so : (x : Fixed) (st st' : State) (effects : List CallTree) (was now : Devices) (s : Short) (r : Result (Unit {0}) ExecError) → IsErrAnd r (λ e. e ≡ short_error s) → EffectsCut x st effects was.told was.written now.told now.written → now.puts ≡ was.puts → st'.written ≡ st.written → ExecutesSo x st effects was r st' now
 short_so x st st' effects was now s (Ok u) is cut puts files = absurd is
@@ -93,24 +90,31 @@ module _ (x : Fixed) (st st' st2 : State) (effects : List CallTree) (nodes : Lis
   told_all : Adds was.told now.told (tasks_of (executed x effects (kept_of st)).events)
   told_all = told_behind x st st' effects nodes was.told was.written g now.told now.written are
 
-  some_put : SomePut was.puts now.puts st'.written.files st2.written.files (exports_of g.puts.items) → SomePut was.puts now.puts st.written.files st2.written.files (execution (world_of x (kept_of st)) effects).exports
-  some_put p =
-      subst (λ (es : List Export). SomePut was.puts now.puts st.written.files st2.written.files es) are.exports
-      (subst (λ y. SomePut was.puts now.puts y st2.written.files (exports_of g.puts.items)) (ap (λ w. w.files) run.written) p)
+  put_before : ArePutBefore was.puts now.puts st'.written.files st2.written.files (exports_of g.puts.items) → ArePutBefore was.puts now.puts st.written.files st2.written.files (execution (world_of x (kept_of st)) effects).exports
+  put_before p =
+      subst (λ (es : List Export). ArePutBefore was.puts now.puts st.written.files st2.written.files es) are.exports
+      (subst (λ y. ArePutBefore was.puts now.puts y st2.written.files (exports_of g.puts.items)) (ap (λ w. w.files) run.written) p)
 
-  pub execute_so : (r : Result (Unit {0}) ExecError) → OnEnd r (IsLeft st' (links_behind st'.links.links (is_some g.error) g.changes) (is_full (named_terms st'.tags)) st2) → OnEnd r (ArePut was.puts now.puts st'.written.files st2.written.files (exports_of g.puts.items)) → ErrorIs nodes g.error r → OnCut r (SomePut was.puts now.puts st'.written.files st2.written.files (exports_of g.puts.items)) → ¬ (r ≡ Err ReadFault) × ¬ (r ≡ Err WriteFault) → ExecutesSo x st effects was r st2 now
+  late : ArePutBefore was.puts now.puts st'.written.files st2.written.files (exports_of g.puts.items) → IsCutLate x st effects was st2 now
+  late p = record { printed = are.printed; told = told_all; puts = put_before p }
+
+  early : IsCutEarly x st effects was now
+  early = record {
+    printed = ((execution (world_of x (kept_of st)) effects).printed, [], sym (append-nil _), are.printed);
+    told = some_all was.told now.told _ [] _ told_all (sym (append-nil _));
+  }
+
+  none_put : ArePut was.puts now.puts st'.written.files st2.written.files [] → NonePut st was st2 now
+  none_put p = record { puts = p.told ∙ sym (grows_by_nothing was.puts); files = p.files ∙ ap (λ w. w.files) run.written }
+
+  pub execute_so : (r : Result (Unit {0}) ExecError) → OnEnd r (IsLeft st' (links_behind st'.links.links (is_some g.error) g.changes) (is_full (named_terms st'.tags)) st2) → OnEnd r (ArePut was.puts now.puts st'.written.files st2.written.files (exports_of g.puts.items)) → ErrorIs nodes g.error r → CutsPuts r was.puts now.puts st'.written.files st2.written.files (exports_of g.puts.items) → ¬ (r ≡ Err ReadFault) × ¬ (r ≡ Err WriteFault) → ExecutesSo x st effects was r st2 now
   execute_so (Ok u) left put error some faults = executed_so (Ok u) left put error
   execute_so (Err (Module site code)) left put error some faults = executed_so (Err (Module site code)) left put error
   execute_so (Err ReadFault) left put error some faults = absurd (faults.0 refl)
   execute_so (Err WriteFault) left put error some faults = absurd (faults.1 refl)
-  execute_so (Err ExportFault) left put error some faults = record { printed = are.printed; told = told_all; puts = some_put some }
-  execute_so (Err Memory) left put error some faults = record {
-    early = record {
-      printed = ((execution (world_of x (kept_of st)) effects).printed, [], sym (append-nil _), are.printed);
-      told = some_all was.told now.told _ [] _ told_all (sym (append-nil _));
-    };
-    puts = some_put some;
-  }
+  execute_so (Err ExportFault) left put error cut faults = late cut
+  execute_so (Err Memory) left put error (inl none) faults = inl (early, none_put none)
+  execute_so (Err Memory) left put error (inr before) faults = inr (late before)
 
 -- ---- what fits
 

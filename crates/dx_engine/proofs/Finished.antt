@@ -1,5 +1,5 @@
 -- How an execution ends, and what is put in place then.
-use Rattle.std.proofs.Common.{◌≡◌, ℕ, List, [], ◌∷◌, ◌++◌, length, Bool, Option, Some, None, Result, Ok, Err, refl, sym, ap, ◌∙◌, subst}
+use Rattle.std.proofs.Common.{◌≡◌, inl, inr, ℕ, List, [], ◌∷◌, ◌++◌, length, Bool, Option, Some, None, Result, Ok, Err, refl, sym, ap, ◌∙◌, subst}
 use Rattle.std.specs.Prelude.{if◌then◌else◌, is_some, IsErrAnd}
 use Rattle.dx_base.specs.declared.code.Code.{Code}
 use Rattle.dx_graph.specs.Graph.{Node}
@@ -18,7 +18,7 @@ use Rattle.dx_objects.specs.Runs.{Values}
 use Rattle.dx_performing.specs.Execution.{Export}
 use Rattle.dx_ending.specs.Putting.{ArePut, ArePutBefore}
 use Rattle.dx_engine.specs.Leaving.{IsLeft, EmptySo, links_behind}
-use Rattle.dx_engine.specs.Ending.{OnEnd, OnCut, ErrorIs, SiteIs, SomePut, ended_so, export_error}
+use Rattle.dx_engine.specs.Ending.{OnEnd, OnCut, ErrorIs, SiteIs, CutsPuts, ended_so, export_error}
 use Rattle.dx_engine.specs.declared.exec_error.ExecError.{ExecError}
 use Rattle.dx_engine.specs.declared.exec_error.ExecError.TheVariants.{Module, ReadFault, WriteFault, ExportFault, Memory}
 use Rattle.dx_engine.specs.declared.prepared.NextEmpty.{NextEmpty}
@@ -98,11 +98,24 @@ site_tells nodes e (Some x) s = sym (ap is_some s.1)
 
 -- ---- what was put
 
-pub none_put : (was : Option (List Export)) (before behind : FileMap) (all : List Export) → behind ≡ before → SomePut was was before behind all
-none_put was before behind all e = record { front = []; rest = all; split = refl; made = record { told = grows_by_nothing was; files = e } }
+-- memory ran out before the first put
+pub none_put : (r : Result (Unit {0}) ExecError) (was : Option (List Export)) (before behind : FileMap) (all : List Export) → IsErrAnd r (λ e. e ≡ Memory) → behind ≡ before → CutsPuts r was was before behind all
+none_put (Ok u) was before behind all is e = absurd is
+none_put (Err error) was before behind all is e = subst (λ (y : ExecError). CutsPuts (Err y) was was before behind all) (sym is) (inl (record { told = grows_by_nothing was; files = e }))
 
-pub front_put : (was now : Option (List Export)) (before before' behind : FileMap) (all : List Export) → before' ≡ before → ArePutBefore was now before' behind all → SomePut was now before behind all
-front_put was now before before' behind all e p = record { front = p.front; rest = p.failed ∷ p.rest; split = p.split; made = subst (λ y. ArePut was now y behind p.front) e p.made }
+cut_at : (f : ExportFail) (was now : Option (List Export)) (before behind : FileMap) (all : List Export) → ArePutBefore was now before behind all → CutsPuts (Err (export_error f)) was now before behind all
+cut_at export.Fault was now before behind all p = p
+cut_at export.Memory was now before behind all p = inr p
+
+-- a put failed
+pub front_put : (f : ExportFail) (r : Result (Unit {0}) ExecError) (was now : Option (List Export)) (before before' behind : FileMap) (all : List Export) → r ≡ Err (export_error f) → before' ≡ before → ArePutBefore was now before' behind all → CutsPuts r was now before behind all
+front_put f r was now before before' behind all is e p =
+    subst (λ (y : Result (Unit {0}) ExecError). CutsPuts y was now before behind all) (sym is) (cut_at f was now before behind all (subst (λ (y : FileMap). ArePutBefore was now y behind all) e p))
+
+-- it wasn't cut short
+pub uncut_put : (site : Option (List ℕ × Code)) (r : Result (Unit {0}) ExecError) (was now : Option (List Export)) (before behind : FileMap) (all : List Export) → ended_so site r → CutsPuts r was now before behind all
+uncut_put None r was now before behind all is = subst (λ (y : Result (Unit {0}) ExecError). CutsPuts y was now before behind all) (sym is) tt
+uncut_put (Some s) r was now before behind all is = subst (λ (y : Result (Unit {0}) ExecError). CutsPuts y was now before behind all) (sym is) tt
 
 -- ---- what is left
 

@@ -1,5 +1,5 @@
 -- How an execution ends.
-use Rattle.std.specs.Prelude.{◌≡◌, ℕ, List, ◌++◌, Option, Some, None, Result, Ok, Err}
+use Rattle.std.specs.Prelude.{◌≡◌, ◌⊎◌, ℕ, List, [], Option, Some, None, Result, Ok, Err}
 use Rattle.dx_base.specs.declared.code.Code.{Code}
 use Rattle.dx_graph.specs.Graph.{Node}
 use Rattle.dx_io.specs.declared.fails.ExportFail.{ExportFail}
@@ -8,7 +8,7 @@ use Rattle.dx_macros.specs.Site.{steps_text}
 use Rattle.dx_tags.specs.Files.{FileMap}
 use Rattle.dx_demand.specs.Memo.{site_of}
 use Rattle.dx_performing.specs.Execution.{Export}
-use Rattle.dx_ending.specs.Putting.{ArePut}
+use Rattle.dx_ending.specs.Putting.{ArePut, ArePutBefore}
 use Rattle.dx_engine.specs.declared.exec_error.ExecError.{ExecError}
 use Rattle.dx_engine.specs.declared.exec_error.ExecError.TheVariants.{Module, ReadFault, WriteFault, ExportFault, Memory}
 use Rattle.dx_engine.specs.declared.short.Short.{Short}
@@ -55,12 +55,14 @@ abbrev pub SiteIs : List Node → Option (ℕ × Code) → Option (List ℕ × C
 SiteIs nodes e None = e ≡ None
 SiteIs nodes e (Some s) = (n : ℕ) × (e ≡ Some (n, s.1)) × (s.0 ≡ steps_text (site_of nodes n))
 
--- of these files a front was put
-pub record SomePut (was now : Option (List Export)) (before behind : FileMap) (all : List Export) : Type 0 where
-  pub front : List Export
-  pub rest : List Export
-  pub split : all ≡ front ++ rest
-  pub made : ArePut was now before behind front
+-- where it is cut short in putting these files: at a put that failed, or for want of memory also before the first one
+abbrev pub CutsPuts : Result (Unit {0}) ExecError → Option (List Export) → Option (List Export) → FileMap → FileMap → List Export → Type 0
+CutsPuts (Ok _) was now before behind all = Unit {0}
+CutsPuts (Err (Module site code)) was now before behind all = Unit {0}
+CutsPuts (Err ReadFault) was now before behind all = Unit {0}
+CutsPuts (Err WriteFault) was now before behind all = Unit {0}
+CutsPuts (Err ExportFault) was now before behind all = ArePutBefore was now before behind all
+CutsPuts (Err Memory) was now before behind all = ArePut was now before behind [] ⊎ ArePutBefore was now before behind all
 
 -- some files were put, and are written files then, each over an earlier one of its name
 pub record HasPut (was now : Option (List Export)) (before behind : FileMap) : Type 0 where

@@ -1,5 +1,5 @@
 -- What one execution does, and what it leaves.
-use Rattle.std.specs.Prelude.{◌≡◌, ℕ, List, map, Option, Some, None, Result, Ok, Err}
+use Rattle.std.specs.Prelude.{◌≡◌, ◌⊎◌, ℕ, List, map, Option, Some, None, Result, Ok, Err}
 use Rattle.dx_io.specs.Devices.{Grows, GrowsInto}
 use Rattle.dx_macros.specs.Site.{Step, steps_text}
 use Rattle.dx_macros.specs.Tree.{CallTree}
@@ -10,7 +10,7 @@ use Rattle.dx_performing.specs.Course.{Fixed, world_of, executed}
 use Rattle.dx_performing.specs.Execution.{Error, Refused, Export, execution, behind}
 use Rattle.dx_performing.specs.Kept.{current}
 use Rattle.dx_engine.specs.Keeping.{kept_of, IsSoundState}
-use Rattle.dx_engine.specs.Ending.{SomePut}
+use Rattle.dx_ending.specs.Putting.{ArePutBefore}
 use Rattle.dx_engine.specs.declared.exec_error.ExecError.{ExecError}
 use Rattle.dx_engine.specs.declared.exec_error.ExecError.TheVariants.{Module, ReadFault, WriteFault, ExportFault, Memory}
 use Rattle.dx_engine.specs.declared.state.State.{State}
@@ -47,21 +47,16 @@ pub record IsCutEarly (x : Fixed) (st : State) (effects : List CallTree) (was no
   pub printed : GrowsInto was.written now.written (execution (world_of x (kept_of st)) effects).printed
   pub told : AddsSome was.told now.told (tasks_of (executed x effects (kept_of st)).events)
 
--- cut short at a put: all its text was written and all its runs were told, and a front of its files was put
+-- cut short at a put: all its text was written and all its runs were told; the files before this one were put, and it wasn't
 pub record IsCutLate (x : Fixed) (st : State) (effects : List CallTree) (was : Devices) (st' : State) (now : Devices) : Type 0 where
   pub printed : Grows was.written now.written (execution (world_of x (kept_of st)) effects).printed
   pub told : Adds was.told now.told (tasks_of (executed x effects (kept_of st)).events)
-  pub puts : SomePut was.puts now.puts st.written.files st'.written.files (execution (world_of x (kept_of st)) effects).exports
-
--- cut short at any place
-pub record IsCut (x : Fixed) (st : State) (effects : List CallTree) (was : Devices) (st' : State) (now : Devices) : Type 0 where
-  pub early : IsCutEarly x st effects was now
-  pub puts : SomePut was.puts now.puts st.written.files st'.written.files (execution (world_of x (kept_of st)) effects).exports
+  pub puts : ArePutBefore was.puts now.puts st.written.files st'.written.files (execution (world_of x (kept_of st)) effects).exports
 
 -- nothing was put
 pub record NonePut (st : State) (was : Devices) (st' : State) (now : Devices) : Type 0 where
   pub puts : now.puts ≡ was.puts
-  pub files : st'.written ≡ st.written
+  pub files : st'.written.files ≡ st.written.files
 
 abbrev pub ExecutesSo : Fixed → State → List CallTree → Devices → Result (Unit {0}) ExecError → State → Devices → Type 0
 ExecutesSo x st effects was (Ok u) st' now = IsExecuted x st effects was (Ok u) st' now
@@ -69,4 +64,4 @@ ExecutesSo x st effects was (Err (Module site code)) st' now = IsExecuted x st e
 ExecutesSo x st effects was (Err ReadFault) st' now = IsCutEarly x st effects was now × NonePut st was st' now
 ExecutesSo x st effects was (Err WriteFault) st' now = IsCutEarly x st effects was now × NonePut st was st' now
 ExecutesSo x st effects was (Err ExportFault) st' now = IsCutLate x st effects was st' now
-ExecutesSo x st effects was (Err Memory) st' now = IsCut x st effects was st' now
+ExecutesSo x st effects was (Err Memory) st' now = (IsCutEarly x st effects was now × NonePut st was st' now) ⊎ IsCutLate x st effects was st' now

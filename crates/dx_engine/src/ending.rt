@@ -9,7 +9,7 @@ ghost use Rattle.dx_ending.specs.Putting.{ArePut, exports_of};
 ghost use Rattle.dx_looking.specs.Setting.{IsBound};
 ghost use Rattle.dx_engine.specs.Beginning.{NodeFits};
 ghost use Rattle.dx_engine.specs.Leaving.{links_behind, NextSo, EmptySo, IsLeft};
-ghost use Rattle.dx_engine.specs.Ending.{OnEnd, OnCut, ErrorIs, SiteIs, SomePut, ended_so};
+ghost use Rattle.dx_engine.specs.Ending.{CutsPuts, OnEnd, OnCut, ErrorIs, SiteIs, ended_so};
 ghost use Rattle.dx_engine.specs.declared.exec_error.ExecError.TheVariants.{ReadFault, WriteFault, ExportFault};
 
 use crate::exec_error::ExecError;
@@ -92,7 +92,7 @@ impl State {
         ensures left { OnEnd result (IsLeft self.old (links_behind self.old.links.links (is_some gathered.error) gathered.changes) (is_full (named_terms self.old.tags)) self.new) }
         ensures put { OnEnd result (ArePut (X.puts exports.old) (X.puts exports.new) self.old.written.files self.new.written.files (exports_of gathered.puts.items)) }
         ensures error { ErrorIs (graph_of g.now).nodes gathered.error result }
-        ensures some { OnCut result (SomePut (X.puts exports.old) (X.puts exports.new) self.old.written.files self.new.written.files (exports_of gathered.puts.items)) }
+        ensures cut { CutsPuts result (X.puts exports.old) (X.puts exports.new) self.old.written.files self.new.written.files (exports_of gathered.puts.items) }
         ensures links { OnCut result (self.new.links ≡ self.old.links) }
         ensures bound { OnCut result (self.new.bound ≡ self.old.bound) }
         ensures same { OnCut result ((self.new.tags ≡ self.old.tags) × (self.new.held ≡ self.old.held) × (self.new.cache ≡ self.old.cache)) }

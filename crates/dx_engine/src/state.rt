@@ -1,7 +1,8 @@
 //! What is kept between executions.
 ghost use Rattle.std.specs.Prelude.{◌≡◌, ◌≤◌, []};
 ghost use Rattle.dx_cache.specs.Cached.{total};
-ghost use Rattle.dx_engine.specs.Keeping.{StateFits, kept_of};
+ghost use Rattle.dx_engine.specs.Keeping.{IsSoundState, StateFits, kept_of};
+ghost use Rattle.dx_performing.specs.Course.{Fixed};
 ghost use Rattle.dx_performing.specs.Kept.{new as none_kept};
 
 use dx_cache::Cache;
@@ -25,9 +26,10 @@ pub struct State {
 }
 
 impl State {
-    /// Nothing is kept, and the cache has this budget. This takes no memory.
+    /// Nothing is kept, and the cache has this budget, in bytes of stated sizes. This takes no memory.
     pub fn new(alloc: Global, budget: u64) -> State
         ensures fits { StateFits result }
+        ensures sound { (x : Fixed) → x.budget ≡ budget → IsSoundState x result }
         ensures kept { kept_of result ≡ none_kept }
         ensures budget { result.cache.budget ≡ budget }
         ensures events { result.events.items ≡ [] }

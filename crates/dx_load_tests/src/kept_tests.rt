@@ -1,5 +1,6 @@
 //! Sessions with modules, links, exports and a cache.
 use crate::outcome::{Failing, NONE, run_line};
+use std::alloc::Global;
 use std::test::Fail;
 
 const TWICE: &str = "x = Compute(\"1 + 1\"); Print(x, \"d\"); Print(x, \"d\");";
@@ -51,33 +52,68 @@ const NATIVE: &str = "object 1 class array type int rank 0 items 1 data follows\
 
 const SEVEN: &str = "array plain int rank 0 items 1\n7\n";
 
-#[test]
-fn each_put_and_read_fails_in_turn(rt: HostRuntime) -> Result<(), Fail> {
-    let alloc = rt.alloc();
-    let texts = [("s.net", AGAIN), ("i", NATIVE)];
-    let one = format!(in alloc; "o:{NATIVE}")?;
-    let both = format!(in alloc; "o:{NATIVE}p:{NATIVE}")?;
-    let all = format!(in alloc; "{SEVEN}1\n")?;
-    for (read, put, status, printed, puts) in [
-        (0, 0, 0, all.as_str(), both.as_str()),
-        (0, 1, 6, "", ""),
-        (0, 2, 6, SEVEN, one.as_str()),
-        (1, 0, 4, "", ""),
-        (2, 0, 4, SEVEN, one.as_str()),
-    ] {
+// What comes of a session where these calls of the devices fail: the status, the text, and the files that are put.
+type Row<'a> = (&'a str, (u64, u64, u64), (u8, &'a str, &'a str));
+
+fn all_come_so(alloc: Global, rows: &[Row]) -> Result<(), Fail> {
+    for (text, (read, write, put), (status, printed, puts)) in rows {
         let fail = Failing {
-            read,
-            write: 0,
-            put,
+            read: *read,
+            write: *write,
+            put: *put,
         };
-        let got = run_line(alloc, &["s.net"], &texts, fail)?;
+        let got = run_line(alloc, &["s.net"], &[("s.net", text), ("i", NATIVE)], fail)?;
         let same = got.printed.as_slice() == printed.as_bytes()
             && got.puts.as_slice() == puts.as_bytes();
-        if got.status != status || !same {
-            return Err(Fail::from(printed));
+        if got.status != *status || !same {
+            return Err(Fail::from(*text));
         }
     }
     Ok(())
+}
+
+#[test]
+fn each_put_and_read_fails_in_turn(rt: HostRuntime) -> Result<(), Fail> {
+    let alloc = rt.alloc();
+    let one = format!(in alloc; "o:{NATIVE}")?;
+    let both = format!(in alloc; "o:{NATIVE}p:{NATIVE}")?;
+    let all = format!(in alloc; "{SEVEN}1\n")?;
+    all_come_so(
+        alloc,
+        &[
+            (AGAIN, (0, 0, 0), (0, all.as_str(), both.as_str())),
+            (AGAIN, (0, 0, 1), (6, "", "")),
+            (AGAIN, (0, 0, 2), (6, SEVEN, one.as_str())),
+            (AGAIN, (1, 0, 0), (4, "", "")),
+            (AGAIN, (2, 0, 0), (4, SEVEN, one.as_str())),
+        ],
+    )
+}
+
+const REFUSED_BEHIND: &str =
+    "macro m() { Export(7, \"o\"); Print(Compute(\"1 / 0\")); } m(); Print(Import(\"o\"));";
+
+const ECHO_BEHIND: &str = "macro m() { Export(7, \"o\"); Echo(\"x\"); } m();";
+
+const IMPORT_BEHIND: &str = "macro m() { Export(7, \"o\"); Echo(Import(\"i\")); } m();";
+
+#[test]
+fn puts_come_behind_the_effects_and_before_the_lines(rt: HostRuntime) -> Result<(), Fail> {
+    let alloc = rt.alloc();
+    let one = format!(in alloc; "o:{NATIVE}")?;
+    let refused = "error m:1/Compute:1: DivisionByZero\narray plain int rank 0 items 1\n";
+    all_come_so(
+        alloc,
+        &[
+            (REFUSED_BEHIND, (0, 0, 0), (1, refused, one.as_str())),
+            (REFUSED_BEHIND, (0, 0, 1), (6, "", "")),
+            (REFUSED_BEHIND, (0, 1, 0), (5, "", one.as_str())),
+            (ECHO_BEHIND, (0, 0, 0), (0, "x\n", one.as_str())),
+            (ECHO_BEHIND, (0, 0, 1), (6, "x\n", "")),
+            (ECHO_BEHIND, (0, 1, 0), (5, "", "")),
+            (IMPORT_BEHIND, (2, 0, 0), (4, "", "")),
+        ],
+    )
 }
 
 #[test]

@@ -1,5 +1,5 @@
-//! Sessions at the limit of a text's length.
-use crate::outcome::all_print;
+//! Sessions at a limit: of the length of a text, and of the number of terms.
+use crate::outcome::{NONE, all_print, run_line};
 use std::alloc::Global;
 use std::test::Fail;
 
@@ -32,4 +32,28 @@ fn texts_of_16_mib_and_a_byte_more(rt: HostRuntime) -> Result<(), Fail> {
         ),
     ];
     all_print(alloc, &rows)
+}
+
+// So many pairs of an export of a number of its own and a look at the file.
+fn exports_and_imports(alloc: Global, count: u32) -> Result<String, Fail> {
+    let mut all = String::new(alloc);
+    for k in 1..=count {
+        all.push_str(&format!(in alloc; "Export({k}, \"o\"); Print(Import(\"o\"));")?)?;
+    }
+    Ok(all)
+}
+
+// Each pair forms three terms, the number, the file's content and the call, beside two for all.
+#[test]
+fn contents_of_files_count_as_terms(rt: HostRuntime) -> Result<(), Fail> {
+    let alloc = rt.alloc();
+    let text = exports_and_imports(alloc, 21_846)?;
+    let one = "array plain int rank 0 items 1\ntrace run Import:1\n";
+    let behind = format!(in alloc; "trace clear\n{one}")?;
+    let all = repeated(alloc, "", one, 21_845, &behind)?;
+    let line = ["--memory", "0", "--trace", "s.net"];
+    let got = run_line(alloc, &line, &[("s.net", &*text)], NONE)?;
+    assert!(rt; got.status == 0);
+    assert!(rt; got.printed.as_slice() == all.as_bytes());
+    Ok(())
 }

@@ -1,5 +1,5 @@
 -- What an execution of a graph is, is made of its statement.
-use Rattle.std.proofs.Common.{◌≡◌, ℕ, List, [], Option, Some, None, refl, sym, ap, subst}
+use Rattle.std.proofs.Common.{◌≡◌, inl, inr, ℕ, List, [], Option, Some, None, refl, sym, ap, subst}
 use Rattle.std.specs.Prelude.{Result, Ok, Err, option_map}
 use Rattle.dx_ast.specs.declared.sequencing.Frames.{Frames}
 use Rattle.dx_ast.specs.Syntax.{Stmt}
@@ -32,7 +32,8 @@ module _ (x : Fixed) (st st' : State) (was now : Devices) where
   by_effects calls (Err exec.ReadFault) e = (record { printed = e.0.printed; told = e.0.told }, e.1)
   by_effects calls (Err exec.WriteFault) e = (record { printed = e.0.printed; told = e.0.told }, e.1)
   by_effects calls (Err exec.ExportFault) e = record { printed = e.printed; told = e.told; puts = e.puts }
-  by_effects calls (Err exec.Memory) e = (record { printed = e.early.printed; told = e.early.told }, e.puts)
+  by_effects calls (Err exec.Memory) (inl (early, none)) = inl (record { printed = early.printed; told = early.told }, none)
+  by_effects calls (Err exec.Memory) (inr late) = inr (record { printed = late.printed; told = late.told; puts = late.puts })
 
   pub made_so : (d : Dictionary) (frames : Frames) (s : Stmt) (calls : List CallTree) (r : Result (Unit {0}) ExecError) → first_fault d s ≡ None → calls ≡ effects d frames s → ExecutesSo x st calls was r st' now → MakesSo x st (coursed x d frames s (kept_of st)) was (failing_of r) st' now
   made_so d frames s calls r none same e =
@@ -66,10 +67,11 @@ module _ (x : Fixed) (st : State) (was : Devices) where
 
   pub unmade_so : (d : Dictionary) (frames : Frames) (s : Stmt) → MakesSo x st (coursed x d frames s (kept_of st)) was (Err end.Memory) st was
   unmade_so d frames s =
-      let made = coursed x d frames s (kept_of st) in (
+      let made = coursed x d frames s (kept_of st) in
+      inl (
         record {
           printed = ([], made.0.execution.printed, refl, grows_by_nothing was.written);
           told = some_all was.told was.told [] (tasks_of made.0.events) (tasks_of made.0.events) (adds_none was.told) refl;
         },
-        record { front = []; rest = made.0.execution.exports; split = refl; made = record { told = grows_by_nothing was.puts; files = refl } },
+        record { puts = refl; files = refl },
       )

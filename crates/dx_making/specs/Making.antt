@@ -1,5 +1,5 @@
 -- What making an execution does: all of it, or as much as was done before it was cut short.
-use Rattle.std.specs.Prelude.{◌≡◌, List, [], map, Option, Some, None, Result, Ok, Err}
+use Rattle.std.specs.Prelude.{◌≡◌, ◌⊎◌, List, [], map, Option, Some, None, Result, Ok, Err}
 use Rattle.dx_io.specs.Devices.{Grows, GrowsInto}
 use Rattle.dx_machine.specs.Machine.{Event, tasks_of}
 use Rattle.dx_getting.specs.Stands.{shown_event}
@@ -7,7 +7,7 @@ use Rattle.dx_getting.specs.Told.{Adds, AddsSome}
 use Rattle.dx_performing.specs.Course.{Fixed}
 use Rattle.dx_performing.specs.Kept.{Kept}
 use Rattle.dx_engine.specs.Keeping.{kept_of, IsSoundState}
-use Rattle.dx_engine.specs.Ending.{SomePut}
+use Rattle.dx_ending.specs.Putting.{ArePutBefore}
 use Rattle.dx_engine.specs.Executing.{Devices, NonePut}
 use Rattle.dx_engine.specs.declared.state.State.{State}
 use Rattle.dx_shown.specs.Made.{Coursed}
@@ -38,18 +38,15 @@ pub record IsCutEarly (made : Coursed) (was now : Devices) : Type 0 where
   pub printed : GrowsInto was.written now.written made.execution.printed
   pub told : AddsSome was.told now.told (tasks_of made.events)
 
-abbrev pub SomeArePut : Coursed → State → Devices → State → Devices → Type 0
-SomeArePut made st was st' now = SomePut was.puts now.puts st.written.files st'.written.files made.execution.exports
-
--- at a put: all its text was written and all its runs were told, and a front of its files was put
+-- at a put: all its text was written and all its runs were told; the files before this one were put, and it wasn't
 pub record IsCutLate (made : Coursed) (st : State) (was : Devices) (st' : State) (now : Devices) : Type 0 where
   pub printed : Grows was.written now.written made.execution.printed
   pub told : Adds was.told now.told (tasks_of made.events)
-  pub puts : SomeArePut made st was st' now
+  pub puts : ArePutBefore was.puts now.puts st.written.files st'.written.files made.execution.exports
 
 abbrev pub MakesSo : Fixed → State → Coursed × Kept → Devices → Result (Option Failing) End → State → Devices → Type 0
 MakesSo x st made was (Ok failing) st' now = IsMade x st made was failing st' now
 MakesSo x st made was (Err ReadFault) st' now = IsCutEarly made.0 was now × NonePut st was st' now
 MakesSo x st made was (Err WriteFault) st' now = IsCutEarly made.0 was now × NonePut st was st' now
 MakesSo x st made was (Err ExportFault) st' now = IsCutLate made.0 st was st' now
-MakesSo x st made was (Err Memory) st' now = IsCutEarly made.0 was now × SomeArePut made.0 st was st' now
+MakesSo x st made was (Err Memory) st' now = (IsCutEarly made.0 was now × NonePut st was st' now) ⊎ IsCutLate made.0 st was st' now

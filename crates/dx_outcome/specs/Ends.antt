@@ -1,10 +1,12 @@
 -- How a call ends: with all of an outcome, or cut short by a device or by want of memory, with a front of it.
-use Rattle.std.specs.Prelude.{◌≡◌, ◌⊎◌, ℕ, ◌≤◌, length, List, ◌++◌, Bool, ◌||◌, ◌==◌}
+use Rattle.std.specs.Prelude.{◌≡◌, ◌⊎◌, ℕ, ◌≤◌, length, List, ◌++◌, Option, Bool, ◌||◌, ◌==◌}
 use Rattle.std.specs.Bool.{MatchBool}
 use Rattle.dx_io.specs.Devices.{Grows, GrowsInto, with_more}
 use Rattle.dx_engine.specs.Executing.{Devices}
-use Rattle.dx_getting.specs.Told.{Adds, AddsSome, told}
+use Rattle.dx_getting.specs.Told.{Told, TellsRuns, Adds, AddsSome, told}
 use Rattle.dx_include.specs.Loading.{Name}
+use Rattle.dx_machine.specs.Machine.{Task, runs_in}
+use Rattle.dx_objects.specs.Runs.{Ran}
 use Rattle.dx_outcome.specs.Outcome.{Seen, Outcome, texts_of, exports_of, runs_of}
 
 -- the status of a call that was cut short
@@ -53,3 +55,29 @@ pub data IsFront (o : Outcome) (was now : Devices) : Type 0 where
 
 abbrev pub EndsAs : ℕ → Outcome → Devices → Devices → Type 0
 EndsAs status o was now = MatchBool (is_cut status) (IsFront o was now) ((status ≡ o.status) × IsWhole o.seen (with_reads was o.reads) now)
+
+-- ---- each part of it alone
+
+-- all of the text was printed; a front of it where the call was cut short
+abbrev pub PrintsAs : ℕ → List Seen → Option (List ℕ) → Option (List ℕ) → Type 0
+PrintsAs status seen was now = MatchBool (is_cut status) (GrowsInto was now (texts_of seen)) (Grows was now (texts_of seen))
+
+-- all of the runs were told, in their order; a front of them where the call was cut short
+abbrev pub RunsAs : ℕ → List Seen → Option (List Ran) → Option (List Ran) → Type 0
+RunsAs status seen was now =
+    MatchBool (is_cut status)
+    ((front rest : List Task) × (runs_of seen ≡ front ++ rest) × TellsRuns was now (runs_in front))
+    (TellsRuns was now (runs_in (runs_of seen)))
+
+-- the files of loading were asked for, and then those that runs of Import read; where the call was cut short, a front of the files of
+-- loading and no run, or all of them and those of a front of the runs, and at most the next run's name
+abbrev pub ReadsAs : ℕ → Outcome → Told → Told → Type 0
+ReadsAs status o was now =
+    let loaded = told was.done (with_more was.asked o.reads) in
+    MatchBool (is_cut status)
+    (((front rest : List Name) × (o.reads ≡ front ++ rest) × (now ≡ told was.done (with_more was.asked front))) ⊎ AddsSome loaded now (runs_of o.seen))
+    (Adds loaded now (runs_of o.seen))
+
+-- memory ran out, or it came to its end
+abbrev pub CompletesAs : ℕ → Outcome → Devices → Devices → Type 0
+CompletesAs status o was now = (status ≡ 7) ⊎ ((status ≡ o.status) × IsWhole o.seen (with_reads was o.reads) now)

@@ -1,3 +1,4 @@
 pub mod Seen
 pub mod Ending
 pub mod Meaning
+pub mod Parts

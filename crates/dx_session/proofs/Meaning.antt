@@ -17,15 +17,15 @@ use Rattle.std.specs.Bool.{MatchBool}
 
 -- ---- three parts of what is seen
 
-texts_append : (a b : List Seen) → texts_of (a ++ b) ≡ texts_of a ++ texts_of b
+pub texts_append : (a b : List Seen) → texts_of (a ++ b) ≡ texts_of a ++ texts_of b
 texts_append [] b = refl
 texts_append (s ∷ a) b = ap (λ xs. s.text ++ xs) (texts_append a b) ∙ sym (append_assoc s.text (texts_of a) (texts_of b))
 
-exports_append : (a b : List Seen) → exports_of (a ++ b) ≡ exports_of a ++ exports_of b
+pub exports_append : (a b : List Seen) → exports_of (a ++ b) ≡ exports_of a ++ exports_of b
 exports_append [] b = refl
 exports_append (s ∷ a) b = ap (λ xs. s.exports ++ xs) (exports_append a b) ∙ sym (append_assoc s.exports (exports_of a) (exports_of b))
 
-runs_append : (a b : List Seen) → runs_of (a ++ b) ≡ runs_of a ++ runs_of b
+pub runs_append : (a b : List Seen) → runs_of (a ++ b) ≡ runs_of a ++ runs_of b
 runs_append [] b = refl
 runs_append (s ∷ a) b = ap (λ xs. s.runs ++ xs) (runs_append a b) ∙ sym (append_assoc s.runs (runs_of a) (runs_of b))
 
@@ -49,7 +49,7 @@ cut_exports seen was now cut =
 none_of : {A : Type 0} (was : Option (List A)) (all : List A) → GrowsInto was was all
 none_of was all = ([], all, refl, grows_by_nothing was)
 
-front_texts : (o : Outcome) (was now : Devices) → IsFront o was now → GrowsInto was.written now.written (texts_of o.seen)
+pub front_texts : (o : Outcome) (was now : Devices) → IsFront o was now → GrowsInto was.written now.written (texts_of o.seen)
 front_texts o was now (in_loading front rest e is) = subst (λ (d : Devices). GrowsInto was.written d.written (texts_of o.seen)) (sym is) (none_of was.written (texts_of o.seen))
 front_texts o was now (behind_loading cut) = cut_texts o.seen (with_reads was o.reads) now cut
 

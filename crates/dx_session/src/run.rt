@@ -7,7 +7,8 @@ ghost use Rattle.dx_looking.specs.Setting.{fixed};
 ghost use Rattle.dx_making.specs.declared.end.End.TheVariants.{ReadFault, WriteFault, ExportFault};
 ghost use Rattle.dx_outcome.specs.Budget.{StaysWithin};
 ghost use Rattle.dx_outcome.specs.Computed.{job_loading, of_loading, plan_of};
-ghost use Rattle.dx_outcome.specs.Ends.{EndsAs, IsWholeStatus, is_cut};
+ghost use Rattle.dx_getting.specs.Told.{told};
+ghost use Rattle.dx_outcome.specs.Ends.{CompletesAs, EndsAs, IsWholeStatus, PrintsAs, ReadsAs, RunsAs, is_cut};
 ghost use Rattle.dx_outcome.specs.Lines.{refusal_line, usage_line};
 ghost use Rattle.dx_outcome.specs.Meaning.{AreDemanded, EndsAsMeant, IsMeaning, Meaning};
 ghost use Rattle.dx_outcome.specs.Outcome.{IsOutcome, Outcome, line_alone, listings_of, outcome, seen_of, shown_of, status_of};
@@ -49,6 +50,26 @@ pub fn run_dxi<F: Files, X: Exports, O: Sink, L: Library>(
         let now = devices (L.done lib.new) (F.asked files.new) (O.written out.new) (X.puts exports.new) in
         (o : Outcome) × IsOutcome (texts words.now.items) map L.answer o × EndsAs result o was now }
 
+    // Where no device failed, it comes to its end with the whole of the outcome, or memory runs out.
+    ensures completeness { (map : FileMap) → F.content files.old ≡ Some map →
+        ¬ (Rose (F.faults files.old) (F.faults files.new)) → ¬ (Rose (O.faults out.old) (O.faults out.new)) → ¬ (Rose (X.faults exports.old) (X.faults exports.new)) →
+        let was = devices (L.done lib.old) (F.asked files.old) (O.written out.old) (X.puts exports.old) in
+        let now = devices (L.done lib.new) (F.asked files.new) (O.written out.new) (X.puts exports.new) in
+        (o : Outcome) × IsOutcome (texts words.now.items) map L.answer o × CompletesAs result o was now }
+
+    // The text alone: with `--trace` each run, hit, kept, dropped and cleared result in its place, with `--links` the links behind each
+    // execution.
+    ensures text { (map : FileMap) → F.content files.old ≡ Some map →
+        (o : Outcome) × IsOutcome (texts words.now.items) map L.answer o × PrintsAs result o.seen (O.written out.old) (O.written out.new) }
+
+    // The runs of modules alone: exactly those of the cache machine, in their order.
+    ensures runs { (map : FileMap) → F.content files.old ≡ Some map →
+        (o : Outcome) × IsOutcome (texts words.now.items) map L.answer o × RunsAs result o.seen (L.done lib.old) (L.done lib.new) }
+
+    // The files asked for: those of loading, and then one for each run of Import whose name isn't written yet.
+    ensures reads { (map : FileMap) → F.content files.old ≡ Some map →
+        (o : Outcome) × IsOutcome (texts words.now.items) map L.answer o × ReadsAs result o (told (L.done lib.old) (F.asked files.old)) (told (L.done lib.new) (F.asked files.new)) }
+
     // And so the files put and the status, and on a line without `--trace` the bytes printed, are those of the language's meaning,
     // evaluated afresh.
     ensures meaning { (map : FileMap) → F.content files.old ≡ Some map →
@@ -60,7 +81,7 @@ pub fn run_dxi<F: Files, X: Exports, O: Sink, L: Library>(
     ensures demand { (map : FileMap) → F.content files.old ≡ Some map →
         (m : Meaning) × IsMeaning (texts words.now.items) map L.answer m × AreDemanded m.demanded (L.done lib.old) (L.done lib.new) }
 
-    // The stated sizes of what the cache keeps never exceed the budget.
+    // The stated sizes of what the cache machine keeps never exceed the budget.
     ensures budget { (map : FileMap) → F.content files.old ≡ Some map →
         (p : Plan) → IsPlan (texts words.now.items) map p → StaysWithin L.answer map p }
 

@@ -51,7 +51,7 @@ stays_at_once x l shown was st new same sound = record {
 }
 
 -- a line was cut short
-pub stays_at_line : (x : Fixed) (l : Listings) (s : Shown Coursed) (was now : Devices) (st : State Kept) (new : Session) → (LeavesCurrent (s ∷ []) (current st.kept) (current (state_of new).kept)) → IsFront l (s ∷ []) was now → state_of new ≡ st → IsSoundState x new.state → IsCutAt x l (here st) (s ∷ []) was new now
+pub stays_at_line : (x : Fixed) (l : Listings) (s : Shown Coursed) (was now : Devices) (st : State Kept) (new : Session) → LeavesCurrent l (s ∷ []) was now (current st.kept) (current (state_of new).kept) → IsFront l (s ∷ []) was now → state_of new ≡ st → IsSoundState x new.state → IsCutAt x l (here st) (s ∷ []) was new now
 stays_at_line x l s was now st new leaves front same sound = record {
   short = cut_in_one l s was now front;
   at = st;

@@ -22,7 +22,8 @@ use Rattle.dx_getting.specs.Told.{Told, Adds, AddsSome}
 use Rattle.dx_getting.proofs.TellLaws.{some_all, some_later}
 use Rattle.dx_looking.specs.Setting.{fixed, links_of}
 use Rattle.dx_performing.specs.Course.{Fixed}
-use Rattle.dx_performing.specs.Execution.{Error, Export, Links}
+use Rattle.dx_performing.specs.Execution.{Current, Error, Export, Links}
+use Rattle.dx_tags.specs.Files.{FileMap}
 use Rattle.dx_performing.specs.Kept.{Kept, current, objects_of}
 use Rattle.dx_engine.specs.Beginning.{FromState}
 use Rattle.dx_engine.specs.Keeping.{kept_of, IsSoundState}
@@ -34,7 +35,7 @@ use Rattle.dx_sequencer.specs.Sequencer.{frames_of}
 use Rattle.dx_shown.specs.Session.{Shown, Executes, executed, sequence_executed, with_kept, State as SessionState}
 use Rattle.dx_shown.specs.Listed.{all_exports, all_tasks, any_error}
 use Rattle.dx_making.specs.Failing.{FailsAs}
-use Rattle.dx_making.specs.Making.{IsMade, IsCutEarly, IsCutLate, SomeArePut, MakesSo}
+use Rattle.dx_making.specs.Making.{IsMade, IsCutEarly, IsCutLate, MakesSo}
 use Rattle.dx_making.specs.declared.end.End.{End}
 use Rattle.dx_making.specs.declared.end.End.TheVariants.{ReadFault, WriteFault, ExportFault, Memory}
 use Rattle.dx_making.specs.declared.failing.Failing.{Failing}
@@ -45,7 +46,7 @@ use Rattle.dx_sessions.specs.Does.{OverSound, IsWhole, IsFront, IsCutShort, IsCu
 use Rattle.dx_sessions.specs.Places.{here}
 use Rattle.dx_sessions.specs.Ended.{is_error}
 use Rattle.dx_sessions.specs.Executes.{IsExecuted, IsCutIn, ExecutesSo}
-use Rattle.dx_sessions.specs.Left.{IsBefore}
+use Rattle.dx_sessions.specs.Left.{IsUnput, IsAtPut, IsBehind, IsLeftIn, before_puts, at_a_put, behind_puts}
 use Rattle.dx_sessions.specs.SessionView.{state_of}
 use Rattle.dx_sessions.specs.declared.ended.Ended.{Ended}
 use Rattle.dx_sessions.specs.declared.session.Session.{Session}
@@ -112,8 +113,8 @@ front_by l c was now printed puts told = record {
   told = some_later was.told now.told (tasks_of c.events) [] (tasks_of c.events ++ []) told refl;
 }
 
-some_put : (c : Coursed) (st st' : State) (was now : Devices) → SomeArePut c st was st' now → GrowsInto was.puts now.puts c.execution.exports
-some_put c st st' was now some = (some.front, some.rest, some.split, some.made.told)
+some_put : (c : Coursed) (st st' : State) (was now : Devices) → IsCutLate c st was st' now → GrowsInto was.puts now.puts c.execution.exports
+some_put c st st' was now late = (late.puts.front, late.puts.failed ∷ late.puts.rest, late.puts.split, late.puts.made.told)
 
 printed_whole : (c : Coursed) (was now : Devices) → Grows was.written now.written c.execution.printed → GrowsInto was.written now.written c.execution.printed
 printed_whole c was now grown = (c.execution.printed, [], sym (append-nil c.execution.printed), grown)
@@ -121,12 +122,16 @@ printed_whole c was now grown = (c.execution.printed, [], sym (append-nil c.exec
 told_whole : (c : Coursed) (was now : Devices) → Adds was.told now.told (tasks_of c.events) → AddsSome was.told now.told (tasks_of c.events)
 told_whole c was now told = some_all was.told now.told (tasks_of c.events) [] (tasks_of c.events) told (sym (append-nil (tasks_of c.events)))
 
+late_front : (l : Listings) (st st' : State) (c : Coursed) (was now : Devices) → IsCutLate c st was st' now → IsFront l (Executes c ∷ []) was now
+late_front l st st' c was now late = front_by l c was now (printed_whole c was now late.printed) (some_put c st st' was now late) (told_whole c was now late.told)
+
 cut_front : (x : Fixed) (l : Listings) (st st' : State) (made : Coursed × Kept) (was now : Devices) (end : End)
     → MakesSo x st made was (Err end) st' now → IsFront l (Executes made.0 ∷ []) was now
 cut_front x l st st' made was now ReadFault (early, none) = front_by l made.0 was now early.printed (into_by_nothing was.puts now.puts made.0.execution.exports none.puts) early.told
 cut_front x l st st' made was now WriteFault (early, none) = front_by l made.0 was now early.printed (into_by_nothing was.puts now.puts made.0.execution.exports none.puts) early.told
-cut_front x l st st' made was now ExportFault late = front_by l made.0 was now (printed_whole made.0 was now late.printed) (some_put made.0 st st' was now late.puts) (told_whole made.0 was now late.told)
-cut_front x l st st' made was now Memory (early, some) = front_by l made.0 was now early.printed (some_put made.0 st st' was now some) early.told
+cut_front x l st st' made was now ExportFault late = late_front l st st' made.0 was now late
+cut_front x l st st' made was now Memory (inl (early, none)) = front_by l made.0 was now early.printed (into_by_nothing was.puts now.puts made.0.execution.exports none.puts) early.told
+cut_front x l st st' made was now Memory (inr late) = late_front l st st' made.0 was now late
 
 -- ---- where it is left
 
@@ -137,23 +142,39 @@ objects_same a b (l ∷ ls) = ap (λ (rest : Links). (l.0, l.1.value) ∷ rest) 
 links_same : (st st' : State) → st'.links ≡ st.links → (current (kept_of st')).links ≡ (current (kept_of st)).links
 links_same st st' same = ap (λ (y : CodeLinks). objects_of (links_of (heads_of st'.tags) y.links)) same ∙ objects_same (heads_of st'.tags) (heads_of st.tags) st.links.links
 
-before_unput : (c : Coursed) (st st' : State) (was now : Devices) → st'.links ≡ st.links → NonePut st was st' now → IsBefore c (current (kept_of st)) (current (kept_of st'))
-before_unput c st st' was now same none = record { front = []; rest = c.execution.exports; split = refl; links = links_same st st' same; written = ap (λ w. w.files) none.files }
+before_unput : (l : Listings) (c : Coursed) (st st' : State) (was now : Devices) → st'.links ≡ st.links → NonePut st was st' now → IsLeftIn l c was now (current (kept_of st)) (current (kept_of st'))
+before_unput l c st st' was now same none =
+    before_puts (record {
+      puts = none.puts;
+      current = ap₂ (λ (links : Links) (files : FileMap). let y : Current = record { links = links; written = files } in y) (links_same st st' same) none.files;
+    })
 
-before_put : (c : Coursed) (st st' : State) (was now : Devices) → st'.links ≡ st.links → SomeArePut c st was st' now → IsBefore c (current (kept_of st)) (current (kept_of st'))
-before_put c st st' was now same some = record { front = some.front; rest = some.rest; split = some.split; links = links_same st st' same; written = some.made.files }
+before_put : (l : Listings) (c : Coursed) (st st' : State) (was now : Devices) → st'.links ≡ st.links → IsCutLate c st was st' now → IsLeftIn l c was now (current (kept_of st)) (current (kept_of st'))
+before_put l c st st' was now same late =
+    at_a_put (record {
+      printed = late.printed;
+      told = late.told;
+      front = late.puts.front;
+      failed = late.puts.failed;
+      rest = late.puts.rest;
+      split = late.puts.split;
+      puts = late.puts.made.told;
+      links = links_same st st' same;
+      written = late.puts.made.files;
+    })
 
-left_by : (x : Fixed) (st st' : State) (made : Coursed × Kept) (was now : Devices) (end : End) → st'.links ≡ st.links → MakesSo x st made was (Err end) st' now → IsBefore made.0 (current (kept_of st)) (current (kept_of st'))
-left_by x st st' made was now ReadFault same (early, none) = before_unput made.0 st st' was now same none
-left_by x st st' made was now WriteFault same (early, none) = before_unput made.0 st st' was now same none
-left_by x st st' made was now ExportFault same late = before_put made.0 st st' was now same late.puts
-left_by x st st' made was now Memory same (early, some) = before_put made.0 st st' was now same some
+left_by : (x : Fixed) (l : Listings) (st st' : State) (made : Coursed × Kept) (was now : Devices) (end : End) → st'.links ≡ st.links → MakesSo x st made was (Err end) st' now → IsLeftIn l made.0 was now (current (kept_of st)) (current (kept_of st'))
+left_by x l st st' made was now ReadFault same (early, none) = before_unput l made.0 st st' was now same none
+left_by x l st st' made was now WriteFault same (early, none) = before_unput l made.0 st st' was now same none
+left_by x l st st' made was now ExportFault same late = before_put l made.0 st st' was now same late
+left_by x l st st' made was now Memory same (inl (early, none)) = before_unput l made.0 st st' was now same none
+left_by x l st st' made was now Memory same (inr late) = before_put l made.0 st st' was now same late
 
 pub cut_in : (x : Fixed) (l : Listings) (st st' : State) (made : Coursed × Kept) (was now : Devices) (end : End)
     → st'.links ≡ st.links → IsSoundState x st' → MakesSo x st made was (Err end) st' now → IsCutIn x l (kept_of st) made.0 was st' now
 cut_in x l st st' made was now end same sound h = record {
   front = cut_front x l st st' made was now end h;
-  current = inl (left_by x st st' made was now end same h);
+  current = left_by x l st st' made was now end same h;
   sound = sound;
 }
 
@@ -164,13 +185,26 @@ behind_unless x (Some f) effects k = refl
 pub behind_kept : (x : Fixed) (d : Definitions) (frames : Frames) (s : Stmt) (k : Kept) → current (coursed x d frames s k).1 ≡ (coursed x d frames s k).0.behind
 behind_kept x d frames s k = behind_unless x (first_fault d s) (effects d frames s) k
 
+is_behind : (x : Fixed) (l : Listings) (st st' : State) (made : Coursed × Kept) (was mid now : Devices) (failing : Option Failing)
+    → current made.1 ≡ made.0.behind → IsMade x st made was failing st' mid → GrowsInto mid.written now.written (behind_of l made.0) → now.told ≡ mid.told → now.puts ≡ mid.puts
+    → IsBehind l made.0 was now (current (kept_of st'))
+is_behind x l st st' made was mid now failing behind m (front, rest, split, grown) told puts = record {
+  front = front;
+  rest = rest;
+  split = split;
+  printed = grows_on was.written mid.written now.written made.0.execution.printed front m.printed grown;
+  puts = subst (λ (p : Option (List Export)). Grows was.puts p made.0.execution.exports) (sym puts) m.puts;
+  told = subst (λ (t : Told). Adds was.told t (tasks_of made.0.events)) (sym told) m.told;
+  current = ap current m.kept ∙ behind;
+}
+
 -- it was made, and what is told behind it was cut short
 pub cut_telling : (x : Fixed) (l : Listings) (st st' : State) (made : Coursed × Kept) (was mid now : Devices) (failing : Option Failing)
     → current made.1 ≡ made.0.behind → IsMade x st made was failing st' mid → GrowsInto mid.written now.written (behind_of l made.0) → now.told ≡ mid.told → now.puts ≡ mid.puts
     → IsCutIn x l (kept_of st) made.0 was st' now
 cut_telling x l st st' made was mid now failing behind m grown told puts = record {
   front = made_front x l st st' made was mid now failing m grown told puts;
-  current = inr (ap current m.kept ∙ behind);
+  current = behind_puts (is_behind x l st st' made was mid now failing behind m grown told puts);
   sound = m.sound;
 }
 

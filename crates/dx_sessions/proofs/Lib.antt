@@ -9,6 +9,5 @@ pub mod Joining
 pub mod Statements
 pub mod Switching
 pub mod Lawfulness
-pub mod Beginning
 pub mod Sessions
 pub mod Refusing

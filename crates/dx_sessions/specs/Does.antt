@@ -70,7 +70,7 @@ pub record IsCutAt (x : Fixed) (listings : Listings) (places : List (Shown Cours
   pub short : IsCutShort listings shown was now
   pub at : SessionState Kept
   pub begins : places short.before at
-  pub left : IsLeft short.next at (state_of new)
+  pub left : IsLeft listings short.next short.between now at (state_of new)
   pub sound : IsSoundState x new.state
 
 abbrev pub DoesSo : Fixed → Listings → (List (Shown Coursed) → SessionState Kept → Type 0) → Done Kept Coursed → Devices → Result Bool End → Session → Devices → Type 0

@@ -24,7 +24,7 @@ pub record IsExecuted (x : Fixed) (listings : Listings) (made : Coursed × Kept)
 -- it was cut short: a front of it was done, the links and written files are left so, and what is kept is sound again
 pub record IsCutIn (x : Fixed) (listings : Listings) (k : Kept) (c : Coursed) (was : Devices) (st : State) (now : Devices) : Type 0 where
   pub front : IsFront listings (Executes c ∷ []) was now
-  pub current : LeavesCurrent (Executes c ∷ []) (current k) (current (kept_of st))
+  pub current : LeavesCurrent listings (Executes c ∷ []) was now (current k) (current (kept_of st))
   pub sound : IsSoundState x st
 
 abbrev pub ExecutesSo : Fixed → Listings → Kept → Coursed × Kept → Devices → Result Ended End → State → Devices → Type 0

@@ -3,34 +3,65 @@ use Rattle.std.specs.Prelude.{◌≡◌, ◌⊎◌, ◌<◌, ℕ, zero, suc, Lis
 use Rattle.dx_ast.specs.declared.sequencing.Word.{Word}
 use Rattle.dx_ast.specs.declared.sequencing.Word.TheVariants as word
 use Rattle.dx_ast.specs.Syntax.{Stmt, Says}
+use Rattle.dx_engine.specs.Executing.{Devices}
+use Rattle.dx_getting.specs.Told.{Adds}
+use Rattle.dx_io.specs.Devices.{Grows}
+use Rattle.dx_machine.specs.Machine.{tasks_of}
 use Rattle.dx_performing.specs.Execution.{Current, Export, after_exports}
 use Rattle.dx_performing.specs.Kept.{Kept, current}
 use Rattle.dx_sequencer.specs.Sequencer as seq
 use Rattle.dx_shown.specs.Made.{Coursed}
 use Rattle.dx_shown.specs.Session.{Shown, Executes, PlayTooLong, FrameRange, State}
+use Rattle.dx_telling.specs.Shown.{behind_of}
+use Rattle.dx_telling.specs.declared.listings.Listings.{Listings}
 
--- the links are those before, and of the files a front was put
-pub record IsBefore (c : Coursed) (now left : Current) : Type 0 where
+-- before its first put: nothing was put, and links and written files are those before
+pub record IsUnput (was now : Devices) (at left : Current) : Type 0 where
+  pub puts : now.puts ≡ was.puts
+  pub current : left ≡ at
+
+-- at one of its puts: all that its effects print was printed and its runs were told; the files before this one were put, and are
+-- written, and it wasn't; the links are those before
+pub record IsAtPut (c : Coursed) (was now : Devices) (at left : Current) : Type 0 where
+  pub printed : Grows was.written now.written c.execution.printed
+  pub told : Adds was.told now.told (tasks_of c.events)
   pub front : List Export
+  pub failed : Export
   pub rest : List Export
-  pub split : c.execution.exports ≡ front ++ rest
-  pub links : left.links ≡ now.links
-  pub written : left.written ≡ after_exports now.written front
+  pub split : c.execution.exports ≡ front ++ failed ∷ rest
+  pub puts : Grows was.puts now.puts front
+  pub links : left.links ≡ at.links
+  pub written : left.written ≡ after_exports at.written front
 
--- in an execution the links and written files are those before, with a front of its files; or those behind it, where it was made
--- and what is told behind it was cut short
-abbrev pub LeavesCurrent : List (Shown Coursed) → Current → Current → Type 0
-LeavesCurrent [] now left = left ≡ now
-LeavesCurrent (Executes c ∷ rest) now left = IsBefore c now left ⊎ (left ≡ c.behind)
-LeavesCurrent (PlayTooLong ∷ rest) now left = left ≡ now
-LeavesCurrent (FrameRange ∷ rest) now left = left ≡ now
+-- behind its puts: all that its effects print was printed, its files were put and its runs told, and of what is told behind it a front
+-- was printed; links and written files are those behind it
+pub record IsBehind (listings : Listings) (c : Coursed) (was now : Devices) (left : Current) : Type 0 where
+  pub front : List ℕ
+  pub rest : List ℕ
+  pub split : behind_of listings c ≡ front ++ rest
+  pub printed : Grows was.written now.written (c.execution.printed ++ front)
+  pub puts : Grows was.puts now.puts c.execution.exports
+  pub told : Adds was.told now.told (tasks_of c.events)
+  pub current : left ≡ c.behind
+
+-- where an execution was cut short
+pub data IsLeftIn (listings : Listings) (c : Coursed) (was now : Devices) (at left : Current) : Type 0 where
+  before_puts : IsUnput was now at left → IsLeftIn listings c was now at left
+  at_a_put : IsAtPut c was now at left → IsLeftIn listings c was now at left
+  behind_puts : IsBehind listings c was now left → IsLeftIn listings c was now at left
+
+abbrev pub LeavesCurrent : Listings → List (Shown Coursed) → Devices → Devices → Current → Current → Type 0
+LeavesCurrent listings [] was now at left = left ≡ at
+LeavesCurrent listings (Executes c ∷ rest) was now at left = IsLeftIn listings c was now at left
+LeavesCurrent listings (PlayTooLong ∷ rest) was now at left = left ≡ at
+LeavesCurrent listings (FrameRange ∷ rest) was now at left = left ≡ at
 
 -- macros, definitions, the sequencer and the sequence call are those of a state, in which what is shown next was cut short
-pub record IsLeft (next : List (Shown Coursed)) (at new : State Kept) : Type 0 where
+pub record IsLeft (listings : Listings) (next : List (Shown Coursed)) (was now : Devices) (at new : State Kept) : Type 0 where
   pub dictionary : new.dictionary ≡ at.dictionary
   pub sequencer : new.sequencer ≡ at.sequencer
   pub sequence : new.sequence ≡ at.sequence
-  pub current : LeavesCurrent next (current at.kept) (current new.kept)
+  pub current : LeavesCurrent listings next was now (current at.kept) (current new.kept)
 
 -- ---- whatever the files tell
 

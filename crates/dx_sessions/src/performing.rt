@@ -18,8 +18,8 @@ use dx_objects::Library;
 use dx_telling::Listings;
 use std::alloc::Global;
 
-/// Performs the statements of a session from its beginning, with a cache of this budget, in units of the sizes of objects, and
-/// answers whether an error line was due.
+/// Performs the statements of a session from its beginning, with a cache of this budget, in bytes of stated sizes, and answers whether
+/// an error line was due.
 ///
 /// For files that tell their content it is exactly what the cache machine's session shows; or it was cut short on that way, with so
 /// much of it whole and a front of what comes next.

@@ -1,7 +1,8 @@
 //! What is kept from statement to statement.
 ghost use Rattle.std.specs.Prelude.{◌≡◌};
 ghost use Rattle.dx_performing.specs.Kept.{new as none_kept};
-ghost use Rattle.dx_engine.specs.Keeping.{StateFits};
+ghost use Rattle.dx_engine.specs.Keeping.{IsSoundState, StateFits};
+ghost use Rattle.dx_performing.specs.Course.{Fixed};
 ghost use Rattle.dx_shown.specs.Session.{initial};
 ghost use Rattle.dx_sessions.specs.Sequence.{IsSequence};
 
@@ -28,10 +29,11 @@ impl Session {
     ghost use Rattle.dx_sessions.specs.SessionView.{state_of};
 
     /// The state when a session begins: no macros, no definitions, no sequence call, frames 1 to 100, nothing linked and an empty
-    /// cache of this budget, in units of the sizes of objects. It takes no memory.
+    /// cache of this budget, in bytes of stated sizes. It takes no memory.
     pub fn new(alloc: Global, budget: u64, listings: Listings) -> Session
         ensures state { state_of result ≡ initial none_kept }
         ensures fits { StateFits result.state }
+        ensures sound { (x : Fixed) → x.budget ≡ budget → IsSoundState x result.state }
         ensures budget { result.state.cache.budget ≡ budget }
         ensures listings { result.listings ≡ listings }
     {

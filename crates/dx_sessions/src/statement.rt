@@ -37,9 +37,9 @@ impl Session {
     ///
     /// `ReadFault`, `WriteFault`, `ExportFault`: only where that device's count of faults rose. `Memory`: only where memory ran out.
     /// Executions before the one that was cut short are whole. The session can go on: macros, definitions and the sequence call are
-    /// those before the statement, the sequencer stands behind the step that led to that execution, the links are those before it (or
-    /// behind it, where the execution was made and what is told behind it was cut short), and the files that were put by then are
-    /// written files.
+    /// those before the statement, the sequencer stands behind the step that led to that execution, the links are those before it, and
+    /// the files that were put by then are written files. Where that execution was made, and the write of what is told behind it was cut
+    /// short, its text was printed, its files were put, and links and written files are those behind it.
     pub fn statement<F: Files, X: Exports, O: Sink, L: Library>(
         &mut self,
         alloc: Global,

@@ -18,7 +18,6 @@ use Rattle.dx_sessions.specs.declared.session.Session.{Session}
 use Rattle.dx_making.specs.declared.end.End.{End}
 use Rattle.dx_making.specs.declared.end.End.TheVariants.{ReadFault, WriteFault, ExportFault}
 use Rattle.dx_sessions.proofs.Causes.{cause_after}
-use Rattle.dx_sessions.proofs.Beginning.{begins_sound}
 use Rattle.dx_sessions.proofs.Sessions.{SoFar, begins, goes_on, is_cut, is_done, lawful_head, lawful_tail, next_statement, no_statement, nothing_left}
 use Rattle.dx_sessions.proofs.performing.perform.Goals as goal
 
@@ -45,7 +44,7 @@ loop-statement-init g c =
           ∙ ap (λ (st : State Kept). statements (coursed x) st (plain_stmts (into_iter_items c.into_iter-statement-iterator.result))) (sym c.new-session.ensures.state) in
           subst (λ (rest : Done Kept Coursed). SoFar x c.args.listings whole rest was false c.new-session.result was) same
           (begins x c.args.listings whole was c.new-session.result
-          (begins_sound x c.new-session.result.state (ap (λ (st : State Kept). st.kept) c.new-session.ensures.state) (sym c.new-session.ensures.budget)));
+          (c.new-session.ensures.sound x refl));
     }
 
 pub loop-statement-preserved : goal.loop-statement-preserved

@@ -28,7 +28,7 @@ returns-in_err-gathered-clause-cut g c =
     })
 
 pub returns-clause-written : goal.returns-clause-written
-returns-clause-written g c = has_put c.finish.result _ (g.X.Exports.puts c.args.exports.now) (g.X.Exports.puts c.finish.new.exports) c.args.self.now c.run.new.self c.finish.new.self c.run.ensures.written c.finish.ensures.put c.finish.ensures.some
+returns-clause-written g c = has_put c.finish.result _ (g.X.Exports.puts c.args.exports.now) (g.X.Exports.puts c.finish.new.exports) c.args.self.now c.run.new.self c.finish.new.self c.run.ensures.written c.finish.ensures.put c.finish.ensures.cut c.finish.ensures.faults
 
 pub returns-clause-cut : goal.returns-clause-cut
 returns-clause-cut g c =
@@ -54,4 +54,4 @@ returns-clause-executes g c = λ map content sound.
     execute_so (fixed g.L.Library.answer map c.args.self.now.cache.budget) c.args.self.now c.run.new.self c.finish.new.self (unfolded (graph_of c.args.g.now)) (graph_of c.args.g.now).nodes c.in_ok-gathered.gathered _ _
     (c.in_ok-gathered.ensures.effects map content sound) c.requires.fits c.in_ok-gathered.ensures.goes_on (lawful_calls (graph_of c.args.g.now) c.args.g.now.lawful) sound
     (record { links = c.run.ensures.links; held = c.run.ensures.held; written = c.run.ensures.written; budget = c.run.ensures.budget })
-    c.finish.result c.finish.ensures.left c.finish.ensures.put c.finish.ensures.error c.finish.ensures.some c.finish.ensures.faults
+    c.finish.result c.finish.ensures.left c.finish.ensures.put c.finish.ensures.error c.finish.ensures.cut c.finish.ensures.faults

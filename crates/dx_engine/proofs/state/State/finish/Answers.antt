@@ -4,14 +4,20 @@ use Rattle.dx_demand.specs.Forming.{named_terms}
 use Rattle.dx_performing.specs.Kept.{is_full}
 use Rattle.dx_performing.specs.Execution.{after_exports}
 use Rattle.dx_ending.specs.Putting.{exports_of}
-use Rattle.dx_engine.proofs.Finished.{on_end, on_cut, unput_is, unput_cause, unput_is_no_read, unput_is_no_write, unput_end, unput_error, ended_error, none_put, front_put, left_behind}
+use Rattle.dx_engine.proofs.Finished.{on_end, on_cut, unput_is, unput_cause, unput_is_no_read, unput_is_no_write, unput_end, unput_error, ended_error, none_put, front_put, uncut_put, left_behind}
 use Rattle.dx_engine.proofs.state.State.finish.Goals as goal
 
-pub returns-in_err-reserve-clause-some : goal.returns-in_err-reserve-clause-some
-returns-in_err-reserve-clause-some g c = on_cut c.from_residual-in_err-reserve.result _ (none_put _ _ _ _ c.reserve.ensures.files)
+pub returns-in_err-site-clause-cut : goal.returns-in_err-site-clause-cut
+returns-in_err-site-clause-cut g c = none_put c.from_residual.result _ _ _ _ c.from_residual.ensures.1 refl
 
-pub returns-in_err-reserve-2-clause-some : goal.returns-in_err-reserve-2-clause-some
-returns-in_err-reserve-2-clause-some g c = on_cut c.from_residual-in_err-reserve-2.result _ (none_put _ _ _ _ c.reserve.ensures.files)
+pub returns-in_err-prepared-clause-cut : goal.returns-in_err-prepared-clause-cut
+returns-in_err-prepared-clause-cut g c = none_put c.from_residual-in_err-prepared.result _ _ _ _ c.from_residual-in_err-prepared.ensures.1 refl
+
+pub returns-in_err-reserve-clause-cut : goal.returns-in_err-reserve-clause-cut
+returns-in_err-reserve-clause-cut g c = none_put c.from_residual-in_err-reserve.result _ _ _ _ c.from_residual-in_err-reserve.ensures.1 c.reserve.ensures.files
+
+pub returns-in_err-reserve-2-clause-cut : goal.returns-in_err-reserve-2-clause-cut
+returns-in_err-reserve-2-clause-cut g c = none_put c.from_residual-in_err-reserve-2.result _ _ _ _ c.from_residual-in_err-reserve-2.ensures.1 c.reserve.ensures.files
 
 pub returns-in_err-make_puts-clause-left : goal.returns-in_err-make_puts-clause-left
 returns-in_err-make_puts-clause-left g c = unput_end c.in_err-make_puts.field-0.0 c.from_residual-in_err-make_puts.result (unput_is _ _ c.from_residual-in_err-make_puts.ensures.1) _
@@ -22,8 +28,8 @@ returns-in_err-make_puts-clause-put g c = unput_end c.in_err-make_puts.field-0.0
 pub returns-in_err-make_puts-clause-error : goal.returns-in_err-make_puts-clause-error
 returns-in_err-make_puts-clause-error g c = unput_error c.in_err-make_puts.field-0.0 c.from_residual-in_err-make_puts.result (unput_is _ _ c.from_residual-in_err-make_puts.ensures.1) _ _
 
-pub returns-in_err-make_puts-clause-some : goal.returns-in_err-make_puts-clause-some
-returns-in_err-make_puts-clause-some g c = on_cut c.from_residual-in_err-make_puts.result _ (front_put _ _ _ _ _ _ c.reserve.ensures.files c.in_err-make_puts.ensures.front)
+pub returns-in_err-make_puts-clause-cut : goal.returns-in_err-make_puts-clause-cut
+returns-in_err-make_puts-clause-cut g c = front_put c.in_err-make_puts.field-0.0 c.from_residual-in_err-make_puts.result _ _ _ _ _ _ (unput_is _ _ c.from_residual-in_err-make_puts.ensures.1) c.reserve.ensures.files c.in_err-make_puts.ensures.front
 
 pub returns-in_err-make_puts-clause-links : goal.returns-in_err-make_puts-clause-links
 returns-in_err-make_puts-clause-links g c = on_cut c.from_residual-in_err-make_puts.result _ refl
@@ -60,6 +66,9 @@ returns-clause-put g c =
       told = c.in_ok-make_puts.ensures.all.told;
       files = ap (λ y. y.files) (c.put_empty.ensures.written ∙ c.put_links.ensures.same.4) ∙ (c.in_ok-make_puts.ensures.all.files ∙ ap (λ y. after_exports y (exports_of c.args.gathered.puts.items)) c.reserve.ensures.files);
     })
+
+pub returns-clause-cut : goal.returns-clause-cut
+returns-clause-cut g c = uncut_put c.in_ok-site.site c.ended.result _ _ _ _ _ c.ended.ensures
 
 pub returns-clause-error : goal.returns-clause-error
 returns-clause-error g c = ended_error _ _ c.in_ok-site.site c.ended.result c.in_ok-site.ensures c.ended.ensures
