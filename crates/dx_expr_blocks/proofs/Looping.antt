@@ -1,9 +1,10 @@
 -- The loop over a block's values, at each kind of step.
-use Rattle.std.proofs.Common.{◌≡◌, ℕ, zero, suc, ◌+◌, ℤ, pos, List, [], ◌∷◌, length, take, drop, get_or, ◌<◌, refl, sym, ap, ◌∙◌, add-one, arith, Option, false, drop-cons, append-nil}
-use Rattle.std.specs.Prelude.{slice_index_or, slice_index, map, if◌then◌else◌}
+use Rattle.std.proofs.Common.{◌≡◌, ℕ, zero, suc, ◌+◌, ℤ, pos, List, [], ◌∷◌, ◌++◌, length, take, drop, get_or, ◌<◌, refl, sym, ap, ◌∙◌, add-one, arith, Option, false, drop-cons, append-nil, append_assoc}
+use Rattle.std.proofs.lemmas.Grind.{common_steps}
+use Rattle.std.specs.Prelude.{slice_index_or, slice_index, slice_set, map, Ok, if◌then◌else◌}
 use Rattle.dx_expr.specs.declared.fault.ItemFault.{ItemFault}
 use Rattle.dx_expr.specs.Value.{Outcome, is_zero}
-use Rattle.dx_expr_blocks.specs.Block.{up_to, steps, beside, behind, merged, next}
+use Rattle.dx_expr_blocks.specs.Block.{up_to, steps, beside, before, behind, merged, next}
 
 drop_tail : (l : List ℤ) (k : ℕ) (r : ℤ) (rest : List ℤ) → drop k l ≡ r ∷ rest → (slice_index_or l k (pos 0) ≡ r) × (drop (suc k) l ≡ rest)
 drop_tail [] zero r rest e = absurd cc
@@ -57,3 +58,19 @@ ends_at_one cs end one one_fault other other_fault place i j below nonzero over 
     ∙ ap (λ z. behind (take place cs) (if z then next (drop j other) other_fault (λ more. merged rest end (drop i one) one_fault more other_fault) else next (drop i one) one_fault (λ more. merged rest end more one_fault (drop j other) other_fault))) nonzero
     ∙ ap (λ l. behind (take place cs) (next l one_fault (λ more. merged rest end more one_fault (drop j other) other_fault))) over
     ∙ ap (λ l. record { values = l; fault = one_fault }) (append-nil (take place cs))
+
+-- ---- a step that makes a value
+
+-- its value in its place, and the steps behind it
+pub one_made : (f : ℕ → ℤ → Outcome ℤ) (vs : List ℤ) (place : ℕ) (m : ℤ) → place < length vs → f place (slice_index_or vs place (pos 0)) ≡ Ok m →
+    behind (take (place + 1) (slice_set vs place m)) (up_to (steps f (place + 1) (drop (place + 1) (slice_set vs place m)))) ≡ behind (take place vs) (up_to (steps f place (drop place vs)))
+one_made f vs place m below e =
+    let cut : drop place vs ≡ get_or vs place (pos 0) ∷ drop (place + 1) vs = drop-cons vs place (pos 0) below ∙ ap (λ n. get_or vs place (pos 0) ∷ drop n vs) (sym (add-one place)) in
+    let rest : drop (place + 1) (slice_set vs place m) ≡ drop (place + 1) vs = grind (arith, common_steps) in
+    let front : take (place + 1) (slice_set vs place m) ≡ take place vs ++ m ∷ [] = grind (arith, common_steps) in
+    let run = up_to (steps f (place + 1) (drop (place + 1) vs)) in
+    ap (λ l. behind (take (place + 1) (slice_set vs place m)) (up_to (steps f (place + 1) l))) rest
+    ∙ ap (λ l. behind l run) front
+    ∙ ap (λ l. record { values = l; fault = run.fault }) (append_assoc (take place vs) (m ∷ []) run.values)
+    ∙ ap (λ o. behind (take place vs) (before o run)) (sym e)
+    ∙ ap (λ l. behind (take place vs) (up_to (steps f place l))) (sym cut)

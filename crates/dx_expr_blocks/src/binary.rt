@@ -11,6 +11,7 @@ use crate::operators::{
     Add, Divide, Equal, Greater, GreaterEqual, Less, LessEqual, Maximum, Minimum, Multiply,
     NotEqual, Operator, Remainder, Subtract,
 };
+use crate::sure::{Sure, are_sure, make_all};
 use crate::{Found, Spare, Step, fill};
 use dx_expr::{Binary, ItemFault};
 use std::alloc::AllocError;
@@ -44,6 +45,20 @@ fn on_two<O: Operator + Drop>(operator: O, left: &mut Vec<i32>, right: &[i32]) -
     stop.fault
 }
 
+/// The same, where it makes a value of any two that are near enough to 0: then no fault is looked for.
+fn on_two_near<O: Sure + Drop>(operator: O, left: &mut Vec<i32>, right: &[i32]) -> Option<ItemFault>
+    ensures { run_of left.new.items result ≡ up_to (beside (O.makes operator) left.old.items right.now) }
+{
+    left.truncate(right.len());
+    if are_sure(&operator, left.as_slice(), right) {
+        make_all(&operator, left.as_mut_slice(), right);
+        return None;
+    }
+    let stop = fill(&OnTwo { operator, right }, left.as_mut_slice());
+    left.truncate(stop.count);
+    stop.fault
+}
+
 /// An operator value by value on both sides, as far as both go; the left side's values give way to what it makes.
 pub fn operate(operator: Binary, left: &mut Vec<i32>, right: &[i32]) -> Option<ItemFault>
     requires { sides_of operator ≡ sides.Both }
@@ -56,9 +71,9 @@ pub fn operate(operator: Binary, left: &mut Vec<i32>, right: &[i32]) -> Option<I
         Binary::LessEqual => on_two(LessEqual, left, right),
         Binary::Greater => on_two(Greater, left, right),
         Binary::GreaterEqual => on_two(GreaterEqual, left, right),
-        Binary::Add => on_two(Add, left, right),
-        Binary::Subtract => on_two(Subtract, left, right),
-        Binary::Multiply => on_two(Multiply, left, right),
+        Binary::Add => on_two_near(Add, left, right),
+        Binary::Subtract => on_two_near(Subtract, left, right),
+        Binary::Multiply => on_two_near(Multiply, left, right),
         Binary::Divide => on_two(Divide, left, right),
         Binary::Remainder => on_two(Remainder, left, right),
         Binary::Minimum => on_two(Minimum, left, right),

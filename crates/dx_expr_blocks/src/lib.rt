@@ -11,6 +11,7 @@ mod operators;
 mod sides;
 mod spare;
 mod steps;
+mod sure;
 mod unary;
 
 pub use binary::{on_both, operate, operate_wide};

@@ -7,7 +7,7 @@ ghost use Rattle.dx_base.specs.declared.elem.ElemType.TheVariants.{Int};
 ghost use Rattle.dx_expr.specs.Shape.{shape_of as spec_shape_of};
 ghost use Rattle.dx_expr_eval.specs.Items.{all_values, faultless};
 
-use crate::wide::append;
+use crate::wide::append_block;
 use dx_base::{Fail, Items};
 use dx_expr::{Expression, ItemFault};
 use dx_expr_blocks::{Columns, Spare, evaluate_range};
@@ -31,6 +31,7 @@ pub(crate) fn evaluate_numbers<I: Columns>(
 {
     let mut spare = Spare::new(alloc);
     let mut found = Vec::with_capacity(alloc, items)?;
+    let mut buffer = Vec::new(alloc);
     let mut from = 0;
     'turns: while from < items {
         let to = from.saturating_add(BLOCK).min(items);
@@ -38,7 +39,7 @@ pub(crate) fn evaluate_numbers<I: Columns>(
         if let Some(fault) = block.fault {
             return Err(Fail::Refused(fault));
         }
-        append(&mut found, block.values.as_slice())?;
+        append_block(&mut found, block.values.as_slice(), &mut buffer)?;
         spare.keep_values(block.values)?;
         from = to;
     }
