@@ -1,56 +1,80 @@
-// Arrays and objects that the tests speak of.
-use dx_arrays::{Array, ElemType, Shape};
-use dx_base::Items;
+// Arrays that the tests ask for.
+use dx_arrays::{Array, ArrayError, ElemType, Shape};
 use std::alloc::{AllocError, Global};
 use std::test::Fail;
 
-pub(crate) fn shape(alloc: Global, extents: &[u32]) -> Result<Shape, AllocError> {
-    Ok(Items::from_vec(Vec::from_slice(alloc, extents)?))
+/// An array as it is asked for: its type and its extents, and what its class wants.
+#[derive(Clone, Copy)]
+pub(crate) enum Given<'a> {
+    Plain(ElemType, &'a [u32], &'a [i64]),
+    Constant(ElemType, &'a [u32], u64, &'a [i64]),
+    /// Its items, the origin and the delta.
+    Regular(ElemType, &'a [u32], u64, &'a [i64], &'a [i64]),
+    /// The counts, the origin and the deltas.
+    Points(&'a [u32], &'a [i64], &'a [i64]),
+    Cells(&'a [u32]),
 }
 
-pub(crate) fn plain(
+type Lists = (Vec<u32>, Vec<i64>);
+
+fn lists(alloc: Global, numbers: &[u32], values: &[i64]) -> Result<Lists, AllocError> {
+    let numbers = Vec::from_slice(alloc, numbers)?;
+    Ok((numbers, Vec::from_slice(alloc, values)?))
+}
+
+fn pair(alloc: Global, one: &[i64], other: &[i64]) -> Result<(Vec<i64>, Vec<i64>), AllocError> {
+    let one = Vec::from_slice(alloc, one)?;
+    Ok((one, Vec::from_slice(alloc, other)?))
+}
+
+fn regular(
     alloc: Global,
     elem: ElemType,
-    extents: &[u32],
-    values: &[i64],
-) -> Result<Array, Fail> {
-    let shape = shape(alloc, extents)?;
-    let values = Vec::from_slice(alloc, values)?;
-    Ok(Array::plain(elem, shape, values)?)
-}
-
-pub(crate) fn constant(
-    alloc: Global,
-    extents: &[u32],
     items: u64,
-    value: &[i64],
-) -> Result<Array, Fail> {
-    let shape = shape(alloc, extents)?;
-    let value = Vec::from_slice(alloc, value)?;
-    Ok(Array::constant(ElemType::Short, shape, items, value)?)
+    lists: Lists,
+    delta: &[i64],
+) -> Result<Result<Array, ArrayError>, AllocError> {
+    let delta = Vec::from_slice(alloc, delta)?;
+    let (extents, origin) = lists;
+    Ok(Array::regular(elem, Shape::from_vec(extents), items, origin, delta))
 }
 
-// A line of numbers.
-pub(crate) fn line(alloc: Global, items: u64, origin: i64, delta: i64) -> Result<Array, Fail> {
-    let shape = shape(alloc, &[])?;
-    let origin = Vec::from_slice(alloc, &[origin])?;
-    let delta = Vec::from_slice(alloc, &[delta])?;
-    Ok(Array::regular(ElemType::Int, shape, items, origin, delta)?)
-}
-
-pub(crate) fn points(
+fn points(
     alloc: Global,
-    counts: &[u32],
+    counts: Vec<u32>,
     origin: &[i64],
     deltas: &[i64],
-) -> Result<Array, Fail> {
-    let counts = Vec::from_slice(alloc, counts)?;
-    let origin = Vec::from_slice(alloc, origin)?;
-    let deltas = Vec::from_slice(alloc, deltas)?;
-    Ok(Array::grid_positions(counts, origin, deltas)?)
+) -> Result<Result<Array, ArrayError>, AllocError> {
+    let (origin, deltas) = pair(alloc, origin, deltas)?;
+    Ok(Array::grid_positions(counts, origin, deltas))
 }
 
-pub(crate) fn cells(alloc: Global, counts: &[u32]) -> Result<Array, Fail> {
-    let counts = Vec::from_slice(alloc, counts)?;
-    Ok(Array::grid_connections(counts)?)
+/// What the makers answer.
+pub(crate) fn made(
+    alloc: Global,
+    given: &Given<'_>,
+) -> Result<Result<Array, ArrayError>, AllocError> {
+    match given {
+        Given::Plain(elem, extents, values) => {
+            let (extents, values) = lists(alloc, extents, values)?;
+            Ok(Array::plain(*elem, Shape::from_vec(extents), values))
+        }
+        Given::Constant(elem, extents, items, item) => {
+            let (extents, item) = lists(alloc, extents, item)?;
+            Ok(Array::constant(*elem, Shape::from_vec(extents), *items, item))
+        }
+        Given::Regular(elem, extents, items, origin, delta) => {
+            let lists = lists(alloc, extents, origin)?;
+            regular(alloc, *elem, *items, lists, delta)
+        }
+        Given::Points(counts, origin, deltas) => {
+            points(alloc, Vec::from_slice(alloc, counts)?, origin, deltas)
+        }
+        Given::Cells(counts) => Ok(Array::grid_connections(Vec::from_slice(alloc, counts)?)),
+    }
+}
+
+/// The array.
+pub(crate) fn array(alloc: Global, given: &Given<'_>) -> Result<Array, Fail> {
+    Ok(made(alloc, given)??)
 }

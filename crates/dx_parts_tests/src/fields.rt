@@ -6,7 +6,7 @@ use std::alloc::{AllocError, Global};
 use std::rc::Rc;
 use std::test::Fail;
 
-fn part(alloc: Global, name: &[u8], object: Object) -> Result<Part, Fail> {
+pub(crate) fn part(alloc: Global, name: &[u8], object: Object) -> Result<Part, Fail> {
     Ok(Part {
         name: Some(Bytes::copy_of(alloc, name)?),
         position: 0,
@@ -15,7 +15,7 @@ fn part(alloc: Global, name: &[u8], object: Object) -> Result<Part, Fail> {
 }
 
 // An attribute that is a text, where the bytes aren't empty; `#` stands for a number.
-fn push_attribute(
+pub(crate) fn push_attribute(
     alloc: Global,
     attributes: &mut Parts,
     name: &[u8],
@@ -58,11 +58,15 @@ fn field(alloc: Global, rows: &[Component<'_>]) -> Result<Object, Fail> {
     for row in rows {
         parts.push(component(alloc, row)?)?;
     }
+    field_of(alloc, parts)
+}
+
+pub(crate) fn field_of(alloc: Global, parts: Parts) -> Result<Object, Fail> {
     Ok(Object::field(parts, Parts::new(alloc))?)
 }
 
-// `missing`, `2 on 1` or `value 3`.
-fn shown(alloc: Global, object: &Object) -> Result<Vec<u8>, AllocError> {
+/// What is wrong with the field: `missing`, `2 on 1` or `value 3`.
+pub(crate) fn fault(alloc: Global, object: &Object) -> Result<Vec<u8>, AllocError> {
     let mut text = Vec::new(alloc);
     match check_field(object) {
         Ok(()) => {}
@@ -120,6 +124,30 @@ const FAULTS: &[(&[Component<'static>], &[u8])] = &[
         &[(b"a", &[9], b"", b"b"), (b"b", &[1], b"c", b"")],
         b"value 0",
     ),
+    (
+        &[(b"a", &[1, 2], b"", b""), (b"b", &[5], b"a", b"a")],
+        b"1 on 2",
+    ),
+    (
+        &[(b"a", &[1], b"b", b""), (b"b", &[1, 2], b"c", b"")],
+        b"1 on 2",
+    ),
+    (
+        &[(b"a", &[1], b"c", b""), (b"b", &[1, 2], b"a", b"")],
+        b"missing",
+    ),
+    (
+        &[(b"a", &[0, 1], b"", b"b"), (b"b", &[7], b"a", b"")],
+        b"value 1",
+    ),
+    (&[(b"a", &[0, 7, 9], b"", b"a")], b"value 1"),
+    (&[(b"a", &[0, 1, 2], b"a", b"a")], b""),
+    (
+        &[(b"a", &[], b"", b""), (b"b", &[0], b"", b"a")],
+        b"value 0",
+    ),
+    (&[(b"a", &[], b"b", b"a"), (b"b", &[], b"", b"")], b""),
+    (&[(b"a", &[2147483647], b"", b"a")], b"value 0"),
 ];
 
 #[test]
@@ -127,7 +155,7 @@ fn first_faults(rt: HostRuntime) -> Result<(), Fail> {
     let alloc = rt.alloc();
     for (rows, wanted) in FAULTS {
         let object = field(alloc, rows)?;
-        if shown(alloc, &object)?.as_slice() != *wanted {
+        if fault(alloc, &object)?.as_slice() != *wanted {
             return Err(Fail::from(*wanted));
         }
     }
@@ -159,8 +187,8 @@ fn grid(alloc: Global, points: &[u32], cells: &[u32]) -> Result<Object, Fail> {
     Ok(Object::field(parts, Parts::new(alloc))?)
 }
 
-// Whether it is a grid of these counts, or none where there are no counts.
-fn has_counts(object: &Object, wanted: &[u32]) -> bool {
+/// Whether it is a grid of these counts, or none where there are no counts.
+pub(crate) fn has_counts(object: &Object, wanted: &[u32]) -> bool {
     let Some(grid) = grid_of(object) else {
         return wanted.is_empty();
     };
@@ -176,6 +204,16 @@ fn has_counts(object: &Object, wanted: &[u32]) -> bool {
 }
 
 const GRIDS: &[(&[u32], &[u32], &[u32])] = &[
+    (&[1, 4, 1], &[4], &[1, 4, 1]),
+    (&[1, 4, 2], &[4, 2], &[1, 4, 2]),
+    (&[1, 1, 1], &[], &[1, 1, 1]),
+    (&[4, 1], &[4], &[4, 1]),
+    (&[1], &[1], &[]),
+    (&[1, 1, 1], &[1, 1, 1], &[]),
+    (&[4, 1], &[], &[]),
+    (&[4, 3], &[4], &[]),
+    (&[4], &[4, 1], &[]),
+    (&[4], &[5], &[]),
     (&[5], &[5], &[5]),
     (&[4, 3], &[4, 3], &[4, 3]),
     (&[4, 3, 2], &[4, 3, 2], &[4, 3, 2]),

@@ -5,7 +5,11 @@
 #[cfg(test)]
 mod calls;
 #[cfg(test)]
+mod classes;
+#[cfg(test)]
 mod fields;
+#[cfg(test)]
+mod limits;
 #[cfg(test)]
 mod rows;
 #[cfg(test)]

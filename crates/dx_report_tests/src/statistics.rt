@@ -1,5 +1,6 @@
 // What Statistics answers of numbers, and what it refuses.
-use crate::made::{Sample, are_numbers, fail_name, inputs_of};
+use crate::answers::{are_numbers, fail_name};
+use crate::made::{Sample, inputs_of};
 use dx_arrays::ElemType;
 use dx_base::Module;
 use dx_stats::run_statistics;
@@ -21,7 +22,7 @@ fn answers(alloc: Global, sample: Sample, numbers: &[Option<i64>]) -> Result<boo
 #[test]
 fn statistics_are_rounded_down(rt: HostRuntime) -> Result<(), Fail> {
     let alloc = rt.alloc();
-    let rows: [(Sample, [i64; 5]); 6] = [
+    let rows: [(Sample, [i64; 5]); 8] = [
         (
             Sample::Numbers(ElemType::Int, &[-1, -2]),
             [-2, 0, 0, -2, -1],
@@ -32,7 +33,16 @@ fn statistics_are_rounded_down(rt: HostRuntime) -> Result<(), Fail> {
             [3, 2, 8, 1, 9],
         ),
         (Sample::Numbers(ElemType::Int, &[0, 7]), [3, 3, 12, 0, 7]),
-        (Sample::Field(b"data", &[10, 20, 31]), [20, 8, 73, 10, 31]),
+        (Sample::Field("data", &[10, 20, 31]), [20, 8, 73, 10, 31]),
+        // The mean is 14, and the squares of the distances from it have the sum 572.
+        (
+            Sample::Numbers(ElemType::Int, &[3, 5, 7, 9, 11, 13, 15, 17, 19, 21, 23, 25]),
+            [14, 6, 47, 3, 25],
+        ),
+        (
+            Sample::Numbers(ElemType::Byte, &[-128, 127, -128]),
+            [-43, 120, 14450, -128, 127],
+        ),
         (Sample::Line(5000, -1, 1), [2498, 1443, 2083333, -1, 4998]),
     ];
     for (sample, [mean, deviation, variance, least, greatest]) in rows {
@@ -78,10 +88,12 @@ fn other_inputs_are_refused(rt: HostRuntime) -> Result<(), Fail> {
         (Sample::Null, "BadArgument"),
         (Sample::Text(b"5"), "BadArgument"),
         (Sample::Group, "BadArgument"),
+        (Sample::Composite, "BadArgument"),
+        (Sample::Series, "BadArgument"),
         (Sample::Numbers(ElemType::Int, &[]), "BadArgument"),
         (Sample::Vectors(&[1, 2]), "BadArgument"),
-        (Sample::Field(b"positions", &[1]), "NoComponent"),
-        (Sample::Field(b"data", &[]), "BadArgument"),
+        (Sample::Field("positions", &[1]), "NoComponent"),
+        (Sample::Field("data", &[]), "BadArgument"),
     ];
     for (sample, name) in rows {
         assert!(rt; refusal(alloc, sample)? == name);

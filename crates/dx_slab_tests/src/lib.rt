@@ -4,6 +4,10 @@
 #[cfg(test)]
 mod asked;
 #[cfg(test)]
+mod cells;
+#[cfg(test)]
 mod fields;
+#[cfg(test)]
+mod refusals;
 #[cfg(test)]
 mod slabs;

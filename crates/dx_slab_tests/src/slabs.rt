@@ -1,7 +1,6 @@
 // Rows of a field, a dimension, a position and a thickness, and what they give.
-use crate::asked::{Given, answers};
+use crate::asked::{Given, all_give};
 use crate::fields::{APART, JOINED, LINE, LONG, ODD, PLANE, POINT, REFERS, SHORT, SOLID, WIDE};
-use std::alloc::Global;
 use std::test::Fail;
 
 const NULL: Given<'static> = Given::Null;
@@ -217,24 +216,12 @@ const REFUSED: [(&str, [Given<'static>; 3], &str); 26] = [
     ),
 ];
 
-// Whether each row gives what it should.
-fn all_give(alloc: Global, rows: &[(&str, [Given<'_>; 3], &str)]) -> Result<bool, Fail> {
-    for (field, given, wanted) in rows {
-        if !answers(alloc, field, *given, wanted)? {
-            return Ok(false);
-        }
-    }
-    Ok(true)
-}
-
 #[test]
 fn slabs_are_cut(rt: HostRuntime) -> Result<(), Fail> {
-    assert!(rt; all_give(rt.alloc(), &SLABS)?);
-    Ok(())
+    all_give(rt.alloc(), &SLABS)
 }
 
 #[test]
 fn others_are_refused(rt: HostRuntime) -> Result<(), Fail> {
-    assert!(rt; all_give(rt.alloc(), &REFUSED)?);
-    Ok(())
+    all_give(rt.alloc(), &REFUSED)
 }
