@@ -26,7 +26,7 @@ fn a_workload_of_many_executions(rt: HostRuntime) -> Result<(), Fail> {
     let script = workload_text(alloc, MANY)?;
     let result = workload_result();
     let printed = format!(in alloc; "array plain int rank 0 items 1\n{result}\n")?;
-    for budget in [0, 1_000, 1_000_000] {
+    for budget in [1_000, 1_000_000] {
         let mut trial = Trial::new(alloc, Vec::new(alloc), budget, NONE)?;
         let did = trial.perform(script.bytes())?;
         assert!(rt; did.text.as_slice() == printed.as_bytes());
@@ -58,7 +58,7 @@ fn feedback(alloc: Global) -> Result<(Vec<u8>, Vec<u8>), AllocError> {
 fn many_executions_with_feedback(rt: HostRuntime) -> Result<(), Fail> {
     let alloc = rt.alloc();
     let (script, printed) = feedback(alloc)?;
-    for budget in [0, 1_000, 1_000_000] {
+    for budget in [0, 1_000] {
         let mut trial = Trial::new(alloc, Vec::new(alloc), budget, NONE)?;
         let did = trial.perform(&script)?;
         assert!(rt; did.text == printed);

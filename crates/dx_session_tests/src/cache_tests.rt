@@ -1,5 +1,5 @@
 //! Sessions whose trace tells what is run, kept, found again and dropped.
-use crate::rows::{NUMBER, PLAIN, Row, all_hold, run};
+use crate::rows::{NUMBER, PLAIN, Row, all_hold};
 use std::test::Fail;
 
 // A text.
@@ -206,36 +206,4 @@ const WORKLOADS: &[Row<'static>] = &[
 #[test]
 fn workloads(rt: HostRuntime) -> Result<(), Fail> {
     all_hold(rt.alloc(), WORKLOADS)
-}
-
-// How many lines of a text are this one.
-fn count(text: &str, wanted: &str) -> usize {
-    let mut count = 0_usize;
-    for line in text.split('\n') {
-        if line == wanted {
-            count = count.saturating_add(1);
-        }
-    }
-    count
-}
-
-// A workload has 1,002 constants, 1,000 inner calls, since it has so many values, and an outer call in each execution: with the 63,535th
-// there are 65,537 terms, one more than are kept.
-#[test]
-fn a_term_too_many_empties_the_cache_once(rt: HostRuntime) -> Result<(), Fail> {
-    let long = Row {
-        words: &["--workload", "70000", "--trace"],
-        ..PLAIN
-    };
-    let seen = run(rt.alloc(), &long)?;
-    let Ok(text) = std::str::from_utf8(seen.out.bytes()) else {
-        return Err(Fail::from("no text"));
-    };
-    let Some((before, behind)) = text.split_once("trace clear\n") else {
-        return Err(Fail::from("no clear"));
-    };
-    assert!(rt; count(before, "trace run cell:1/Compute:1") == 63_535);
-    assert!(rt; count(behind, "trace clear") == 0);
-    assert!(rt; seen.status == 0);
-    Ok(())
 }

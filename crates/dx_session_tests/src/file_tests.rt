@@ -178,7 +178,7 @@ const EXPORTED: &[Row<'static>] = &[
         session: &["macro main() { Export(5, \"o\"); Print(Import(\"o\")); } main(); main();"],
         printed: &["error main:1/Import:1: NoFile", NUMBER],
         status: 1,
-        puts: &[("o", FIVE)],
+        puts: &[("o", FIVE), ("o", FIVE)],
         ..PLAIN
     },
     Row {
