@@ -36,8 +36,10 @@ const WITH_SOME_ITEMS: &str =
 const WITH_ALL_ITEMS: &str =
     "group 3 members\n  member \"a\":\n    series 2 members\n      member at -3:\n        array plain int rank 0 items 1\n        5\n          attribute \"unit\":\n            text \"m\"\n      member at 7:\n        array regular int rank 0 items 51\n        1\n        2\n        3\n        4\n        5\n        6\n        7\n        8\n        9\n        10\n        11\n        12\n        13\n        14\n        15\n        16\n        17\n        18\n        19\n        20\n        21\n        22\n        23\n        24\n        25\n        26\n        27\n        28\n        29\n        30\n        31\n        32\n        33\n        34\n        35\n        36\n        37\n        38\n        39\n        40\n        41\n        42\n        43\n        44\n        45\n        46\n        47\n        48\n        49\n        50\n        51\n  member:\n    text \"m\"\n  member \"q\\\"\\\\\":\n    group 1 members\n      member \"f\":\n        field 1 components\n          component \"data\":\n            array plain int rank 0 items 1\n            5\n              attribute \"unit\":\n                text \"m\"\n  attribute \"two\\nlines\":\n    array plain int rank 0 items 1\n    5\n      attribute \"unit\":\n        text \"m\"\n";
 
+type Row<'a> = (Option<&'a str>, Option<&'a str>, &'a str);
+
 // Options, the component, and what is printed.
-const ROWS: [(Option<&str>, Option<&str>, &str); 16] = [
+const ROWS: [Row<'static>; 16] = [
     (Some("r"), None, WITHOUT_ITEMS),
     (Some("oor"), None, WITHOUT_ITEMS),
     (Some("rd"), None, WITH_SOME_ITEMS),
@@ -61,13 +63,20 @@ const ROWS: [(Option<&str>, Option<&str>, &str); 16] = [
     (Some("O"), Some("f"), "Unsupported"),
 ];
 
+// Prints the object with the options and the component of each row. Another text is the failure.
+fn all_print(alloc: Global, object: &Value, rows: &[Row]) -> Result<(), Fail> {
+    for (options, component, text) in rows {
+        if !prints(alloc, object, *options, *component, text)? {
+            return Err(Fail::from(*text));
+        }
+    }
+    Ok(())
+}
+
 #[test]
 fn parts_and_attributes_are_shown_to_any_depth(rt: HostRuntime) -> Result<(), Fail> {
     let object = last_of(rt.alloc(), &DEEP)?;
-    for (options, component, text) in ROWS {
-        assert!(rt; prints(rt.alloc(), &object, options, component, text)?);
-    }
-    Ok(())
+    all_print(rt.alloc(), &object, &ROWS)
 }
 
 #[test]
