@@ -36,9 +36,6 @@ each-of f n h = each_to f 0 n (λ i l. subst (λ (k : ℕ). f k ≡ true) (sym (
 pub each-step : (f : ℕ → Bool) (n i : ℕ) → i < n → list_all f (range_with_len i (n - i)) ≡ (f i && list_all f (range_with_len (i + 1) (n - (i + 1))))
 each-step f n i h = let e : n - i ≡ suc (n - (i + 1)) = omega arith in rw e refl
 
-pub each-end : (f : ℕ → Bool) (n i : ℕ) → n ≤ i → list_all f (range_with_len i (n - i)) ≡ true
-each-end f n i h = let e : n - i ≡ 0 = omega arith in rw e refl
-
 all_mapped : {X : Type 0} (p : X → Bool) (f : ℕ → X) (a n : ℕ) → list_all p (map f (range_with_len a n)) ≡ list_all (λ i. p (f i)) (range_with_len a n)
 all_mapped p f a zero = refl
 all_mapped p f a (suc n) = ap (λ b. p (f a) && b) (all_mapped p f (a + 1) n)

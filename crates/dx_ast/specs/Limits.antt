@@ -28,7 +28,3 @@ max_macro_steps = 64
 -- the calls that the walk of a statement comes by
 abbrev pub max_walk_calls : ℕ
 max_walk_calls = 65536
-
--- the bytes of a text whose trees are lawful
-abbrev pub max_text_bytes : ℕ
-max_text_bytes = 16777216

@@ -4,17 +4,11 @@ use Rattle.std.specs.Prelude.{cond, nat_lt, ◌||◌}
 use Rattle.std.specs.Ordering.{nat_cmp}
 use Rattle.std.specs.Cmp.Lexicographic.{slice_cmp}
 use Rattle.std.specs.BTreeMap.{BTreeMap, get_by, UpdatesBy}
-use Rattle.std.specs.List.{count_by}
 use Rattle.std.specs.Str.{bytes_eq}
-use Rattle.std.proofs.lemmas.List.Sums.{sum_by-append, sum_by-cons}
+use Rattle.std.proofs.lemmas.List.Sums.{sum_by-cons}
 use Rattle.std.proofs.lemmas.Map.Text.{btree_map_updates_str}
 use Rattle.std.proofs.lemmas.Slice.Eq.{bytes_eq-Decides}
-use Rattle.dx_base.specs.NameLists.{has, count, texts, or_zero, times_of, IsCounted, IsRaised}
-
-pub count_snoc : (p : List ℕ → Bool) (xs : List (List ℕ)) (x : List ℕ) → count_by p (xs ++ x ∷ []) ≡ count_by p xs + cond (p x) 1 0
-count_snoc p xs x =
-    let one : 0 + cond (p x) 1 0 ≡ cond (p x) 1 0 = omega arith in
-    sum_by-append (λ (y : List ℕ). cond (p y) 1 0) xs (x ∷ []) ∙ ap (λ (n : ℕ). count_by p xs + n) one
+use Rattle.dx_base.specs.NameLists.{has, count, texts, or_zero, times_of, IsRaised}
 
 raised_by : (table : BTreeMap (Bor (List ℕ)) ℕ) (name other : List ℕ) (times : ℕ) (b : Bool) → bytes_eq name other ≡ b → times ≡ times_of table name →
     or_zero (cond b (Some (times + 1)) (get_by (λ (key : Bor (List ℕ)). slice_cmp nat_cmp other key.now) table)) ≡ times_of table other + cond b 1 0
@@ -29,11 +23,6 @@ pub raised : (old new : BTreeMap (Bor (List ℕ)) ℕ) (name : List ℕ) (times 
     → IsRaised old name new
 raised old new name times h u other =
     ap or_zero (btree_map_updates_str name old new (Some (times + 1)) u other) ∙ raised_by old name other times (bytes_eq name other) refl h
-
--- one name more, where what stands under it is raised
-pub counted_push : (old new : BTreeMap (Bor (List ℕ)) ℕ) (names : List (List ℕ)) (name : List ℕ) → IsCounted old names → IsRaised old name new → IsCounted new (names ++ name ∷ [])
-counted_push old new names name c r other =
-    r other ∙ ap (λ (n : ℕ). n + cond (bytes_eq name other) 1 0) (c other) ∙ sym (count_snoc (λ m. bytes_eq m other) names name)
 
 any_by : (b rest : Bool) (n : ℕ) → nat_lt 0 n ≡ rest → nat_lt 0 (cond b 1 0 + n) ≡ (b || rest)
 any_by true rest n e = grind arith

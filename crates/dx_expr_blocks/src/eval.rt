@@ -47,6 +47,22 @@ fn one_by_one<I: Inputs>(
     })
 }
 
+fn is_signed(e: &Expression) -> bool {
+    match e {
+        Expression::Unary(_, _) => true,
+        _ => false,
+    }
+}
+
+// A text has room for thousands of signs in a row, and a step of `evaluate` takes 2 kB of the stack: so two signs in a
+// row are evaluated item by item.
+fn has_two_signs(e: &Expression) -> bool {
+    match e {
+        Expression::Unary(_, a) => is_signed(a.get()),
+        _ => false,
+    }
+}
+
 /// What a block gives of an expression that is a single value: the values of its items up to the first one that has a
 /// fault, and that fault.
 pub fn evaluate<I: Columns>(
@@ -60,6 +76,9 @@ pub fn evaluate<I: Columns>(
     requires within { all_below (I.items inputs.now) (items_of block) }
     ensures { IfOk result (λ found. IsFound (block_of (I.given inputs.now) e.now (items_of block.entry)) found) }
 {
+    if has_two_signs(e) {
+        return one_by_one(alloc, spare, e, inputs, block);
+    }
     match e {
         Expression::Number(n) => constant(alloc, spare, i64::from(*n), count(block)),
         Expression::Input(k) => input_run(alloc, spare, inputs, *k, block),

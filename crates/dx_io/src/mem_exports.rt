@@ -57,6 +57,7 @@ impl Exports for MemExports {
         ensures counts { put_calls self.new ≡ min (put_calls self.old + 1) u64.MAX }
         ensures fails { IsErrOf result ExportFail.Fault ↔ Contains (failing_puts self.old) (put_calls self.new) }
         ensures keeps { failing_puts self.new ≡ failing_puts self.old }
+        ensures faults { IfOk result (λ _. put_faults self.new ≡ put_faults self.old) }
     {
         self.calls = self.calls.saturating_add(1);
         if self.fail.contains(self.calls) {

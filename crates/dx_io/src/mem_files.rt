@@ -68,6 +68,7 @@ impl Files for MemFiles {
         ensures succeeds { IfOk result (λ _. Contains (failing_reads self.old) (read_calls self.new) → ⊥) }
         ensures keeps { failing_reads self.new ≡ failing_reads self.old }
         ensures files { kept_files self.new ≡ kept_files self.old }
+        ensures faults { IfOk result (λ _. read_faults self.new ≡ read_faults self.old) }
     {
         self.calls = self.calls.saturating_add(1);
         self.asked.push(Bytes::copy_of(alloc, name.bytes())?)?;

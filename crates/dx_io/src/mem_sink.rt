@@ -77,6 +77,7 @@ impl Sink for MemSink {
         ensures keeps { failing_writes self.new ≡ failing_writes self.old }
         ensures limit { sink_limit self.new ≡ sink_limit self.old }
         ensures whole { IfOk result (λ n. n ≡ min (length piece.now) (sink_limit self.old)) }
+        ensures faults { IfOk result (λ _. write_faults self.new ≡ write_faults self.old) }
     {
         self.calls = self.calls.saturating_add(1);
         if self.fail.contains(self.calls) {
