@@ -1,8 +1,8 @@
 -- The texts of the top level, one after the other.
 use Rattle.std.proofs.Common.{◌≡◌, ◌⊎◌, inl, inr, ℕ, zero, suc, ◌<◌, List, [], ◌∷◌, ◌++◌, length, get_or, map, take, Option, Some, None, Vec, refl, sym, ap, ap₂, subst, ◌∙◌, arith, All}
-use Rattle.std.specs.Prelude.{slice_set, slice_index_or}
+use Rattle.std.specs.Prelude.{slice_set, slice_index_or, replicate}
 use Rattle.std.proofs.Math.Logic.{∥∥₁_map}
-use Rattle.std.proofs.lemmas.List.{length-map, get_or-set_same, get_or-set_other}
+use Rattle.std.proofs.lemmas.List.{length-map, length-replicate, get_or-set_same, get_or-set_other}
 use Rattle.std.proofs.lemmas.Bool.{cases_eq}
 use Rattle.std.specs.Str.{bytes_eq}
 use Rattle.std.specs.declared.alloc.Global.{Global}
@@ -168,3 +168,20 @@ last_effects w v place t same here =
 
 pub no_effects : (g : plain.Graph) → g.effects ≡ [] → unfolded g ≡ []
 no_effects g e = ap (map (call_at (calls_of g.nodes))) e
+
+-- ---- where nothing is expanded yet
+
+abbrev no_results : ℕ → Memo
+no_results n = replicate n None
+
+none_kept : (n i : ℕ) (r : Results) → slice_index_or (no_results n) i None ≡ Some r → ⊥
+none_kept zero i r e = cc
+none_kept (suc n) zero r e = cc
+none_kept (suc n) (suc i) r e = none_kept n i r e
+
+pub first_rests : (w : World) (g : Graph) (d : Dictionary) → w.dictionary.now ≡ d → w.memo ≡ replicate (length (dictionary_of d).definitions) None → graph_of g ≡ plain.no_nodes → Rests w g
+first_rests w g d same memo empty = record {
+  memo = λ i r h. absurd (none_kept (length (dictionary_of d).definitions) i r (subst (λ (m : Memo). slice_index_or m i None ≡ Some r) memo h));
+  places = ap length memo ∙ length-replicate (length (dictionary_of d).definitions) None ∙ sym (ap (λ (x : Dictionary). length (dictionary_of x).definitions) same);
+  effects = ap (λ (x : plain.Graph). x.effects) empty;
+}

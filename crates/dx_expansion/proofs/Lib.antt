@@ -11,3 +11,4 @@ pub mod Expansions
 pub mod Measures
 pub mod Driving
 pub mod Marked
+pub mod Silence

@@ -1,3 +1,4 @@
 pub mod Expanding
 pub mod Marks
 pub mod Driving
+pub mod Silence

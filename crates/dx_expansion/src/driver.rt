@@ -21,6 +21,7 @@ ghost use Rattle.dx_expansion.specs.Marks.{ExprWalked, TopWalked, AreWalked, Hav
 ghost use Rattle.dx_graph.specs.declared.graph.Graph.{Graph};
 
 use crate::expansion::{expand_call, expand_expr};
+use crate::silent::is_silent;
 use crate::text::{Text, World, top_meaning};
 use dx_ast::{Assign, Call, Expr, Frames, Stmt};
 use dx_base::{Bytes, Names, Sparse};
@@ -196,7 +197,7 @@ fn new_world<'a>(alloc: Global, d: &'a Dictionary, f: &Frames) -> World<'a>
 }
 
 /// The first static fault of a statement, as `check` answers it; where there is none its expansion, as `expand` does. The
-/// statement and the definitions that it reads are walked once.
+/// statement and the definitions that it reads are walked once; these are expanded only where the statement may have an effect.
 pub fn check_and_expand<'a>(
     alloc: Global,
     d: &'a Dictionary,
@@ -210,6 +211,9 @@ pub fn check_and_expand<'a>(
     let marks = d.walk(alloc, s)?;
     let mut w: World<'a> = new_world(alloc, d, f);
     let mut graph = Graph::new(alloc);
+    if is_silent(&w, s) {
+        return Ok(graph);
+    }
     define_marked(&mut w, &mut graph, &marks)?;
     expand_last(&w, &mut graph, s, d.len())?;
     Ok(graph)

@@ -4,6 +4,7 @@
 mod driver;
 mod expansion;
 mod own;
+mod silent;
 mod text;
 
 pub use driver::{check_and_expand, expand};

@@ -104,7 +104,7 @@ fn what_names_mean(rt: HostRuntime) -> Result<(), Fail> {
     Ok(())
 }
 
-const ORDER_AND_SITES: [(&str, &str); 3] = [
+const ORDER_AND_SITES: [(&str, &str); 5] = [
     // Arguments come before their call, and k counts by the place of the name in the text.
     (
         "Echo(Echo(1), Echo(2));",
@@ -118,6 +118,15 @@ const ORDER_AND_SITES: [(&str, &str); 3] = [
     (
         "macro inner(a) { Echo(a) [cache: 2]; Echo(a); } macro outer() -> (r) { inner(1); r = 2; inner(r); } y = outer();",
         "y/outer:1/inner:1/Echo:1 in outer:1/inner:1 cache 2: 1\ny/outer:1/inner:1/Echo:2 in outer:1/inner:1 cache 1: 1\ny/outer:1/inner:2/Echo:1 in outer:1/inner:2 cache 2: 2\ny/outer:1/inner:2/Echo:2 in outer:1/inner:2 cache 1: 2\n",
+    ),
+    // What is assigned may have effects in its arguments alone, or none.
+    (
+        "macro e(a) -> (r) { Echo(a); r = a; } y = Compute(\"$0\", e(3));",
+        "y/e:1/Echo:1 in e:1 cache 1: 3\n",
+    ),
+    (
+        "macro q(a) -> (r) { r = Compute(\"1\", a); } y = q(Compute(\"2\"));",
+        "",
     ),
 ];
 

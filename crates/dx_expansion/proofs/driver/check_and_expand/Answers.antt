@@ -1,4 +1,4 @@
-use Rattle.std.proofs.Common.{◌++◌, List, length, sym, ap, ap₂, ◌∙◌}
+use Rattle.std.proofs.Common.{◌++◌, List, length, refl, sym, ap, ap₂, ◌∙◌}
 use Rattle.dx_ast.specs.declared.sequencing.Frames.{Frames}
 use Rattle.dx_macros.specs.declared.dictionary.Dictionary.{Dictionary}
 use Rattle.dx_macros.specs.DictionaryView.{dictionary_of}
@@ -9,9 +9,23 @@ use Rattle.dx_macros.specs.Tree.{CallTree}
 use Rattle.dx_macros.specs.Dictionary.{top_text}
 use Rattle.dx_graph.specs.GraphView.{graph_of}
 use Rattle.dx_expansion.specs.Driving.{effects_in}
-use Rattle.dx_expansion.proofs.Driving.{last_effects, no_effects}
+use Rattle.dx_expansion.proofs.Driving.{first_rests, last_effects, no_effects}
 use Rattle.dx_expansion.proofs.Marked.{all_walked, last_walked, of_dictionary, reads_of}
 use Rattle.dx_expansion.proofs.driver.check_and_expand.Goals as goal
+
+pub returns-then-is_silent-clause-means : goal.returns-then-is_silent-clause-means
+returns-then-is_silent-clause-means c =
+    let text = top_text (plain_stmt c.args.s.now) in
+    let w = c.new_world-w.result in
+    let place = length (dictionary_of c.args.d.now).definitions in
+    no_effects (graph_of c.new-graph.result) (ap (λ g. g.effects) c.new-graph.ensures.graph)
+    ∙ sym (c.is_silent.ensures place cc)
+    ∙ last_effects w w place text (record { dictionary = refl; frames = refl; places = refl }) (sym (ap (λ (x : Dictionary). length (dictionary_of x).definitions) c.new_world-w.ensures.dictionary))
+    ∙ ap₂ (λ (x : Dictionary) (f : Frames). effects (dictionary_of x) f (plain_stmt c.args.s.now)) c.new_world-w.ensures.dictionary c.new_world-w.ensures.frames
+
+pub define_marked-requires-clause-rests : goal.define_marked-requires-clause-rests
+define_marked-requires-clause-rests c =
+    first_rests c.new_world-w.result c.new-graph.result c.args.d.now c.new_world-w.ensures.dictionary c.new_world-w.ensures.memo c.new-graph.ensures.graph
 
 pub define_marked-requires-clause-walked : goal.define_marked-requires-clause-walked
 define_marked-requires-clause-walked c =
