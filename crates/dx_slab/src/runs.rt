@@ -82,7 +82,9 @@ fn push_row(row: &[i64], out: &mut Vec<i64>)
     ensures len { vec_len out.new ≡ vec_len out.old + length row.now }
     ensures capacity { vec_capacity out.old ≤ vec_capacity out.new }
 {
-    if row.len() < MANY {
+    if let [value] = row {
+        out.push_reserved(*value);
+    } else if row.len() < MANY {
         push_each(row, out);
     } else if out.extend_from_slice(row).is_err() {
         unreachable!()
