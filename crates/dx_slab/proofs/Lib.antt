@@ -1,4 +1,5 @@
 pub mod Keeping
+pub mod Copying
 pub mod Gathering
 pub mod Shifting
 pub mod Joining

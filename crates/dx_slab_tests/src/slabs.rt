@@ -1,11 +1,13 @@
 // Rows of a field, a dimension, a position and a thickness, and what they give.
 use crate::asked::{Given, all_give};
-use crate::fields::{APART, JOINED, LINE, LONG, ODD, PLANE, POINT, REFERS, SHORT, SOLID, WIDE};
+use crate::fields::{
+    APART, JOINED, LINE, LONG, ODD, PLANE, POINT, REFERS, SHORT, SOLID, VECTORS, WIDE,
+};
 use std::test::Fail;
 
 const NULL: Given<'static> = Given::Null;
 
-const SLABS: [(&str, [Given<'static>; 3], &str); 19] = [
+const SLABS: [(&str, [Given<'static>; 3], &str); 23] = [
     (
         PLANE,
         [Given::Text("y"), Given::Number(2), NULL],
@@ -65,6 +67,26 @@ const SLABS: [(&str, [Given<'static>; 3], &str); 19] = [
         SOLID,
         [Given::Text("x"), NULL, NULL],
         "object 1 class array type short rank 0 items 6 data follows\n10\n7\n4\n1\n-2\n-5\nobject 2 class gridpositions counts 1 3 2\norigin 5 -5 7\ndelta 1 2 3\ndelta 10 0 -1\ndelta 0 0 4\nattribute \"unit\" string \"m\"\nobject 3 class gridconnections counts 3 2\nattribute \"element type\" string \"quads\"\nattribute \"ref\" string \"positions\"\nobject 4 class array type unsigned byte rank 1 shape 2 items 2 data follows\n7 8\n7 8\nattribute \"dep\" string \"connections\"\nobject 5 class array type int rank 0 items 2 data follows\n21\n22\nattribute \"dep\" string \"connections\"\nobject 6 class array type int rank 1 shape 2 items 6 data follows\n0 100\n1 99\n2 98\n3 97\n4 96\n5 95\nattribute \"dep\" string \"positions\"\nattribute \"unit\" number 4\nobject 7 class array type int rank 0 items 12 data follows\n0\n1\n2\n3\n4\n5\n6\n7\n8\n9\n10\n11\nattribute \"dep\" string \"data\"\nobject 8 class array type int rank 0 items 3 data follows\n1\n2\n3\nobject 9 class field\ncomponent \"data\" value 1\ncomponent \"positions\" value 2\ncomponent \"connections\" value 3\ncomponent \"faces\" value 4\ncomponent \"cells\" value 5\ncomponent \"place\" value 6\ncomponent \"beside\" value 7\ncomponent \"alone\" value 8\nattribute \"name\" string \"solid\"\nobject 10 class array type short rank 0 items 6 data follows\n-8\n-11\n-14\n-17\n-20\n-23\nobject 11 class gridpositions counts 1 3 2\norigin 6 -3 10\ndelta 1 2 3\ndelta 10 0 -1\ndelta 0 0 4\nattribute \"unit\" string \"m\"\nobject 12 class gridconnections counts 3 2\nattribute \"element type\" string \"quads\"\nattribute \"ref\" string \"positions\"\nobject 13 class array type unsigned byte rank 1 shape 2 items 2 data follows\n7 8\n7 8\nattribute \"dep\" string \"connections\"\nobject 14 class array type int rank 0 items 2 data follows\n21\n22\nattribute \"dep\" string \"connections\"\nobject 15 class array type int rank 1 shape 2 items 6 data follows\n6 94\n7 93\n8 92\n9 91\n10 90\n11 89\nattribute \"dep\" string \"positions\"\nattribute \"unit\" number 4\nobject 16 class array type int rank 0 items 12 data follows\n0\n1\n2\n3\n4\n5\n6\n7\n8\n9\n10\n11\nattribute \"dep\" string \"data\"\nobject 17 class array type int rank 0 items 3 data follows\n1\n2\n3\nobject 18 class field\ncomponent \"data\" value 10\ncomponent \"positions\" value 11\ncomponent \"connections\" value 12\ncomponent \"faces\" value 13\ncomponent \"cells\" value 14\ncomponent \"place\" value 15\ncomponent \"beside\" value 16\ncomponent \"alone\" value 17\nattribute \"name\" string \"solid\"\nobject 19 class series\nmember 0 position 0 value 9\nmember 1 position 1 value 18\nend\n",
+    ),
+    (
+        VECTORS,
+        [Given::Text("x"), Given::Number(1), NULL],
+        "object 1 class gridpositions counts 1 3 2\norigin 1 0 0\ndelta 1 0 0\ndelta 0 1 0\ndelta 0 0 1\nobject 2 class gridconnections counts 3 2\nobject 3 class array type int rank 1 shape 4 items 6 data follows\n6 106 206 306\n7 107 207 307\n8 108 208 308\n9 109 209 309\n10 110 210 310\n11 111 211 311\nattribute \"dep\" string \"positions\"\nobject 4 class field\ncomponent \"positions\" value 1\ncomponent \"connections\" value 2\ncomponent \"data\" value 3\nend\n",
+    ),
+    (
+        VECTORS,
+        [Given::Text("y"), Given::Number(1), NULL],
+        "object 1 class gridpositions counts 2 1 2\norigin 0 1 0\ndelta 1 0 0\ndelta 0 1 0\ndelta 0 0 1\nobject 2 class gridconnections counts 2 2\nobject 3 class array type int rank 1 shape 4 items 4 data follows\n2 102 202 302\n3 103 203 303\n8 108 208 308\n9 109 209 309\nattribute \"dep\" string \"positions\"\nobject 4 class field\ncomponent \"positions\" value 1\ncomponent \"connections\" value 2\ncomponent \"data\" value 3\nend\n",
+    ),
+    (
+        VECTORS,
+        [Given::Text("y"), Given::Number(1), Given::Number(1)],
+        "object 1 class gridpositions counts 2 2 2\norigin 0 1 0\ndelta 1 0 0\ndelta 0 1 0\ndelta 0 0 1\nobject 2 class gridconnections counts 2 2 2\nobject 3 class array type int rank 1 shape 4 items 8 data follows\n2 102 202 302\n3 103 203 303\n4 104 204 304\n5 105 205 305\n8 108 208 308\n9 109 209 309\n10 110 210 310\n11 111 211 311\nattribute \"dep\" string \"positions\"\nobject 4 class field\ncomponent \"positions\" value 1\ncomponent \"connections\" value 2\ncomponent \"data\" value 3\nend\n",
+    ),
+    (
+        VECTORS,
+        [Given::Text("z"), Given::Number(1), NULL],
+        "object 1 class gridpositions counts 2 3 1\norigin 0 0 1\ndelta 1 0 0\ndelta 0 1 0\ndelta 0 0 1\nobject 2 class gridconnections counts 2 3\nobject 3 class array type int rank 1 shape 4 items 6 data follows\n1 101 201 301\n3 103 203 303\n5 105 205 305\n7 107 207 307\n9 109 209 309\n11 111 211 311\nattribute \"dep\" string \"positions\"\nobject 4 class field\ncomponent \"positions\" value 1\ncomponent \"connections\" value 2\ncomponent \"data\" value 3\nend\n",
     ),
     (
         LINE,

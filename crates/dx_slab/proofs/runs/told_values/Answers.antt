@@ -4,7 +4,7 @@ use Rattle.dx_arrays.specs.Block.{values_from}
 use Rattle.dx_arrays.proofs.Blocks.{few_values, few_items}
 use Rattle.dx_slab.specs.Runs.{run_values}
 use Rattle.dx_slab.proofs.Keeping.{run_total, values_none, values_more}
-use Rattle.dx_slab.proofs.runs.values_of.Goals as goal
+use Rattle.dx_slab.proofs.runs.told_values.Goals as goal
 
 pub overflow_mul-len : goal.overflow_mul-len
 overflow_mul-len c = omega (arith, run_total c.args.runs (items c.args.array.now) c.requires, few_items c.args.array.now c.width-width.ensures.lawful)
