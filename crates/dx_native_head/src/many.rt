@@ -66,9 +66,9 @@ fn some_numbers(
     cursor: &mut Cursor<'_>,
     t: ElemType,
     others: usize,
-    found: &mut Items<i64>,
+    found: &mut Vec<i64>,
 ) -> Result<usize, NativeFail>
-    ensures read { Goes (spec.bounded (lowest t) (highest t)) (suc others) found.old cursor.old result found.new cursor.new }
+    ensures read { Goes (spec.bounded (lowest t) (highest t)) (suc others) found.old.items cursor.old result found.new.items cursor.new }
     ensures fewer { IfOk result (λ left. left ≤ others) }
 {
     let (value, token) = any_of_type(cursor, t)?;
@@ -84,13 +84,14 @@ pub fn numbers(
     cursor: &mut Cursor<'_>,
     t: ElemType,
     n: usize,
-    mut found: Items<i64>,
+    found: Items<i64>,
 ) -> Result<Items<i64>, NativeFail>
     ensures { Reads ((spec.counted (spec.bounded (lowest t) (highest t)) n found).read cursor.old) result cursor.new }
 {
+    let mut values = found.into_vec();
     let mut left = n;
     while left > 0 {
-        left = some_numbers(cursor, t, left - 1, &mut found)?;
+        left = some_numbers(cursor, t, left - 1, &mut values)?;
     }
-    Ok(found)
+    Ok(Items::from_vec(values))
 }

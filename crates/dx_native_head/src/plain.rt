@@ -1,17 +1,21 @@
 //! Runs of numbers that few digits spell, behind a minus or not: read in one pass over their bytes.
 
-ghost use Rattle.std.specs.Prelude.{◌≡◌, ◌+◌, ◌<◌, ◌≤◌, ◌^◌, Ok, true, false, length, IfOk, IfSome};
+ghost use Rattle.std.specs.Prelude.{◌≡◌, ◌+◌, ◌<◌, ◌≤◌, ◌^◌, Ok, true, false, take, length, IfOk, IfSome};
 ghost use Rattle.dx_base.specs.Elem.{lowest, highest};
 ghost use Rattle.dx_base.specs.Number as base;
 ghost use Rattle.dx_native_lex.specs.Plain as plain;
 ghost use Rattle.dx_native_lex.specs.Scan as scan;
 ghost use Rattle.dx_native_lex.specs.Token as token_spec;
 ghost use Rattle.dx_native_grammar.specs.Grammar as spec;
+ghost use Rattle.dx_native_head.specs.Many.{AreNext};
 
 use crate::bounds::bounds_fault;
-use dx_base::{ElemType, Items};
+use dx_base::ElemType;
 use dx_native_lex::Number;
 use std::alloc::AllocError;
+
+/// How many numbers are read before they join those found.
+const BLOCK: usize = 64;
 
 fn is_white(b: u8) -> bool
     ensures { result ≡ scan.is_white b }
@@ -139,30 +143,64 @@ fn plain_of_type(offset: u64, text: &[u8], t: ElemType) -> Option<(i64, u64, &[u
     Some((number.value, end, after))
 }
 
+/// Puts the numbers that come next into a block, as long as they are plain and of the type, and at most so many: how many
+/// they are, and the place behind them.
+#[tactic(auto, using(crate::proofs::ManyLaws::next_one))]
+fn plain_block<'a>(
+    offset: u64,
+    text: &'a [u8],
+    t: ElemType,
+    n: usize,
+    block: &mut [i64],
+) -> (usize, u64, &'a [u8])
+    requires within { offset + length text.now < 2 ^ 63 }
+    requires room { n ≤ length block.old }
+    ensures next { AreNext (spec.bounded (lowest t) (highest t)) (take result.0 block.new) (record { offset = offset; rest = text.now }) (record { offset = result.1; rest = result.2.now }) }
+    ensures many { result.0 ≤ n }
+    ensures len { length block.new ≡ length block.old }
+    ensures within { result.1 + length result.2.now < 2 ^ 63 }
+{
+    let mut count = 0;
+    let mut at = offset;
+    let mut rest = text;
+    while count < n {
+        let Some((value, end, after)) = plain_of_type(at, rest, t) else {
+            break;
+        };
+        block[count] = value;
+        count += 1;
+        at = end;
+        rest = after;
+    }
+    (count, at, rest)
+}
+
 /// Puts the numbers that come next behind those found, as long as they are plain and of the type, and at most so many: how
 /// many are left then, and the place behind them.
-#[tactic(auto, using(crate::proofs::ManyLaws::found_some))]
+#[tactic(auto, using(crate::proofs::ManyLaws::some_more))]
 pub(crate) fn plain_numbers<'a>(
     offset: u64,
     text: &'a [u8],
     t: ElemType,
     n: usize,
-    found: &mut Items<i64>,
+    found: &mut Vec<i64>,
 ) -> Result<(usize, u64, &'a [u8]), AllocError>
     requires { offset + length text.now < 2 ^ 63 }
-    ensures read { IfOk result (λ x. (spec.counted (spec.bounded (lowest t) (highest t)) n found.old).read (record { offset = offset; rest = text.now }) ≡ (spec.counted (spec.bounded (lowest t) (highest t)) x.0 found.new).read (record { offset = x.1; rest = x.2.now })) }
+    ensures read { IfOk result (λ x. (spec.counted (spec.bounded (lowest t) (highest t)) n found.old.items).read (record { offset = offset; rest = text.now }) ≡ (spec.counted (spec.bounded (lowest t) (highest t)) x.0 found.new.items).read (record { offset = x.1; rest = x.2.now })) }
     ensures fewer { IfOk result (λ x. x.0 ≤ n) }
     ensures within { IfOk result (λ x. x.1 + length x.2.now < 2 ^ 63) }
 {
+    let mut block = [0; BLOCK];
     let mut left = n;
     let mut at = offset;
     let mut rest = text;
     while left > 0 {
-        let Some((value, end, after)) = plain_of_type(at, rest, t) else {
+        let (count, end, after) = plain_block(at, rest, t, left.min(BLOCK), &mut block);
+        if count == 0 {
             break;
-        };
-        found.push(value)?;
-        left -= 1;
+        }
+        found.extend_from_slice(&block[..count])?;
+        left -= count;
         at = end;
         rest = after;
     }
