@@ -7,7 +7,8 @@ ghost use Rattle.dx_native_grammar.specs.Grammar as spec;
 ghost use Rattle.dx_native_grammar.specs.Words as words;
 
 use crate::array_head::is_word;
-use crate::bounds::{numbers, refused};
+use crate::bounds::refused;
+use crate::many::numbers;
 use dx_arrays::ElemType;
 use dx_base::{Items, NativeKind};
 use dx_native_lex::{Cursor, Kind, Lexeme, NativeFail, number_of};

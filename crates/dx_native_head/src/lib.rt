@@ -5,7 +5,10 @@
 mod array_head;
 mod bounds;
 mod data;
+mod many;
+mod plain;
 
 pub use array_head::head;
-pub use bounds::{int, natural, numbers, refused};
+pub use bounds::{int, natural, refused};
 pub use data::values;
+pub use many::numbers;

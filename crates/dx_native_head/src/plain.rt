@@ -1,0 +1,208 @@
+//! Runs of numbers that few digits spell, behind a minus or not: read in one pass over their bytes.
+
+ghost use Rattle.std.specs.Prelude.{◌≡◌, ◌+◌, ◌<◌, ◌≤◌, ◌^◌, Ok, true, false, take, length, IfOk, IfSome};
+ghost use Rattle.dx_base.specs.Elem.{lowest, highest};
+ghost use Rattle.dx_base.specs.Number as base;
+ghost use Rattle.dx_native_lex.specs.Plain as plain;
+ghost use Rattle.dx_native_lex.specs.Scan as scan;
+ghost use Rattle.dx_native_lex.specs.Token as token_spec;
+ghost use Rattle.dx_native_grammar.specs.Grammar as spec;
+ghost use Rattle.dx_native_head.specs.Many.{AreNext};
+
+use crate::bounds::bounds_fault;
+use dx_base::ElemType;
+use dx_native_lex::Number;
+use std::alloc::AllocError;
+
+/// How many numbers are read before they join those found.
+const BLOCK: usize = 64;
+
+fn is_white(b: u8) -> bool
+    ensures { result ≡ scan.is_white b }
+{
+    matches!(b, b' ' | b'\t' | b'\r' | b'\n' | b',')
+}
+
+/// Where white space ends, and what is left there. None where a comment begins.
+#[tactic(auto, unfolding(dx_native_lex::specs::Scan::unblanked))]
+fn unblanked(offset: u64, text: &[u8]) -> Option<(u64, &[u8])>
+    requires { offset + length text.now < 2 ^ 63 }
+    ensures place { IfSome result (λ x. scan.unblanked false offset text.now ≡ record { offset = x.0; rest = x.1.now }) }
+    ensures within { IfSome result (λ x. x.0 + length x.1.now < 2 ^ 63) }
+{
+    let mut at = offset;
+    let mut rest = text;
+    while let [b, after @ ..] = rest {
+        let b = *b;
+        if b == b'#' {
+            return None;
+        }
+        if !is_white(b) {
+            break;
+        }
+        at += 1;
+        rest = after;
+    }
+    Some((at, rest))
+}
+
+/// Whether a minus comes first, and what is behind it.
+fn unsigned(text: &[u8]) -> (bool, &[u8])
+    ensures minus { result.0 ≡ plain.is_negative text.now }
+    ensures behind { result.1.now ≡ plain.unsigned text.now }
+    ensures within { length result.1.now ≤ length text.now }
+{
+    match text {
+        [] => (false, text),
+        [b, rest @ ..] => {
+            if *b == b'-' {
+                (true, rest)
+            } else {
+                (false, text)
+            }
+        }
+    }
+}
+
+fn ends_word(text: &[u8]) -> bool
+    ensures { result ≡ plain.ends_word text.now }
+{
+    match text {
+        [] => true,
+        [b, ..] => is_white(*b) || *b == b'"' || *b == b'#',
+    }
+}
+
+/// The number of the digits in front, how many they are, and what is behind them. None where there are none or may be more
+/// than 18, and where more of the word is behind them.
+#[tactic(auto, unfolding(dx_native_lex::specs::Plain::run))]
+fn digit_run(text: &[u8]) -> Option<(u64, usize, &[u8])>
+    ensures run { IfSome result (λ x. plain.run 0 text.now ≡ (x.0, x.2.now)) }
+    ensures len { IfSome result (λ x. x.1 + length x.2.now ≡ length text.now) }
+    ensures some { IfSome result (λ x. 0 < x.1) }
+    ensures ends { IfSome result (λ x. plain.ends_word x.2.now ≡ true) }
+    ensures small { IfSome result (λ x. x.0 ≤ 999999999999999999) }
+{
+    let mut n: u64 = 0;
+    let mut len: usize = 0;
+    let mut rest = text;
+    while let [b, after @ ..] = rest {
+        let b = *b;
+        if !b.is_ascii_digit() {
+            break;
+        }
+        if n >= 100_000_000_000_000_000 {
+            return None;
+        }
+        n = 10 * n + u64::from(b - b'0');
+        len += 1;
+        rest = after;
+    }
+    if len == 0 || !ends_word(rest) {
+        return None;
+    }
+    Some((n, len, rest))
+}
+
+/// The number of digits, negated or not.
+fn valued(negative: bool, n: u64) -> i64
+    requires { n ≤ 999999999999999999 }
+    ensures { result ≡ base.nearest_i64 (base.signed negative n) }
+{
+    let z = n as i64;
+    if negative { -z } else { z }
+}
+
+/// The number that comes next, with the place behind it, where few digits spell it, behind a minus or not. None says
+/// nothing.
+fn plain_number(offset: u64, text: &[u8]) -> Option<(Number, u64, &[u8])>
+    requires { offset + length text.now < 2 ^ 63 }
+    ensures read { IfSome result (λ x. token_spec.number.read (record { offset = offset; rest = text.now }) ≡ Ok (x.0, record { offset = x.1; rest = x.2.now })) }
+    ensures within { IfSome result (λ x. x.1 + length x.2.now < 2 ^ 63) }
+{
+    let (at, rest) = unblanked(offset, text)?;
+    let (negative, digits) = unsigned(rest);
+    let (n, len, after) = digit_run(digits)?;
+    let _some = len;
+    let value = valued(negative, n);
+    let end = at + (rest.len() - after.len()) as u64;
+    Some((Number { value, at }, end, after))
+}
+
+/// The same, where it is of the type.
+#[tactic(auto, using(crate::proofs::ManyLaws::within_bounds))]
+fn plain_of_type(offset: u64, text: &[u8], t: ElemType) -> Option<(i64, u64, &[u8])>
+    requires { offset + length text.now < 2 ^ 63 }
+    ensures read { IfSome result (λ x. (spec.bounded (lowest t) (highest t)).read (record { offset = offset; rest = text.now }) ≡ Ok (x.0, record { offset = x.1; rest = x.2.now })) }
+    ensures within { IfSome result (λ x. x.1 + length x.2.now < 2 ^ 63) }
+{
+    let (number, end, after) = plain_number(offset, text)?;
+    if bounds_fault(t.lowest(), t.highest(), number).is_some() {
+        return None;
+    }
+    Some((number.value, end, after))
+}
+
+/// Puts the numbers that come next into a block, as long as they are plain and of the type, and at most so many: how many
+/// they are, and the place behind them.
+#[tactic(auto, using(crate::proofs::ManyLaws::next_one))]
+fn plain_block<'a>(
+    offset: u64,
+    text: &'a [u8],
+    t: ElemType,
+    n: usize,
+    block: &mut [i64],
+) -> (usize, u64, &'a [u8])
+    requires within { offset + length text.now < 2 ^ 63 }
+    requires room { n ≤ length block.old }
+    ensures next { AreNext (spec.bounded (lowest t) (highest t)) (take result.0 block.new) (record { offset = offset; rest = text.now }) (record { offset = result.1; rest = result.2.now }) }
+    ensures many { result.0 ≤ n }
+    ensures len { length block.new ≡ length block.old }
+    ensures within { result.1 + length result.2.now < 2 ^ 63 }
+{
+    let mut count = 0;
+    let mut at = offset;
+    let mut rest = text;
+    while count < n {
+        let Some((value, end, after)) = plain_of_type(at, rest, t) else {
+            break;
+        };
+        block[count] = value;
+        count += 1;
+        at = end;
+        rest = after;
+    }
+    (count, at, rest)
+}
+
+/// Puts the numbers that come next behind those found, as long as they are plain and of the type, and at most so many: how
+/// many are left then, and the place behind them.
+#[tactic(auto, using(crate::proofs::ManyLaws::some_more))]
+pub(crate) fn plain_numbers<'a>(
+    offset: u64,
+    text: &'a [u8],
+    t: ElemType,
+    n: usize,
+    found: &mut Vec<i64>,
+) -> Result<(usize, u64, &'a [u8]), AllocError>
+    requires { offset + length text.now < 2 ^ 63 }
+    ensures read { IfOk result (λ x. (spec.counted (spec.bounded (lowest t) (highest t)) n found.old.items).read (record { offset = offset; rest = text.now }) ≡ (spec.counted (spec.bounded (lowest t) (highest t)) x.0 found.new.items).read (record { offset = x.1; rest = x.2.now })) }
+    ensures fewer { IfOk result (λ x. x.0 ≤ n) }
+    ensures within { IfOk result (λ x. x.1 + length x.2.now < 2 ^ 63) }
+{
+    let mut block = [0; BLOCK];
+    let mut left = n;
+    let mut at = offset;
+    let mut rest = text;
+    while left > 0 {
+        let (count, end, after) = plain_block(at, rest, t, left.min(BLOCK), &mut block);
+        if count == 0 {
+            break;
+        }
+        found.extend_from_slice(&block[..count])?;
+        left -= count;
+        at = end;
+        rest = after;
+    }
+    Ok((left, at, rest))
+}
