@@ -28,7 +28,8 @@ fn is_white(b: u8) -> bool
 fn unblanked(offset: u64, text: &[u8]) -> Option<(u64, &[u8])>
     requires { offset + length text.now < 2 ^ 63 }
     ensures place { IfSome result (λ x. scan.unblanked false offset text.now ≡ record { offset = x.0; rest = x.1.now }) }
-    ensures within { IfSome result (λ x. x.0 + length x.1.now < 2 ^ 63) }
+    ensures sum { IfSome result (λ x. x.0 + length x.1.now ≡ offset + length text.now) }
+    ensures within { IfSome result (λ x. length x.1.now ≤ length text.now) }
 {
     let mut at = offset;
     let mut rest = text;
@@ -118,7 +119,8 @@ fn valued(negative: bool, n: u64) -> i64
 fn plain_number(offset: u64, text: &[u8]) -> Option<(Number, u64, &[u8])>
     requires { offset + length text.now < 2 ^ 63 }
     ensures read { IfSome result (λ x. token_spec.number.read (record { offset = offset; rest = text.now }) ≡ Ok (x.0, record { offset = x.1; rest = x.2.now })) }
-    ensures within { IfSome result (λ x. x.1 + length x.2.now < 2 ^ 63) }
+    ensures sum { IfSome result (λ x. x.1 + length x.2.now ≡ offset + length text.now) }
+    ensures within { IfSome result (λ x. length x.2.now ≤ length text.now) }
 {
     let (at, rest) = unblanked(offset, text)?;
     let (negative, digits) = unsigned(rest);
@@ -134,7 +136,8 @@ fn plain_number(offset: u64, text: &[u8]) -> Option<(Number, u64, &[u8])>
 fn plain_of_type(offset: u64, text: &[u8], t: ElemType) -> Option<(i64, u64, &[u8])>
     requires { offset + length text.now < 2 ^ 63 }
     ensures read { IfSome result (λ x. (spec.bounded (lowest t) (highest t)).read (record { offset = offset; rest = text.now }) ≡ Ok (x.0, record { offset = x.1; rest = x.2.now })) }
-    ensures within { IfSome result (λ x. x.1 + length x.2.now < 2 ^ 63) }
+    ensures sum { IfSome result (λ x. x.1 + length x.2.now ≡ offset + length text.now) }
+    ensures within { IfSome result (λ x. length x.2.now ≤ length text.now) }
 {
     let (number, end, after) = plain_number(offset, text)?;
     if bounds_fault(t.lowest(), t.highest(), number).is_some() {
@@ -161,18 +164,19 @@ fn plain_block<'a>(
     ensures within { result.1 + length result.2.now < 2 ^ 63 }
 {
     let mut count = 0;
-    let mut at = offset;
     let mut rest = text;
     while count < n {
-        let Some((value, end, after)) = plain_of_type(at, rest, t) else {
+        // What is left tells the offset, so that the loop has none to keep.
+        let at = offset + (text.len() - rest.len()) as u64;
+        let Some((value, _end, after)) = plain_of_type(at, rest, t) else {
             break;
         };
         block[count] = value;
         count += 1;
-        at = end;
         rest = after;
     }
-    (count, at, rest)
+    let end = offset + (text.len() - rest.len()) as u64;
+    (count, end, rest)
 }
 
 /// Puts the numbers that come next behind those found, as long as they are plain and of the type, and at most so many: how
