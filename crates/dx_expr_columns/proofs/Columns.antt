@@ -77,11 +77,12 @@ pub each_all : {A : Type 0} (f : A → Outcome ℤ) (d : A) (v : ℕ → ℤ) (l
 each_all f d v [] h = ([], refl, refl, λ i below. absurd (omega arith))
 each_all {A} f d v (a ∷ l) h =
     let rest = each_all f d (λ i. v (suc i)) l (λ i below. h (suc i) (omega arith)) in
-    let n : length rest.0 ≡ length l = rest.2 in
-    (v 0 ∷ rest.0,
-     ap (λ (o : Outcome ℤ). o >>= λ x. each f l >>= λ xs. Ok (x ∷ xs)) (h 0 (omega arith)) ∙ ap (λ (o : Outcome Values). o >>= λ xs. Ok (v 0 ∷ xs)) rest.1,
-     ap suc n,
-     places_of rest.0 rest.3)
+    let n : length rest.0 ≡ length l = rest.2 in (
+      v 0 ∷ rest.0,
+      ap (λ (o : Outcome ℤ). o >>= λ x. each f l >>= λ xs. Ok (x ∷ xs)) (h 0 (omega arith)) ∙ ap (λ (o : Outcome Values). o >>= λ xs. Ok (v 0 ∷ xs)) rest.1,
+      ap suc n,
+      places_of rest.0 rest.3,
+    )
   where
     places_of : (ws : Values) → ((i : ℕ) → i < length l → slice_index_or ws i (pos 0) ≡ v (suc i)) → (i : ℕ) → i < suc (length l) → slice_index_or (v 0 ∷ ws) i (pos 0) ≡ v i
     places_of ws g zero below = refl
@@ -272,7 +273,7 @@ module _ (inputs : Inputs) (item n : ℕ) (some : 1 ≤ n) where
         let t = shape_from (unary_shape o) (S a) s (sym (shape_unary inputs.shape o a) ∙ is) in
         let fa = unary_fits n o t.0 s t.2 f in
         let one : (j : ℕ) → j < n → Has (V (C a j)) (got (V (C a j))) × (unary_value o (got (V (C a j))) ≡ Ok (v j)) =
-            λ j below. unary_one (unary_value o) (V (C a j)) (v j) (is_one (C a j) (law.singles t.0 t.1 fa j below)) (sym (value_unary inputs item o (C a j)) ∙ sym (ap V (column_unary inputs.shape j o a)) ∙ each j below) in
+        λ j below. unary_one (unary_value o) (V (C a j)) (v j) (is_one (C a j) (law.singles t.0 t.1 fa j below)) (sym (value_unary inputs item o (C a j)) ∙ sym (ap V (column_unary inputs.shape j o a)) ∙ each j below) in
         let found = law.values t.0 t.1 fa (λ j. got (V (C a j))) (λ j below. (one j below).0) in
         by found.0 (count_of a t.0 found.0 t.1 fa found.1) found.1 v (λ j below. ap (unary_value o) (found.2 j below) ∙ (one j below).1);
   }
@@ -280,9 +281,11 @@ module _ (inputs : Inputs) (item n : ℕ) (some : 1 ≤ n) where
       by : (xs : Values) → (length xs ≡ 1) ⊎ (length xs ≡ n) → V a ≡ Ok xs → (v : ℕ → ℤ) → ((j : ℕ) → j < n → unary_value o (value_at xs j) ≡ Ok (v j)) → All (e.Unary o a) v
       by xs count is v each =
           let le = within (length xs) count in
-          let r = each_all (unary_value o) (pos 0) v xs (λ i below. ap (unary_value o) (sym (own_place xs i below)) ∙ each i (omega (arith, le, below))) in
-          (r.0, value_unary inputs item o a ∙ ap (λ o'. o' >>= each_of) is ∙ r.1,
-           collected (length xs) (λ j. unary_value o (value_at xs j)) v r.0 count each (λ one j. ap (unary_value o) (any_place xs j 0 one)) r.2 r.3)
+          let r = each_all (unary_value o) (pos 0) v xs (λ i below. ap (unary_value o) (sym (own_place xs i below)) ∙ each i (omega (arith, le, below))) in (
+            r.0,
+            value_unary inputs item o a ∙ ap (λ o'. o' >>= each_of) is ∙ r.1,
+            collected (length xs) (λ j. unary_value o (value_at xs j)) v r.0 count each (λ one j. ap (unary_value o) (any_place xs j 0 one)) r.2 r.3,
+          )
         where
           each_of : Values → Outcome Values
           each_of vs = Rattle.dx_expr.specs.Value.each (unary_value o) vs
@@ -301,9 +304,11 @@ module _ (inputs : Inputs) (item n : ℕ) (some : 1 ≤ n) where
         let m = places xs ys in
         let le = within m count in
         let len : length (range_with_len 0 m) ≡ m = range_length 0 m in
-        let r = each_all f 0 v (range_with_len 0 m) (λ i below. ap f (range_at 0 m i 0 (omega (arith, len, below)) ∙ (let z : 0 + i ≡ i = omega arith in z)) ∙ each_j i (omega (arith, le, len, below))) in
-        (r.0, value_both a b ∙ ap (λ (p : Outcome Values). p >>= λ x. V b >>= λ y. side_by_side (binary_value o) x y) is_x ∙ ap (λ (q : Outcome Values). q >>= λ y. side_by_side (binary_value o) xs y) is_y ∙ r.1,
-         collected m f v r.0 count each_j (λ h j. ap (λ z. binary_value o z (value_at ys j)) (any_place xs j 0 (one h).0) ∙ ap (λ z. binary_value o (value_at xs 0) z) (any_place ys j 0 (one h).1)) (r.2 ∙ len) (λ i below. r.3 i (omega (arith, len, below))))
+        let r = each_all f 0 v (range_with_len 0 m) (λ i below. ap f (range_at 0 m i 0 (omega (arith, len, below)) ∙ (let z : 0 + i ≡ i = omega arith in z)) ∙ each_j i (omega (arith, le, len, below))) in (
+          r.0,
+          value_both a b ∙ ap (λ (p : Outcome Values). p >>= λ x. V b >>= λ y. side_by_side (binary_value o) x y) is_x ∙ ap (λ (q : Outcome Values). q >>= λ y. side_by_side (binary_value o) xs y) is_y ∙ r.1,
+          collected m f v r.0 count each_j (λ h j. ap (λ z. binary_value o z (value_at ys j)) (any_place xs j 0 (one h).0) ∙ ap (λ z. binary_value o (value_at xs 0) z) (any_place ys j 0 (one h).1)) (r.2 ∙ len) (λ i below. r.3 i (omega (arith, len, below))),
+        )
 
     places_count : (xs ys : Values) → (length xs ≡ 1) ⊎ (length xs ≡ n) → (length ys ≡ 1) ⊎ (length ys ≡ n) → (places xs ys ≡ 1) ⊎ (places xs ys ≡ n)
     places_count xs ys cx cy = by (length xs == 1)
@@ -337,22 +342,22 @@ module _ (inputs : Inputs) (item n : ℕ) (some : 1 ≤ n) where
         by : (p q : Shape) → S a ≡ Some p → S b ≡ Some q → Fits n p → Fits n q → (v : ℕ → ℤ) → Each (e.Binary o a b) v → All (e.Binary o a b) v
         by p q is_p is_q fp fq v each_j =
             let one : (j : ℕ) → j < n → Has (V (C a j)) (got (V (C a j))) × Has (V (C b j)) (got (V (C b j))) × (binary_value o (got (V (C a j))) (got (V (C b j))) ≡ Ok (v j)) =
-                λ j below. both_one (binary_value o) (V (C a j)) (V (C b j)) (v j) (is_one (C a j) (left.singles p is_p fp j below)) (is_one (C b j) (right.singles q is_q fq j below)) (sym (value_both (C a j) (C b j)) ∙ sym (ap V (column_both j)) ∙ each_j j below) in
+            λ j below. both_one (binary_value o) (V (C a j)) (V (C b j)) (v j) (is_one (C a j) (left.singles p is_p fp j below)) (is_one (C b j) (right.singles q is_q fq j below)) (sym (value_both (C a j) (C b j)) ∙ sym (ap V (column_both j)) ∙ each_j j below) in
             let xs = left.values p is_p fp (λ j. got (V (C a j))) (λ j below. (one j below).0) in
             let ys = right.values q is_q fq (λ j. got (V (C b j))) (λ j below. (one j below).1) in
             let cx = count_of a p xs.0 is_p fp xs.1 in
             let cy = count_of b q ys.0 is_q fq ys.1 in
             both_by xs.0 ys.0 cx cy (places_count xs.0 ys.0 cx cy) (places_one xs.0 ys.0) xs.1 ys.1 v
-                (λ j below. ap (λ z. binary_value o z (value_at ys.0 j)) (xs.2 j below) ∙ ap (binary_value o (got (V (C a j)))) (ys.2 j below) ∙ (one j below).2)
+            (λ j below. ap (λ z. binary_value o z (value_at ys.0 j)) (xs.2 j below) ∙ ap (binary_value o (got (V (C a j)))) (ys.2 j below) ∙ (one j below).2)
 
   -- an operator that isn't by value is its own component
   single_sides : (o : Binary) (a b : Expression) (k : Sides) → sides_of o ≡ k → (sides_of o ≡ sides.Both → ⊥) → ((x : Expression) → where_by_value k x (e.Binary o a b) ≡ e.Binary o a b) → Law (e.Binary o a b)
   single_sides o a b k is other whole = itself (e.Binary o a b)
       (λ j. column_binary inputs.shape j o a b ∙ ap (λ s. where_by_value s (e.Binary o (C a j) (C b j)) (e.Binary o a b)) is ∙ whole (e.Binary o (C a j) (C b j)))
       (λ s fits.
-        let t = shape_from (λ x. with_one (binary_shape o x) (S b)) (S a) s (sym (shape_binary inputs.shape o a b) ∙ fits) in
-        let u = shape_from (binary_shape o t.0) (S b) s t.2 in
-        other_shape o t.0 u.0 s other u.2)
+      let t = shape_from (λ x. with_one (binary_shape o x) (S b)) (S a) s (sym (shape_binary inputs.shape o a b) ∙ fits) in
+      let u = shape_from (binary_shape o t.0) (S b) s t.2 in
+      other_shape o t.0 u.0 s other u.2)
 
   by_sides : (k : Sides) (o : Binary) (a b : Expression) → sides_of o ≡ k → Law a → Law b → Law (e.Binary o a b)
   by_sides sides.Both o a b k left right = both_law o a b k left right
@@ -370,10 +375,10 @@ module _ (inputs : Inputs) (item n : ℕ) (some : 1 ≤ n) where
     values = λ s is f v each_j.
         let t = shapes s is in
         let at : (j : ℕ) → j < n → (V c >>= λ x. if is_zero (the_value x) then V (C b j) else V (C a j)) ≡ Ok (v j ∷ []) =
-            λ j below. sym (value_choice inputs item c (C a j) (C b j)) ∙ sym (ap V (column_choice inputs.shape j c a b)) ∙ each_j j below in
+        λ j below. sym (value_choice inputs item c (C a j) (C b j)) ∙ sym (ap V (column_choice inputs.shape j c a b)) ∙ each_j j below in
         let r = made_of (V c) (λ x. if is_zero (the_value x) then V (C b 0) else V (C a 0)) (v 0 ∷ []) (at 0 (omega arith)) in
         let there : (j : ℕ) → j < n → (if is_zero (the_value r.0) then V (C b j) else V (C a j)) ≡ Ok (v j ∷ []) =
-            λ j below. sym (ap (λ (o : Outcome Values). o >>= λ x. if is_zero (the_value x) then V (C b j) else V (C a j)) r.1) ∙ at j below in
+        λ j below. sym (ap (λ (o : Outcome Values). o >>= λ x. if is_zero (the_value x) then V (C b j) else V (C a j)) r.1) ∙ at j below in
         let found = by (is_zero (the_value r.0)) s t.1 t.2 f v there in
         (found.0, value_choice inputs item c a b ∙ ap (λ (o : Outcome Values). o >>= λ x. if is_zero (the_value x) then V b else V a) r.1 ∙ found.1, found.2);
   }
@@ -405,7 +410,7 @@ module _ (inputs : Inputs) (item n : ℕ) (some : 1 ≤ n) where
             ∙ ap single_if (lt-ltb j n below);
         values = λ s is f v each_j.
             let at : (j : ℕ) → j < n → (V (e.Input k) >>= λ x. alone (slice_index_or x j (pos 0))) ≡ Ok (v j ∷ []) =
-                λ j below. sym (value_part inputs item (e.Input k) j) ∙ sym (ap V (column j)) ∙ each_j j below in
+            λ j below. sym (value_part inputs item (e.Input k) j) ∙ sym (ap V (column j)) ∙ each_j j below in
             let r = made_of (V (e.Input k)) (λ x. alone (slice_index_or x 0 (pos 0))) (v 0 ∷ []) (at 0 (omega arith)) in
             let len : length r.0 ≡ n * 1 = value_count inputs item (e.Input k) (n ∷ []) r.0 (shape_input inputs.shape k ∙ ap (λ l. Some l) (vector s is f)) r.1 in
             (r.0, r.1, λ j below. own_place r.0 j (omega (arith, len, below)) ∙ alone_is (slice_index_or r.0 j (pos 0)) (v j) (sym (ap (λ (o : Outcome Values). o >>= λ x. alone (slice_index_or x j (pos 0))) r.1) ∙ at j below));
@@ -423,11 +428,12 @@ module _ (inputs : Inputs) (item n : ℕ) (some : 1 ≤ n) where
       (vs : Values) × (joined (map (value_of inputs item) parts) ≡ Ok vs) × (length vs ≡ length parts) × ((i : ℕ) → i < length parts → slice_index_or vs i (pos 0) ≡ v i)
   joined_all [] v h = ([], refl, refl, λ i below. absurd (omega arith))
   joined_all (a ∷ parts) v h =
-      let rest = joined_all parts (λ i. v (suc i)) (λ i below. h (suc i) (omega arith)) in
-      (v 0 ∷ rest.0,
-       ap (λ (o : Outcome Values). o >>= λ x. joined (map (value_of inputs item) parts) >>= λ xs. Ok (x ++ xs)) (h 0 (omega arith)) ∙ ap (λ (o : Outcome Values). o >>= λ xs. Ok (v 0 ∷ xs)) rest.1,
-       ap suc rest.2,
-       places_of rest.0 rest.3)
+      let rest = joined_all parts (λ i. v (suc i)) (λ i below. h (suc i) (omega arith)) in (
+        v 0 ∷ rest.0,
+        ap (λ (o : Outcome Values). o >>= λ x. joined (map (value_of inputs item) parts) >>= λ xs. Ok (x ++ xs)) (h 0 (omega arith)) ∙ ap (λ (o : Outcome Values). o >>= λ xs. Ok (v 0 ∷ xs)) rest.1,
+        ap suc rest.2,
+        places_of rest.0 rest.3,
+      )
     where
       places_of : (ws : Values) → ((i : ℕ) → i < length parts → slice_index_or ws i (pos 0) ≡ v (suc i)) → (i : ℕ) → i < suc (length parts) → slice_index_or (v 0 ∷ ws) i (pos 0) ≡ v i
       places_of ws g zero below = refl

@@ -20,18 +20,11 @@ fn column_of_input<I: Inputs>(
     if inputs.extents(k).is_empty() {
         return Ok(Expression::Input(k));
     }
-    Ok(Expression::Part(
-        Boxed::new(alloc, Expression::Input(k))?,
-        place,
-    ))
+    Ok(Expression::Part(Boxed::new(alloc, Expression::Input(k))?, place))
 }
 
 /// One of a vector's parts.
-fn column_of_parts(
-    alloc: Global,
-    parts: &[Expression],
-    place: u8,
-) -> Result<Expression, AllocError>
+fn column_of_parts(alloc: Global, parts: &[Expression], place: u8) -> Result<Expression, AllocError>
     ensures { IfOk result (λ found. found ≡ spec.part_at parts.now place) }
 {
     match parts.get(usize::from(place)) {

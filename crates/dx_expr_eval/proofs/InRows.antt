@@ -100,8 +100,8 @@ module _ (inputs : Inputs) (e : Expression) (columns : List Expression) (are : A
       let first = row_values from values (omega (arith, n)) (λ j below. ap (λ k. value_of inputs k (part_at columns j)) (omega arith) ∙ h 0 j (omega arith) below ∙ ap (λ k. Ok (slice_index_or values k (pos 0) ∷ [])) (omega arith)) in
       let dropped : length (drop w values) ≡ count * w = length-drop w values ∙ (omega (arith, n)) in
       let rest = rows_joined (from + 1) count (drop w values) dropped (λ i j below in_row.
-          ap (λ k. value_of inputs k (part_at columns j)) (omega arith) ∙ h (suc i) j (omega arith) in_row
-          ∙ ap (λ k. Ok (slice_index_or values k (pos 0) ∷ [])) (row_next i w j) ∙ ap (λ v. Ok (v ∷ [])) (sym (get_or-drop w values (i * w + j) (pos 0)))) in
+      ap (λ k. value_of inputs k (part_at columns j)) (omega arith) ∙ h (suc i) j (omega arith) in_row
+      ∙ ap (λ k. Ok (slice_index_or values k (pos 0) ∷ [])) (row_next i w j) ∙ ap (λ v. Ok (v ∷ [])) (sym (get_or-drop w values (i * w + j) (pos 0)))) in
       ap (λ (o : Outcome Values). o >>= λ x. joined (map V (range_with_len (from + 1) count)) >>= λ xs. Ok (x ++ xs)) first
       ∙ ap (λ (o : Outcome Values). o >>= λ xs. Ok (take w values ++ xs)) rest ∙ ap (λ l. Ok l) (take-append-drop w values)
 

@@ -51,9 +51,7 @@ fn goes_by_columns(e: &Expression) -> bool {
         Expression::Binary(Binary::Dot, _, _) => false,
         Expression::Binary(_, a, b) => goes_by_columns(a.get()) && goes_by_columns(b.get()),
         Expression::Choice(condition, a, b) => {
-            goes_by_columns(condition.get())
-                && goes_by_columns(a.get())
-                && goes_by_columns(b.get())
+            goes_by_columns(condition.get()) && goes_by_columns(a.get()) && goes_by_columns(b.get())
         }
         Expression::Part(a, _) => is_input(a.get()),
     }

@@ -9,9 +9,11 @@ component_rows-requires-clause-singles g c = columns_single (g.I.Inputs.given c.
 
 pub returns-then-found-to : goal.returns-then-found-to
 returns-then-found-to g c =
-    let found = c.in_ok-found.found in
-    (omega (arith, c.if-found-to.true, c.requires.order), c.in_ok-found.ensures.count,
-     rows_joined (g.I.Inputs.given c.args.inputs.now) c.args.e.now c.args.columns.now c.requires.columns c.args.from found.count found.values.items c.in_ok-found.ensures.length c.in_ok-found.ensures.values)
+    let found = c.in_ok-found.found in (
+      omega (arith, c.if-found-to.true, c.requires.order),
+      c.in_ok-found.ensures.count,
+      rows_joined (g.I.Inputs.given c.args.inputs.now) c.args.e.now c.args.columns.now c.requires.columns c.args.from found.count found.values.items c.in_ok-found.ensures.length c.in_ok-found.ensures.values,
+    )
 
 pub returns-in_err-values : goal.returns-in_err-values
 returns-in_err-values g c =
@@ -28,6 +30,8 @@ returns g c =
     let found = c.in_ok-found.found in
     let vs = c.in_ok-values.values in
     let rows = rows_joined inputs c.args.e.now c.args.columns.now c.requires.columns c.args.from found.count found.values.items c.in_ok-found.ensures.length c.in_ok-found.ensures.values in
-    let added : c.extend_from_slice.new.self.items ≡ found.values.items ++ vs = c.in_ok-extend_from_slice.ensures.items ∙ ap (λ l. found.values.items ++ l) c.as_slice.ensures in
-    (omega arith, omega (arith, c.if-found-to.false, c.in_ok-found.ensures.count),
-     item_more inputs c.args.e.now c.args.from found.count found.values.items vs rows c.in_ok-values.ensures.values ∙ ap (λ l. Ok l) (sym added))
+    let added : c.extend_from_slice.new.self.items ≡ found.values.items ++ vs = c.in_ok-extend_from_slice.ensures.items ∙ ap (λ l. found.values.items ++ l) c.as_slice.ensures in (
+      omega arith,
+      omega (arith, c.if-found-to.false, c.in_ok-found.ensures.count),
+      item_more inputs c.args.e.now c.args.from found.count found.values.items vs rows c.in_ok-values.ensures.values ∙ ap (λ l. Ok l) (sym added),
+    )

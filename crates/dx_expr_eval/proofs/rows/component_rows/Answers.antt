@@ -24,9 +24,9 @@ loop-place-preserved g c =
     let is : part_at columns place ≡ c.index-columns-place.result = sym (get_or_read columns place c.index-columns-place.result in_row c.index-columns-place.is (e.Number 0)) in
     let few = c.min-count.ensures in
     let have : HaveValues inputs columns (place + 1) c.args.from c.min-count.result w new =
-        rows_more inputs columns c.index-columns-place.result c.args.from (c.args.to - c.args.from) place c.loop-place.count c.min-count.result w (run_found found) old new is (ap (shape_of inputs.shape) (sym is) ∙ c.requires.singles place in_row) c.in_ok-found.ensures (omega (arith, few)) (omega (arith, few, c.len.ensures, found.values.ok.0)) in_row c.loop-place.invariant.values
-        (λ i below. c.place_column.ensures.column i below ∙ ap (λ l. slice_index_or l i (pos 0)) c.as_slice.ensures.value)
-        (λ i j below other. c.place_column.ensures.others i j below other ∙ ap (λ l. slice_index_or l (i * w + j) (pos 0)) c.as_mut_slice.ensures.value) in
+    rows_more inputs columns c.index-columns-place.result c.args.from (c.args.to - c.args.from) place c.loop-place.count c.min-count.result w (run_found found) old new is (ap (shape_of inputs.shape) (sym is) ∙ c.requires.singles place in_row) c.in_ok-found.ensures (omega (arith, few)) (omega (arith, few, c.len.ensures, found.values.ok.0)) in_row c.loop-place.invariant.values
+    (λ i below. c.place_column.ensures.column i below ∙ ap (λ l. slice_index_or l i (pos 0)) c.as_slice.ensures.value)
+    (λ i j below other. c.place_column.ensures.others i j below other ∙ ap (λ l. slice_index_or l (i * w + j) (pos 0)) c.as_mut_slice.ensures.value) in
     record {
       count = omega (arith, few, c.loop-place.invariant.count);
       size = ap length back ∙ same ∙ c.loop-place.invariant.size;
