@@ -1,6 +1,6 @@
 -- An expression of n values has its values where each of its components has one.
 use Rattle.std.proofs.Common.{◌≡◌, ℕ, zero, suc, ◌+◌, ◌*◌, ◌<◌, ◌≤◌, ℤ, pos, Bool, true, false, List, [], ◌∷◌, ◌++◌, ◌⊎◌, inl, inr, length, get_or, Option, Some, None, Ok, Err, refl, sym, ap, subst, ◌∙◌, arith}
-use Rattle.std.specs.Prelude.{map, nat_lt, ◌==◌, ◌||◌, ◌&&◌, if◌then◌else◌, slice_index_or}
+use Rattle.std.specs.Prelude.{map, ◌==◌, ◌||◌, ◌&&◌, if◌then◌else◌, slice_index_or}
 use Rattle.std.specs.List.{range_with_len}
 use Rattle.std.proofs.lemmas.Bool.{eqb-true, lt-ltb}
 use Rattle.dx_expr_grammar.specs.declared.tree.Unary.{Unary}
@@ -14,13 +14,13 @@ use Rattle.dx_expr_grammar.specs.declared.tree.Expression.TheVariants.{rolls-Num
 use Rattle.dx_expr_grammar.specs.declared.tree.Expression.TheOpen.{Expression-F}
 use Rattle.dx_expr.specs.declared.operators.Sides.{Sides}
 use Rattle.dx_expr.specs.declared.operators.Sides.TheVariants as sides
-use Rattle.dx_expr.specs.Shape.{Shape, shape_of, unary_shape, binary_shape, choice_shape, beside, single_if, is_single, is_single_one, is_vector, same_shape, has_part, with_one, with_two, all_single}
+use Rattle.dx_expr.specs.Shape.{Shape, shape_of, unary_shape, binary_shape, choice_shape, beside, single_if, is_single, is_vector, same_shape, has_part, with_one, with_two, all_single}
 use Rattle.dx_expr.specs.Value.{Inputs, Outcome, Values, value_of, values_by, sides_of, side_by_side, places, joined, size, each, checked, alone, is_zero, the_value, unary_value, binary_value, value_at, input_values, ◌>>=◌}
-use Rattle.dx_expr.proofs.Fitting.{both_true, single_is, single_one, single_at}
+use Rattle.dx_expr.proofs.Fitting.{both_true, single_is, single_at}
 use Rattle.dx_expr.proofs.Lengths.{value_count}
 use Rattle.dx_expr.proofs.Nodes.{nodes, in_unary, in_left, in_right, in_one, in_other}
-use Rattle.dx_expr.proofs.Equations.{value_number, value_input, value_unary, value_binary, value_choice, value_part, value_vector, shape_number, shape_input, shape_unary, shape_binary, shape_choice, shape_part, shape_vector}
-use Rattle.dx_expr_columns.specs.Columns.{column, column_of_input, part_at, where_by_value}
+use Rattle.dx_expr.proofs.Equations.{value_unary, value_binary, value_choice, value_part, value_vector, shape_number, shape_input, shape_unary, shape_binary, shape_choice, shape_part, shape_vector}
+use Rattle.dx_expr_columns.specs.Columns.{column, part_at, where_by_value}
 use Rattle.dx_expr_columns.proofs.Equations.{column_number, column_input, column_unary, column_binary, column_choice, column_part, column_vector}
 
 -- ---- outcomes
@@ -180,23 +180,15 @@ binary_single binary.Greater k = refl
 binary_single binary.GreaterEqual k = refl
 binary_single _ k = refl
 
+no_extents : (t : Bool) (s : Shape) → single_if t ≡ Some s → s ≡ []
+no_extents true s h = cc
+no_extents false s h = absurd cc
+
 -- an operator that isn't by value gives a single value
 other_shape : (o : Binary) (a b s : Shape) → (sides_of o ≡ sides.Both → ⊥) → binary_shape o a b ≡ Some s → s ≡ []
-other_shape binary.Or a b s k h = nothing (is_single a && is_single b) s h
-  where
-    nothing : (t : Bool) (s : Shape) → single_if t ≡ Some s → s ≡ []
-    nothing true s h = cc
-    nothing false s h = absurd cc
-other_shape binary.And a b s k h = nothing (is_single a && is_single b) s h
-  where
-    nothing : (t : Bool) (s : Shape) → single_if t ≡ Some s → s ≡ []
-    nothing true s h = cc
-    nothing false s h = absurd cc
-other_shape binary.Dot a b s k h = nothing (is_vector a && same_shape a b) s h
-  where
-    nothing : (t : Bool) (s : Shape) → single_if t ≡ Some s → s ≡ []
-    nothing true s h = cc
-    nothing false s h = absurd cc
+other_shape binary.Or a b s k h = no_extents (is_single a && is_single b) s h
+other_shape binary.And a b s k h = no_extents (is_single a && is_single b) s h
+other_shape binary.Dot a b s k h = no_extents (is_vector a && same_shape a b) s h
 other_shape _ a b s k h = absurd (k refl)
 
 choice_shapes : (z x y s : Shape) → choice_shape z x y ≡ Some s → (z ≡ []) × (x ≡ s) × (y ≡ s)
@@ -463,13 +455,9 @@ module _ (inputs : Inputs) (item n : ℕ) (some : 1 ≤ n) where
   part_law : (a : Expression) (k : ℕ) → Law (e.Part a k)
   part_law a k = itself (e.Part a k) (λ j. column_part inputs.shape j a k) (λ s is. by (S a) s (sym (shape_part inputs.shape a k) ∙ is))
     where
-      nothing : (t : Bool) (s : Shape) → single_if t ≡ Some s → s ≡ []
-      nothing true s h = cc
-      nothing false s h = absurd cc
-
       by : (o : Option Shape) (s : Shape) → with_one (λ y. single_if (has_part k y)) o ≡ Some s → s ≡ []
       by None s h = absurd cc
-      by (Some y) s h = nothing (has_part k y) s h
+      by (Some y) s h = no_extents (has_part k y) s h
 
   layer_law : (l : Expression-F Expression) → ((a : Expression) → nodes a < nodes (roll-Expression l) → Law a) → Law (roll-Expression l)
   layer_law (Expression-F.Number m) laws = subst Law (sym (rolls-Number m)) (number_law m)

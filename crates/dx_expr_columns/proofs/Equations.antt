@@ -1,5 +1,5 @@
 -- The component of each kind of expression, by those of its parts.
-use Rattle.std.proofs.Common.{◌≡◌, ℕ, zero, suc, ◌+◌, ◌<◌, List, [], ◌∷◌, length, get_or, refl, sym, ap, subst, ◌∙◌, arith}
+use Rattle.std.proofs.Common.{◌≡◌, ℕ, zero, suc, ◌<◌, List, [], ◌∷◌, length, get_or, refl, sym, ap, subst, ◌∙◌, arith}
 use Rattle.std.specs.Prelude.{map}
 use Rattle.dx_expr_grammar.specs.declared.tree.Unary.{Unary}
 use Rattle.dx_expr_grammar.specs.declared.tree.Binary.{Binary}

@@ -1,6 +1,5 @@
 -- The components of an expression, each as an expression that is a single value.
 use Rattle.std.specs.Prelude.{ℕ, List, map, slice_index_or, if◌then◌else◌}
-use Rattle.dx_expr_grammar.specs.declared.tree.Binary.{Binary}
 use Rattle.dx_expr_grammar.specs.declared.tree.Expression.{Expression}
 use Rattle.dx_expr_grammar.specs.declared.tree.Expression.TheVariants as e
 use Rattle.dx_expr_grammar.specs.declared.tree.Expression.TheOpen.{Expression-F}

@@ -8,8 +8,8 @@ use Rattle.dx_expr.specs.Shape.{shape_of}
 use Rattle.dx_expr.specs.Value.{Inputs, Outcome, Values, value_of, joined, ◌>>=◌}
 use Rattle.dx_expr.specs.Evaluated.{behind}
 use Rattle.dx_expr.proofs.Lengths.{value_count}
-use Rattle.dx_expr_blocks.specs.Block.{Run, run_of, before, fronted, up_to, single, block_of}
-use Rattle.dx_expr_eval.specs.Items.{all_values, faultless}
+use Rattle.dx_expr_blocks.specs.Block.{Run, run_of, before, up_to, single, block_of}
+use Rattle.dx_expr_eval.specs.Items.{faultless}
 
 abbrev with_fault : Option ItemFault → Values → Outcome Values
 with_fault None vs = Ok vs

@@ -18,7 +18,7 @@ use Rattle.dx_expr_columns.specs.Columns.{column, part_at}
 use Rattle.dx_expr_columns.proofs.Columns.{column_single, column_values}
 use Rattle.dx_expr_blocks.specs.Block.{Run, up_to, single, block_of, before}
 use Rattle.dx_expr_eval.specs.Items.{all_values, faultless}
-use Rattle.dx_expr_eval.specs.Rows.{AreColumns, HaveValues, HasItems, Fails}
+use Rattle.dx_expr_eval.specs.Rows.{AreColumns, HaveValues, Fails}
 use Rattle.dx_expr_eval.proofs.Making.{range_map_length, first_at}
 use Rattle.dx_expr_eval.proofs.Blocks.{joined_more, range_split}
 

@@ -1,5 +1,5 @@
 -- Items of a vector expression, by its components.
-use Rattle.std.specs.Prelude.{◌≡◌, ℕ, ◌<◌, ◌≤◌, ◌+◌, ◌-◌, ◌*◌, List, [], ◌∷◌, length, map, slice_index_or, Some, Ok, Err, ℤ, pos}
+use Rattle.std.specs.Prelude.{◌≡◌, ℕ, ◌<◌, ◌≤◌, ◌+◌, ◌-◌, ◌*◌, List, [], ◌∷◌, length, map, slice_index_or, Some, Ok, Err, pos}
 use Rattle.std.specs.List.{range_with_len}
 use Rattle.dx_expr_grammar.specs.declared.tree.Expression.{Expression}
 use Rattle.dx_expr.specs.declared.fault.ItemFault.{ItemFault}

@@ -1,4 +1,4 @@
-use Rattle.std.proofs.Common.{rules, arith, ◌≡◌, ◌≤◌, ◌+◌, sym, ◌∙◌}
+use Rattle.std.proofs.Common.{arith, ◌≤◌, ◌+◌, sym, ◌∙◌}
 use Rattle.dx_expr_eval.proofs.InRows.{items_clear}
 use Rattle.dx_expr_eval.proofs.components.find_fault_of_components.Goals as goal
 

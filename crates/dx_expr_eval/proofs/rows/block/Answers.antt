@@ -1,6 +1,6 @@
-use Rattle.std.proofs.Common.{rules, ◌≡◌, ◌<◌, ◌≤◌, ◌+◌, ◌-◌, ◌++◌, Ok, arith, sym, ap, ◌∙◌}
+use Rattle.std.proofs.Common.{rules, ◌≡◌, ◌<◌, ◌+◌, ◌-◌, ◌++◌, Ok, arith, sym, ap, ◌∙◌}
 use Rattle.dx_expr.specs.Value.{value_of}
-use Rattle.dx_expr_eval.specs.Rows.{HasItems, Fails}
+use Rattle.dx_expr_eval.specs.Rows.{Fails}
 use Rattle.dx_expr_eval.proofs.InRows.{columns_single, rows_joined, item_more, item_fails, either_fails}
 use Rattle.dx_expr_eval.proofs.rows.block.Goals as goal
 
