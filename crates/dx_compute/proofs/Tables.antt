@@ -1,16 +1,16 @@
 -- Where the values of an array stand that has parts, and which of them lie in the int range.
-use Rattle.std.proofs.Common.{◌≡◌, ℕ, zero, suc, ◌+◌, ◌*◌, ◌/◌, ◌%◌, ◌<◌, ◌≤◌, ℤ, pos, negsuc, Bool, true, false, List, [], ◌∷◌, ◌⊎◌, inl, inr, length, Option, Some, None, refl, sym, ap, subst, ◌∙◌, arith}
-use Rattle.std.specs.Prelude.{◌==◌, ◌&&◌, nat_le, nat_lt, int_le, if◌then◌else◌, slice_index_or}
+use Rattle.std.proofs.Common.{◌≡◌, ℕ, ◌+◌, ◌*◌, ◌/◌, ◌<◌, ◌≤◌, ℤ, pos, negsuc, Bool, true, false, List, [], ◌∷◌, ◌⊎◌, inl, inr, length, Some, None, refl, sym, ap, subst, ◌∙◌, arith}
+use Rattle.std.specs.Prelude.{◌==◌, nat_le, nat_lt, int_le, if◌then◌else◌, slice_index_or}
 use Rattle.std.proofs.lemmas.Bool.{eqb-true, leb-true, lt-ltb}
 use Rattle.std.proofs.lemmas.Nat.{mul-le, div-add-mod'}
 use Rattle.dx_base.specs.declared.elem.ElemType.{ElemType}
 use Rattle.dx_base.specs.declared.elem.ElemType.TheVariants.{Byte, UByte, Short, UShort, Int, UInt}
 use Rattle.dx_base.specs.Elem.{in_range}
-use Rattle.dx_base.specs.Array.{ArrayData, Class, plain, constant, regular, grid_positions, grid_connections, items, items_of, width, value, value_of, product}
+use Rattle.dx_base.specs.Array.{ArrayData, Class, plain, constant, regular, grid_positions, grid_connections, items, items_of, width, value, value_of}
 use Rattle.dx_base.specs.ArrayLimits.{IsLawfulArray}
 use Rattle.dx_arrays.specs.Classes.{plain_of}
 use Rattle.dx_arrays.proofs.Fits.{value_in_type}
-use Rattle.dx_expr.specs.Value.{is_int, size}
+use Rattle.dx_expr.specs.Value.{is_int}
 use Rattle.dx_expr.proofs.Fitting.{both_true}
 use Rattle.dx_expr_blocks.specs.declared.inputs.Table.{Table}
 use Rattle.dx_expr_blocks.specs.declared.inputs.Table.TheVariants as table
