@@ -1,4 +1,4 @@
-use Rattle.std.proofs.Common.{◌≡◌, ◌<◌, ◌+◌, ◌*◌, length, pos, slice_index_or, ap, sym, arith, ◌∙◌}
+use Rattle.std.proofs.Common.{◌≡◌, ◌+◌, ◌*◌, pos, slice_index_or, ap, arith, ◌∙◌}
 use Rattle.std.specs.Prelude.{map, slice_index}
 use Rattle.dx_expr.specs.Value.{checked}
 use Rattle.dx_expr_blocks.specs.Block.{up_to}
