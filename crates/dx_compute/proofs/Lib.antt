@@ -1,1 +1,2 @@
 mod Sources
+mod Tables

@@ -107,6 +107,62 @@ const FIRST_FAULT: &[Row<'static>] = &[
     ("$0.1", &["uint vector"], "Overflow"),
 ];
 
+// The first faulty item decides, whichever component of it has the fault; within an item operands come before operators.
+const FIRST_ITEM: &[Row<'static>] = &[
+    ("10 / ($0 - 3)", &["vectors"], "DivisionByZero"),
+    ("10 / ($0 - $0 + 1)", &["vectors"], "2{10 10 10 10}"),
+    ("$0 / ($1 - 5)", &["vectors", "pair"], "DivisionByZero"),
+    ("$0 / ($1 - 6)", &["vectors", "pair"], "2{0 -1 -3 -4}"),
+    (
+        "[1 / ($0.0 - 3), $0.1 * 1073741824]",
+        &["vectors"],
+        "Overflow",
+    ),
+    (
+        "[1 / ($0.0 - 3), $0.1 * 536870912]",
+        &["vectors"],
+        "DivisionByZero",
+    ),
+    (
+        "[$0.1 * 536870912, 1 / ($0.0 - 3)]",
+        &["vectors"],
+        "Overflow",
+    ),
+    ("($0 * 1073741824) / ($0 - $0)", &["vectors"], "Overflow"),
+    (
+        "($0 * 536870911) / ($0 - 1)",
+        &["vectors"],
+        "DivisionByZero",
+    ),
+    (
+        "$0 + [1 / ($1 - 5), 2]",
+        &["vectors", "pair"],
+        "DivisionByZero",
+    ),
+    (
+        "$0 * (1 / ($1 - 5))",
+        &["vectors", "pair"],
+        "DivisionByZero",
+    ),
+    (
+        "$1 - 4 ? $0 / 0 : $0",
+        &["vectors", "pair"],
+        "DivisionByZero",
+    ),
+    ("$1 - 6 ? $0 : $0 / 0", &["vectors", "pair"], "2{1 2 3 4}"),
+    ("$0 * 2", &["uint vector"], "Overflow"),
+    ("$0 + $1", &["vectors", "uint vector"], "Overflow"),
+    ("$0 + $1", &["vector", "byte vector"], "2{210 120}"),
+    (
+        "$0 + $1",
+        &["constant vectors", "vector"],
+        "2{17 28 17 28 17 28}",
+    ),
+    ("-(-$0)", &["vectors"], "2{1 2 3 4}"),
+    ("$0 * dot($0, $0)", &["vectors"], "2{5 10 75 100}"),
+    ("[$0.1, $0.0] * $0", &["vectors"], "2{2 2 12 12}"),
+];
+
 #[test]
 fn values(rt: HostRuntime) -> Result<(), Fail> {
     check(rt.alloc(), VALUES)?;
@@ -121,4 +177,9 @@ fn shapes(rt: HostRuntime) -> Result<(), Fail> {
 #[test]
 fn first_faults(rt: HostRuntime) -> Result<(), Fail> {
     check(rt.alloc(), FIRST_FAULT)
+}
+
+#[test]
+fn first_items(rt: HostRuntime) -> Result<(), Fail> {
+    check(rt.alloc(), FIRST_ITEM)
 }

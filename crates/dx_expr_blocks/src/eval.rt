@@ -10,6 +10,7 @@ ghost use Rattle.dx_expr_blocks.specs.Items.{items_of, all_below};
 use crate::binary::on_both;
 use crate::block::{Block, count, first, item_at};
 use crate::load::{constant, input_run};
+use crate::parts::part_run;
 use crate::sides::{chosen, picks};
 use crate::unary::{decisions, on_each};
 use crate::{Columns, Found, Spare};
@@ -17,7 +18,7 @@ use dx_expr::{Binary, EvalFail, Expression, Inputs, single_value};
 use std::alloc::{AllocError, Global};
 
 /// What a block gives, item by item.
-fn one_by_one<I: Inputs>(
+pub(crate) fn one_by_one<I: Inputs>(
     alloc: Global,
     spare: &mut Spare,
     e: &Expression,
@@ -149,7 +150,7 @@ pub fn evaluate<I: Columns>(
             spare.keep_items(other_items)?;
             chosen(spare, conditions, ones, others)
         }
-        Expression::Part(_, _) => one_by_one(alloc, spare, e, inputs, block),
+        Expression::Part(a, place) => part_run(alloc, spare, e, a.get(), *place, inputs, block),
         Expression::Vector(_) => unreachable!(),
     }
 }

@@ -1,7 +1,7 @@
 //! The inputs of an expression, as a block reads them.
 
 ghost use Rattle.std.specs.Prelude.{◌≡◌, []};
-ghost use Rattle.dx_expr_blocks.specs.Sources.{IsSource};
+ghost use Rattle.dx_expr_blocks.specs.Sources.{IsSource, IsTable};
 
 use dx_expr::Inputs;
 
@@ -16,9 +16,23 @@ pub enum Source<'a> {
     Other,
 }
 
+/// Where the values of an input with parts stand.
+#[derive(Clone, Copy)]
+pub enum Table<'a> {
+    /// Item by item, each with so many, and all of them lie in the int range.
+    Rows(&'a [i64], usize),
+    /// They are asked for one by one, and all of them lie in the int range.
+    Ints,
+    /// They are asked for one by one.
+    Other,
+}
+
 /// Inputs that say where the values of each stand.
 pub trait Columns: Inputs {
     fn source(&self, k: u8) -> Source<'_>
         requires { (Self.given self.now).shape k ≡ [] }
         ensures { IsSource (Self.given self.now) (Self.items self.now) k result };
+
+    fn table(&self, k: u8) -> Table<'_>
+        ensures { IsTable (Self.given self.now) (Self.items self.now) k result };
 }

@@ -1,5 +1,5 @@
 -- An error that is handed on.
-use Rattle.std.proofs.Common.{◌≡◌, Option, Some, None, Result, Ok, Err, sym, subst}
+use Rattle.std.proofs.Common.{◌≡◌, Option, Some, None, Result, Err, sym, subst}
 use Rattle.std.specs.Prelude.{IfSome}
 use Rattle.dx_base.specs.Answers.{Answers}
 

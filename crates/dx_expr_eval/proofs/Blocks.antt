@@ -8,8 +8,8 @@ use Rattle.dx_expr.specs.Shape.{shape_of}
 use Rattle.dx_expr.specs.Value.{Inputs, Outcome, Values, value_of, joined, ◌>>=◌}
 use Rattle.dx_expr.specs.Evaluated.{behind}
 use Rattle.dx_expr.proofs.Lengths.{value_count}
-use Rattle.dx_expr_blocks.specs.Block.{Run, run_of, before, fronted, up_to, single, block_of}
-use Rattle.dx_expr_eval.specs.Items.{all_values, faultless}
+use Rattle.dx_expr_blocks.specs.Block.{Run, run_of, before, up_to, single, block_of}
+use Rattle.dx_expr_eval.specs.Items.{faultless}
 
 abbrev with_fault : Option ItemFault → Values → Outcome Values
 with_fault None vs = Ok vs
@@ -37,7 +37,7 @@ joined_run f one [] = refl
 joined_run f one (i ∷ items) = joined_by (f i) (joined (map f items)) (up_to (map (λ i. single (f i)) items)) (one i) (joined_run f one items)
 
 -- the items of one range and those behind it
-joined_more : (f : ℕ → Outcome Values) (items others : List ℕ) → joined (map f (items ++ others)) ≡ (joined (map f items) >>= λ x. joined (map f others) >>= λ y. Ok (x ++ y))
+pub joined_more : (f : ℕ → Outcome Values) (items others : List ℕ) → joined (map f (items ++ others)) ≡ (joined (map f items) >>= λ x. joined (map f others) >>= λ y. Ok (x ++ y))
 joined_more f [] others = sym (whole (joined (map f others)))
   where
     whole : (o : Outcome Values) → (o >>= λ y. Ok ([] ++ y)) ≡ o
@@ -51,7 +51,7 @@ joined_more f (i ∷ items) others = ap (λ rest. f i >>= λ x. rest >>= λ xs. 
     by (Ok x) (Ok y) (Err fault) = refl
     by (Ok x) (Ok y) (Ok z) = ap (λ l. Ok l) (sym (append_assoc x y z))
 
-range_split : (from m n : ℕ) → range_with_len from (m + n) ≡ range_with_len from m ++ range_with_len (from + m) n
+pub range_split : (from m n : ℕ) → range_with_len from (m + n) ≡ range_with_len from m ++ range_with_len (from + m) n
 range_split from zero n =
     let z : 0 + n ≡ n = omega arith in
     let e : from ≡ from + 0 = omega arith in

@@ -1,3 +1,5 @@
 pub mod Answering
 pub mod Joining
 pub mod Blocks
+pub mod InRows
+pub mod Making

@@ -8,6 +8,8 @@ ghost use Rattle.dx_expr.specs.Shape as shapes;
 ghost use Rattle.dx_expr.specs.Value as spec;
 ghost use Rattle.dx_expr_eval.specs.Items.{all_values, faultless};
 
+use crate::columns::{column_count, columns_of};
+use crate::components::{evaluate_components, find_fault_of_components};
 use crate::numbers::{evaluate_numbers, find_fault_of_numbers};
 use crate::vectors::{evaluate_vectors, find_fault_of_vectors};
 use dx_base::{Fail, Items};
@@ -42,10 +44,14 @@ pub fn evaluate<I: Columns>(
     ensures ints { IfOk result (λ vs. list_all (in_range Int) vs ≡ true) }
 {
     if is_number(e, inputs) {
-        evaluate_numbers(alloc, e, inputs, items as usize)
-    } else {
-        evaluate_vectors(alloc, e, inputs, items)
+        return evaluate_numbers(alloc, e, inputs, items as usize);
     }
+    let count = column_count(e, inputs);
+    if count == 0 {
+        return evaluate_vectors(alloc, e, inputs, items);
+    }
+    let columns = columns_of(alloc, e, inputs, count)?;
+    evaluate_components(alloc, e, columns.as_slice(), inputs, items as usize)
 }
 
 /// Whether each of so many items has its values; where one has none, the first fault of the first such item.
@@ -60,8 +66,12 @@ pub fn find_fault<I: Columns>(
     ensures { Answers refused (faultless (all_values (I.given inputs.now) e.now items)) result }
 {
     if is_number(e, inputs) {
-        find_fault_of_numbers(alloc, e, inputs, items as usize)
-    } else {
-        find_fault_of_vectors(alloc, e, inputs, items)
+        return find_fault_of_numbers(alloc, e, inputs, items as usize);
     }
+    let count = column_count(e, inputs);
+    if count == 0 {
+        return find_fault_of_vectors(alloc, e, inputs, items);
+    }
+    let columns = columns_of(alloc, e, inputs, count)?;
+    find_fault_of_components(alloc, e, columns.as_slice(), inputs, items as usize)
 }

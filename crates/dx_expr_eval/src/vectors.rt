@@ -54,7 +54,7 @@ pub(crate) fn find_fault_of_vectors<I: Inputs>(
     Ok(())
 }
 
-fn item_values<I: Inputs>(
+pub(crate) fn item_values<I: Inputs>(
     alloc: Global,
     e: &Expression,
     inputs: &I,

@@ -1,4 +1,4 @@
-use Rattle.std.proofs.Common.{rules, arith, ◌≡◌, ◌≤◌, sym, ap, ◌∙◌}
+use Rattle.std.proofs.Common.{arith, ◌≤◌, sym, ap, ◌∙◌}
 use Rattle.dx_expr_blocks.specs.Block.{run_of}
 use Rattle.dx_expr_eval.specs.Items.{faultless}
 use Rattle.dx_expr_eval.proofs.Blocks.{rest_fails, rest_clear}

@@ -1,8 +1,7 @@
-use Rattle.std.proofs.Common.{rules, ℕ, ◌≡◌, ◌+◌, ◌-◌, ◌*◌, ◌++◌, true, length, Some, Ok, Err, sym, ap, ◌∙◌, arith, length-append}
+use Rattle.std.proofs.Common.{rules, ℕ, ◌≡◌, ◌+◌, ◌-◌, ◌++◌, length, sym, ap, ◌∙◌, arith, length-append}
 use Rattle.std.specs.Prelude.{map}
 use Rattle.std.specs.List.{range_with_len}
 use Rattle.dx_base.specs.Answers.{refused}
-use Rattle.dx_expr.specs.Shape.{Shape, shape_of}
 use Rattle.dx_expr.specs.Value.{Outcome, Values, value_of, size, joined}
 use Rattle.dx_expr.specs.Evaluated.{behind}
 use Rattle.dx_expr_eval.specs.Items.{all_values}

@@ -1,4 +1,4 @@
-use Rattle.std.proofs.Common.{rules, ◌≡◌, ◌+◌, [], Ok, Err, sym, ap, ◌∙◌, arith}
+use Rattle.std.proofs.Common.{rules, sym, ◌∙◌}
 use Rattle.dx_expr.specs.Value.{value_of}
 use Rattle.dx_expr_eval.proofs.Joining.{fault_next}
 use Rattle.dx_expr_eval.proofs.vectors.find_fault_of_vectors.Goals as goal

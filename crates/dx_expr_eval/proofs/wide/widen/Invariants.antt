@@ -1,4 +1,4 @@
-use Rattle.std.proofs.Common.{◌≡◌, true, length, take}
+use Rattle.std.proofs.Common.{◌≡◌, true, take}
 use Rattle.std.specs.List.{list_all}
 use Rattle.dx_base.specs.Elem.{in_range}
 use Rattle.dx_base.specs.declared.elem.ElemType.TheVariants.{Int}

@@ -1,0 +1,68 @@
+// Expressions that are vectors, by their components and by blocks of items.
+ghost use Rattle.std.specs.Prelude.{◌≡◌, ◌≤◌, ◌*◌, true, length, IfOk};
+ghost use Rattle.std.specs.List.{list_all};
+ghost use Rattle.dx_base.specs.Answers.{Answers, refused};
+ghost use Rattle.dx_base.specs.Elem.{in_range};
+ghost use Rattle.dx_base.specs.declared.elem.ElemType.TheVariants.{Int};
+ghost use Rattle.dx_expr_eval.specs.Items.{all_values, faultless};
+ghost use Rattle.dx_expr_eval.specs.Rows.{AreColumns};
+
+use crate::rows::block;
+use crate::wide::append_block;
+use dx_base::{Fail, Items};
+use dx_expr::{Expression, ItemFault};
+use dx_expr_blocks::{Columns, Spare};
+use std::alloc::Global;
+
+/// How many items a block has.
+const BLOCK: usize = 1024;
+
+/// The values of so many items of an expression with these components.
+pub(crate) fn evaluate_components<I: Columns>(
+    alloc: Global,
+    e: &Expression,
+    columns: &[Expression],
+    inputs: &I,
+    items: usize,
+) -> Result<Items<i64>, Fail<ItemFault>>
+    requires columns { AreColumns (I.given inputs.now) e.now columns.now }
+    requires within { items ≤ I.items inputs.now }
+    ensures values { Answers refused (all_values (I.given inputs.now) e.now items) result }
+    ensures ints { IfOk result (λ vs. list_all (in_range Int) vs ≡ true) }
+{
+    let mut spare = Spare::new(alloc);
+    let mut found = Vec::new(alloc);
+    let mut buffer = Vec::new(alloc);
+    let mut from = 0;
+    'turns: while from < items {
+        let to = from.saturating_add(BLOCK).min(items);
+        let rows = block(alloc, &mut spare, e, columns, inputs, from, to)?;
+        append_block(&mut found, rows.values.as_slice(), &mut buffer)?;
+        spare.keep_values(rows.values)?;
+        from += rows.count;
+    }
+    Ok(Items::from_vec(found))
+}
+
+/// Whether each of so many items has its values.
+pub(crate) fn find_fault_of_components<I: Columns>(
+    alloc: Global,
+    e: &Expression,
+    columns: &[Expression],
+    inputs: &I,
+    items: usize,
+) -> Result<(), Fail<ItemFault>>
+    requires columns { AreColumns (I.given inputs.now) e.now columns.now }
+    requires within { items ≤ I.items inputs.now }
+    ensures { Answers refused (faultless (all_values (I.given inputs.now) e.now items)) result }
+{
+    let mut spare = Spare::new(alloc);
+    let mut from = 0;
+    'turns: while from < items {
+        let to = from.saturating_add(BLOCK).min(items);
+        let rows = block(alloc, &mut spare, e, columns, inputs, from, to)?;
+        spare.keep_values(rows.values)?;
+        from += rows.count;
+    }
+    Ok(())
+}
