@@ -25,26 +25,26 @@ use Rattle.dx_expr_columns.proofs.Equations.{column_number, column_input, column
 
 -- ---- outcomes
 
-made_of : {A B : Type 0} (o : Outcome A) (f : A → Outcome B) (b : B) → (o >>= f) ≡ Ok b → (a : A) × (o ≡ Ok a) × (f a ≡ Ok b)
+pub made_of : {A B : Type 0} (o : Outcome A) (f : A → Outcome B) (b : B) → (o >>= f) ≡ Ok b → (a : A) × (o ≡ Ok a) × (f a ≡ Ok b)
 made_of (Ok a) f b h = (a, refl, h)
 made_of (Err fault) f b h = absurd cc
 
-abbrev IsOne : Outcome Values → Type 0
+abbrev pub IsOne : Outcome Values → Type 0
 IsOne o = (vs : Values) → o ≡ Ok vs → length vs ≡ 1
 
 -- the value of an outcome that has one
-abbrev got : Outcome Values → ℤ
+abbrev pub got : Outcome Values → ℤ
 got (Ok vs) = the_value vs
 got (Err fault) = pos 0
 
 -- the outcome is one value
-abbrev Has : Outcome Values → ℤ → Type 0
+abbrev pub Has : Outcome Values → ℤ → Type 0
 Has o v = o ≡ Ok (v ∷ [])
 
 same_value : (v w : ℤ) → (let o : Outcome ℤ = Ok v in o ≡ Ok w) → v ≡ w
 same_value v w h = cc
 
-same_one : (o : Outcome Values) (v w : ℤ) → Has o v → Has o w → v ≡ w
+pub same_one : (o : Outcome Values) (v w : ℤ) → Has o v → Has o w → v ≡ w
 same_one o v w h g = let l : v ∷ [] ≡ w ∷ [] = (let k : (let p : Outcome Values = Ok (v ∷ []) in p ≡ Ok (w ∷ [])) = sym h ∙ g in cc) in cc
 
 alone_is : (v w : ℤ) → alone v ≡ Ok (w ∷ []) → v ≡ w
@@ -60,7 +60,7 @@ unary_one u (Ok []) w one h = absurd (omega (arith, one [] refl))
 unary_one u (Ok (v ∷ [])) w one h = (refl, one_made (u v) w h)
 unary_one u (Ok (v ∷ x ∷ vs)) w one h = absurd (omega (arith, one (v ∷ x ∷ vs) refl))
 
-both_one : (f : ℤ → ℤ → Outcome ℤ) (a b : Outcome Values) (w : ℤ) → IsOne a → IsOne b → Has (a >>= λ x. b >>= λ y. side_by_side f x y) w → Has a (got a) × Has b (got b) × (f (got a) (got b) ≡ Ok w)
+pub both_one : (f : ℤ → ℤ → Outcome ℤ) (a b : Outcome Values) (w : ℤ) → IsOne a → IsOne b → Has (a >>= λ x. b >>= λ y. side_by_side f x y) w → Has a (got a) × Has b (got b) × (f (got a) (got b) ≡ Ok w)
 both_one f (Err g) b w one other h = absurd cc
 both_one f (Ok []) b w one other h = absurd (omega (arith, one [] refl))
 both_one f (Ok (v ∷ [])) (Err g) w one other h = absurd cc
@@ -98,7 +98,7 @@ range_length a zero = refl
 range_length a (suc n) = ap suc (range_length (a + 1) n)
 
 -- a value at a place that a list has
-own_place : (vs : Values) (i : ℕ) → i < length vs → value_at vs i ≡ slice_index_or vs i (pos 0)
+pub own_place : (vs : Values) (i : ℕ) → i < length vs → value_at vs i ≡ slice_index_or vs i (pos 0)
 own_place vs i below = by (length vs == 1) refl
   where
     by : (t : Bool) → (length vs == 1) ≡ t → slice_index_or vs (if t then 0 else i) (pos 0) ≡ slice_index_or vs i (pos 0)

@@ -1,6 +1,6 @@
 -- Items of a vector expression whose components' values stand in rows.
 use Rattle.std.proofs.Common.{◌≡◌, ℕ, zero, suc, ◌+◌, ◌-◌, ◌*◌, ◌<◌, ◌≤◌, Bool, true, false, List, [], ◌∷◌, ◌++◌, ℤ, pos, length, take, drop, get_or, Option, Some, None, Result, Ok, Err, refl, sym, ap, subst, ◌∙◌, length-append, append_assoc, append-nil, arith}
-use Rattle.std.specs.Prelude.{map, slice_index_or, slice_set, nat_lt, IfSome, IfOk}
+use Rattle.std.specs.Prelude.{map, slice_index_or, slice_set, nat_lt, IsSome, IfSome, IfOk}
 use Rattle.std.specs.List.{range_with_len}
 use Rattle.std.proofs.lemmas.List.{length-take-le, length-drop, ext_get_or, get_or-take, get_or-drop, take-append-drop, nil_from_length, get_or-set_other, get_or-set_same, drop_all, take_all}
 use Rattle.std.proofs.lemmas.Nat.{same_from_place}
@@ -15,6 +15,7 @@ use Rattle.dx_expr.specs.Value.{Inputs, Outcome, Values, value_of, joined, size,
 use Rattle.dx_expr.specs.Evaluated.{behind}
 use Rattle.dx_expr.proofs.Lengths.{value_count}
 use Rattle.dx_expr_columns.specs.Columns.{column, part_at}
+use Rattle.dx_expr_columns.specs.Scalars.{HasValuesOf}
 use Rattle.dx_expr_columns.proofs.Columns.{column_single, column_values}
 use Rattle.dx_expr_blocks.specs.Block.{Run, up_to, single, block_of, before}
 use Rattle.dx_expr_eval.specs.Items.{all_values, faultless}
@@ -81,16 +82,16 @@ module _ (inputs : Inputs) (e : Expression) (columns : List Expression) (are : A
   V item = value_of inputs item e
 
   pub columns_single : (j : ℕ) → j < length columns → shape_of inputs.shape (part_at columns j) ≡ Some []
-  columns_single j below = ap (shape_of inputs.shape) (are.each j below) ∙ column_single inputs w e are.shape j below
+  columns_single j below = are.singles j below
 
   -- an item's row
   row_values : (item : ℕ) (values : Values) → w ≤ length values → ((j : ℕ) → j < w → value_of inputs item (part_at columns j) ≡ Ok (slice_index_or values j (pos 0) ∷ [])) → V item ≡ Ok (take w values)
   row_values item values enough h =
-      let r = column_values inputs item w e are.some are.shape (λ j. slice_index_or values j (pos 0)) (λ j below. sym (ap (value_of inputs item) (are.each j below)) ∙ h j below) in
-      let len : length r.0 ≡ w = r.2 in
+      let r = are.values item (λ j. slice_index_or values j (pos 0)) h in
+      let len : length r.found ≡ w = r.many in
       let taken : length (take w values) ≡ w = length-take-le w values enough in
-      let same : r.0 ≡ take w values = ext_get_or (pos 0) r.0 (take w values) (omega (arith, len, taken)) (λ i below. r.3 i (omega (arith, len, below)) ∙ sym (get_or-take w values i (pos 0) (omega (arith, len, below)))) in
-      r.1 ∙ ap (λ l. Ok l) same
+      let same : r.found ≡ take w values = ext_get_or (pos 0) r.found (take w values) (omega (arith, len, taken)) (λ i below. r.each i (omega (arith, len, below)) ∙ sym (get_or-take w values i (pos 0) (omega (arith, len, below)))) in
+      r.are ∙ ap (λ l. Ok l) same
 
   -- the rows are the items' values
   pub rows_joined : (from count : ℕ) (values : Values) → length values ≡ count * w → HaveValues inputs columns w from count w values → joined (map V (range_with_len from count)) ≡ Ok values
@@ -223,12 +224,38 @@ pub all_count : (inputs : Inputs) (e : Expression) (n : ℕ) (s : Shape) → sha
 all_count inputs e n s is (Ok vs) h = joined_count inputs e s is 0 n vs h
 all_count inputs e n s is (Err f) h = tt
 
+-- the components of a vector of few values
 pub are_columns : (inputs : Inputs) (e : Expression) (n : ℕ) (columns : List Expression) → 0 < n → n ≤ 16 → shape_of inputs.shape e ≡ Some (n ∷ []) → columns ≡ map (λ j. column inputs.shape j e) (range_with_len 0 n) → AreColumns inputs e columns
 are_columns inputs e n columns some few shape is =
     let len : length columns ≡ n = ap length is ∙ range_map_length (λ j. column inputs.shape j e) 0 n in
+    let each : (j : ℕ) → j < length columns → part_at columns j ≡ column inputs.shape j e =
+    λ j below. ap (λ l. part_at l j) is ∙ first_at (λ j. column inputs.shape j e) n j (x.Number 0) (omega (arith, len, below)) in
     record {
-      some = omega (arith, len, some);
+      fits = subst IsSome (sym shape) refl;
       few = omega (arith, len, few);
-      shape = shape ∙ ap (λ k. Some (k ∷ [])) (sym len);
-      each = λ j below. ap (λ l. part_at l j) is ∙ first_at (λ j. column inputs.shape j e) n j (x.Number 0) (omega (arith, len, below));
+      singles = λ j below. ap (shape_of inputs.shape) (each j below) ∙ column_single inputs n e shape j (omega (arith, len, below));
+      values = λ item v h.
+          let r = column_values inputs item n e (omega (arith, some)) shape v (λ j below. let g : j < length columns = omega (arith, len, below) in sym (ap (value_of inputs item) (each j g)) ∙ h j g) in
+          let count : length r.0 ≡ n = r.2 in
+          record { found = r.0; are = r.1; many = omega (arith, count, len); each = λ j below. r.3 j (omega (arith, len, below)) };
     }
+
+-- one that is a single value, and has its values wherever it has some
+pub is_column : (inputs : Inputs) (e one : Expression) → shape_of inputs.shape e ≡ Some [] → shape_of inputs.shape one ≡ Some [] → HasValuesOf inputs one e → AreColumns inputs e (one ∷ [])
+is_column inputs e one fits is has = record {
+  fits = subst IsSome (sym fits) refl;
+  few = omega arith;
+  singles = λ j below. let z : 0 ≡ j = omega (arith, below) in ap (λ k. shape_of inputs.shape (part_at (one ∷ []) k)) (sym z) ∙ is;
+  values = λ item v h.
+      record {
+        found = v 0 ∷ [];
+        are = has item (v 0 ∷ []) (h 0 (omega arith));
+        many = refl;
+        each = λ j below. let z : 0 ≡ j = omega (arith, below) in ap (λ k. slice_index_or (v 0 ∷ []) k (pos 0)) (sym z) ∙ ap v z;
+      };
+}
+
+pub found_columns : {E : Type 0} (inputs : Inputs) (e : Expression) (n : ℕ) (r : Result (List Expression) E) → 0 < n → n ≤ 16 → shape_of inputs.shape e ≡ Some (n ∷ []) → IfOk r (λ found. found ≡ map (λ j. column inputs.shape j e) (range_with_len 0 n)) →
+    IfOk r (λ found. 0 < length found → AreColumns inputs e found)
+found_columns inputs e n (Ok found) some few shape is = λ any. are_columns inputs e n found some few shape is
+found_columns inputs e n (Err f) some few shape is = tt

@@ -8,24 +8,14 @@ ghost use Rattle.dx_expr.specs.Shape as shapes;
 ghost use Rattle.dx_expr.specs.Value as spec;
 ghost use Rattle.dx_expr_eval.specs.Items.{all_values, faultless};
 
-use crate::columns::{column_count, columns_of};
+use crate::columns::{columns_of, columns_of_number, is_number};
 use crate::components::{evaluate_components, find_fault_of_components};
 use crate::numbers::{evaluate_numbers, find_fault_of_numbers};
 use crate::vectors::{evaluate_vectors, find_fault_of_vectors};
 use dx_base::{Fail, Items};
-use dx_expr::{Expression, Inputs, ItemFault, is_single, shape_of};
+use dx_expr::{Expression, ItemFault};
 use dx_expr_blocks::Columns;
 use std::alloc::Global;
-
-// Whether each item has a single value.
-fn is_number<I: Inputs>(e: &Expression, inputs: &I) -> bool
-    ensures { result ≡ true → shapes.shape_of (I.given inputs.now).shape e.now ≡ Some [] }
-{
-    match shape_of(e, inputs) {
-        Some(shape) => is_single(shape),
-        None => false,
-    }
-}
 
 /// The values of the items from 0 on, so many, item by item and each with all its values.
 ///
@@ -43,15 +33,20 @@ pub fn evaluate<I: Columns>(
         IfOk result (λ vs. length vs ≡ items * spec.size s) }
     ensures ints { IfOk result (λ vs. list_all (in_range Int) vs ≡ true) }
 {
-    if is_number(e, inputs) {
-        return evaluate_numbers(alloc, e, inputs, items as usize);
+    let is_number = is_number(e, inputs);
+    let columns = if is_number {
+        columns_of_number(alloc, e, inputs)?
+    } else {
+        columns_of(alloc, e, inputs)?
+    };
+    if !columns.is_empty() {
+        return evaluate_components(alloc, e, columns.as_slice(), inputs, items as usize);
     }
-    let count = column_count(e, inputs);
-    if count == 0 {
-        return evaluate_vectors(alloc, e, inputs, items);
+    if is_number {
+        evaluate_numbers(alloc, e, inputs, items as usize)
+    } else {
+        evaluate_vectors(alloc, e, inputs, items)
     }
-    let columns = columns_of(alloc, e, inputs, count)?;
-    evaluate_components(alloc, e, columns.as_slice(), inputs, items as usize)
 }
 
 /// Whether each of so many items has its values; where one has none, the first fault of the first such item.
@@ -65,13 +60,18 @@ pub fn find_fault<I: Columns>(
     requires within { items ≤ I.items inputs.now }
     ensures { Answers refused (faultless (all_values (I.given inputs.now) e.now items)) result }
 {
-    if is_number(e, inputs) {
-        return find_fault_of_numbers(alloc, e, inputs, items as usize);
+    let is_number = is_number(e, inputs);
+    let columns = if is_number {
+        columns_of_number(alloc, e, inputs)?
+    } else {
+        columns_of(alloc, e, inputs)?
+    };
+    if !columns.is_empty() {
+        return find_fault_of_components(alloc, e, columns.as_slice(), inputs, items as usize);
     }
-    let count = column_count(e, inputs);
-    if count == 0 {
-        return find_fault_of_vectors(alloc, e, inputs, items);
+    if is_number {
+        find_fault_of_numbers(alloc, e, inputs, items as usize)
+    } else {
+        find_fault_of_vectors(alloc, e, inputs, items)
     }
-    let columns = columns_of(alloc, e, inputs, count)?;
-    find_fault_of_components(alloc, e, columns.as_slice(), inputs, items as usize)
 }
