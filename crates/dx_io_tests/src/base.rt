@@ -6,136 +6,181 @@ use dx_base::{
     read_number,
 };
 use std::alloc::{AllocError, Global};
-use std::test;
+use std::cmp::Ordering;
+
+// The type, its bytes, and below, at and above its ends.
+const ENDS: &[(ElemType, u64, [i64; 4])] = &[
+    (ElemType::Byte, 1, [-129, -128, 127, 128]),
+    (ElemType::UByte, 1, [-1, 0, 255, 256]),
+    (ElemType::Short, 2, [-32_769, -32_768, 32_767, 32_768]),
+    (ElemType::UShort, 2, [-1, 0, 65_535, 65_536]),
+    (
+        ElemType::Int,
+        4,
+        [-2_147_483_649, -2_147_483_648, 2_147_483_647, 2_147_483_648],
+    ),
+    (ElemType::UInt, 4, [-1, 0, 4_294_967_295, 4_294_967_296]),
+];
 
 #[test]
-fn the_ends_of_each_type_are_inside_and_their_neighbours_outside(
-    rt: HostRuntime,
-) -> Result<(), test::Fail> {
-    let ends = [
-        (ElemType::Byte, 1, [-129, -128, 127, 128]),
-        (ElemType::UByte, 1, [-1, 0, 255, 256]),
-        (ElemType::Short, 2, [-32_769, -32_768, 32_767, 32_768]),
-        (ElemType::UShort, 2, [-1, 0, 65_535, 65_536]),
-        (
-            ElemType::Int,
-            4,
-            [-2_147_483_649, -2_147_483_648, 2_147_483_647, 2_147_483_648],
-        ),
-        (ElemType::UInt, 4, [-1, 0, 4_294_967_295, 4_294_967_296]),
-    ];
-    for (elem, bytes, [below, low, high, above]) in ends {
-        assert!(rt; elem.byte_count() == bytes);
-        assert!(rt; in_range(elem, low) && in_range(elem, high));
-        assert!(rt; !in_range(elem, below) && !in_range(elem, above));
+fn the_ends_of_each_type_are_inside_and_their_neighbours_outside(rt: HostRuntime) {
+    for (elem, bytes, [below, low, high, above]) in ENDS {
+        assert!(rt; elem.byte_count() == *bytes);
+        assert!(rt; in_range(*elem, *low) && in_range(*elem, *high));
+        assert!(rt; !in_range(*elem, *below) && !in_range(*elem, *above));
     }
-    Ok(())
 }
+
+// The word, its number, and the nearest number of so many digits.
+const WORDS: &[(&str, Option<i64>, Option<i64>)] = &[
+    ("0", Some(0), Some(0)),
+    ("007", Some(7), Some(7)),
+    ("+5", Some(5), Some(5)),
+    ("-0", Some(0), Some(0)),
+    ("1.", Some(1), Some(1)),
+    ("1.000", Some(1), Some(1)),
+    ("-9223372036854775808", Some(i64::MIN), Some(i64::MIN)),
+    ("9223372036854775807", Some(i64::MAX), Some(i64::MAX)),
+    ("9223372036854775808", None, Some(i64::MAX)),
+    ("-9223372036854775809", None, Some(i64::MIN)),
+    ("99999999999999999999", None, Some(i64::MAX)),
+    ("", None, None),
+    ("-", None, None),
+    ("+-1", None, None),
+    (".0", None, None),
+    ("1.5", None, None),
+    ("1.0.", None, None),
+    ("1e5", None, None),
+    ("0x10", None, None),
+    (" 1", None, None),
+];
 
 #[test]
 fn words_are_read_as_numbers(rt: HostRuntime) {
-    for (word, number, near) in [
-        ("0", Some(0), Some(0)),
-        ("007", Some(7), Some(7)),
-        ("+5", Some(5), Some(5)),
-        ("-0", Some(0), Some(0)),
-        ("1.", Some(1), Some(1)),
-        ("1.000", Some(1), Some(1)),
-        ("-9223372036854775808", Some(i64::MIN), Some(i64::MIN)),
-        ("9223372036854775807", Some(i64::MAX), Some(i64::MAX)),
-        ("9223372036854775808", None, Some(i64::MAX)),
-        ("-9223372036854775809", None, Some(i64::MIN)),
-        ("99999999999999999999", None, Some(i64::MAX)),
-        ("", None, None),
-        ("-", None, None),
-        ("+-1", None, None),
-        (".0", None, None),
-        ("1.5", None, None),
-        ("1.0.", None, None),
-        ("1e5", None, None),
-        ("0x10", None, None),
-        (" 1", None, None),
-    ] {
-        assert!(rt; read_int(word.as_bytes()) == number);
-        assert!(rt; read_number(word.as_bytes()) == near);
+    for (word, number, near) in WORDS {
+        assert!(rt; read_int(word.as_bytes()) == *number);
+        assert!(rt; read_number(word.as_bytes()) == *near);
     }
 }
+
+// The module, its named and its further inputs, and counts below, at and above the ends of what it takes.
+const MODULES: &[(Module, u32, u32, [usize; 4])] = &[
+    (Module::Import, 6, 0, [5, 6, 6, 7]),
+    (Module::Compute, 1, 20, [0, 1, 21, 22]),
+    (Module::CollectSeries, 2, 62, [1, 2, 64, 65]),
+    (Module::Collect, 1, 63, [0, 1, 64, 65]),
+];
 
 #[test]
 fn modules_take_their_named_inputs_and_some_further_ones(rt: HostRuntime) {
-    for (module, named, more, [below, least, most, above]) in [
-        (Module::Import, 6, 0, [5, 6, 6, 7]),
-        (Module::Compute, 1, 20, [0, 1, 21, 22]),
-        (Module::CollectSeries, 2, 62, [1, 2, 64, 65]),
-        (Module::Collect, 1, 63, [0, 1, 64, 65]),
-    ] {
-        assert!(rt; module.named() == named && module.more() == more);
-        assert!(rt; module.takes(least) && module.takes(most));
-        assert!(rt; !module.takes(below) && !module.takes(above));
+    for (module, named, more, [below, least, most, above]) in MODULES {
+        assert!(rt; module.named() == *named && module.more() == *more);
+        assert!(rt; module.takes(*least) && module.takes(*most));
+        assert!(rt; !module.takes(*below) && !module.takes(*above));
     }
 }
 
-#[test]
-fn lists_are_shared_and_compared_by_their_elements(rt: HostRuntime) -> Result<(), test::Fail> {
-    let alloc = rt.alloc();
-    let list = Shared::from_vec(alloc, [1, 2, 3].to_vec(alloc)?)?;
-    let same = Shared::from_vec(alloc, [1, 2, 3].to_vec(alloc)?)?;
-    let other = Shared::from_vec(alloc, [1, 2].to_vec(alloc)?)?;
+fn list(alloc: Global, items: &[i32]) -> Result<Shared<i32>, AllocError> {
+    Shared::from_vec(alloc, items.to_vec(alloc)?)
+}
+
+// Whether a list of these elements, and a share of it, has them and no others.
+fn is_shared(alloc: Global, items: &[i32]) -> Result<bool, AllocError> {
+    let list = list(alloc, items)?;
     let shared = list.share()?;
-    assert!(rt; shared == list && list == same && !(list == other));
-    assert!(rt; shared.as_slice() == [1, 2, 3].as_slice() && shared.len() == 3);
-    assert!(rt; !shared.is_empty());
-    let items = Items::from_vec([1, 2].to_vec(alloc)?);
-    assert!(rt; items == Items::from_vec(other.as_slice().to_vec(alloc)?));
-    Ok(())
+    Ok(shared == list && shared.as_slice() == items && shared.len() == items.len())
+}
+
+fn are_equal(alloc: Global, one: &[i32], other: &[i32]) -> Result<bool, AllocError> {
+    Ok(list(alloc, one)? == list(alloc, other)?)
+}
+
+// Whether these elements are equal to those of a list of them.
+fn are_its_items(alloc: Global, items: &[i32]) -> Result<bool, AllocError> {
+    let list = list(alloc, items)?;
+    let copied = list.as_slice().to_vec(alloc)?;
+    Ok(Items::from_vec(items.to_vec(alloc)?) == Items::from_vec(copied))
 }
 
 #[test]
-fn texts_are_ordered_by_their_bytes(rt: HostRuntime) -> Result<(), test::Fail> {
+fn lists_are_shared_and_compared_by_their_elements(rt: HostRuntime) -> Result<(), AllocError> {
     let alloc = rt.alloc();
-    let texts = [b"".as_slice(), b"a", b"a\0", b"ab", b"b", b"\xff"];
-    for (i, a) in texts.iter().enumerate() {
-        for (k, b) in texts.iter().enumerate() {
-            let (a, b) = (Bytes::copy_of(alloc, *a)?, Bytes::copy_of(alloc, *b)?);
-            assert!(rt; a.cmp(&b) == i.cmp(&k));
-            assert!(rt; (a == b) == (i == k));
+    assert!(rt; is_shared(alloc, &[1, 2, 3])?);
+    assert!(rt; are_equal(alloc, &[1, 2, 3], &[1, 2, 3])?);
+    assert!(rt; !are_equal(alloc, &[1, 2, 3], &[1, 2])?);
+    assert!(rt; !list(alloc, &[1, 2, 3])?.is_empty());
+    assert!(rt; are_its_items(alloc, &[1, 2])?);
+    Ok(())
+}
+
+const TEXTS: &[&[u8]] = &[b"", b"a", b"a\0", b"ab", b"b", b"\xff"];
+
+fn order_of(alloc: Global, one: &[u8], other: &[u8]) -> Result<(Ordering, bool), AllocError> {
+    let one = Bytes::copy_of(alloc, one)?;
+    let other = Bytes::copy_of(alloc, other)?;
+    Ok((one.cmp(&other), one == other))
+}
+
+#[test]
+fn texts_are_ordered_by_their_bytes(rt: HostRuntime) -> Result<(), AllocError> {
+    for (i, one) in TEXTS.iter().enumerate() {
+        for (k, other) in TEXTS.iter().enumerate() {
+            let (order, is_equal) = order_of(rt.alloc(), one, other)?;
+            assert!(rt; order == i.cmp(&k) && is_equal == (i == k));
         }
     }
     Ok(())
 }
 
+fn push_both(names: &mut Names) -> Result<(), AllocError> {
+    names.push(b"a")?;
+    names.push(b"b")
+}
+
 #[test]
-fn names_are_counted_in_short_and_in_long_lists(rt: HostRuntime) -> Result<(), test::Fail> {
-    let alloc = rt.alloc();
-    let mut names = Names::new(alloc);
+fn names_are_counted_in_short_and_in_long_lists(rt: HostRuntime) -> Result<(), AllocError> {
+    let mut names = Names::new(rt.alloc());
     for turn in 1..=12usize {
-        names.push(b"a")?;
-        names.push(b"b")?;
+        push_both(&mut names)?;
         assert!(rt; names.count(b"a") == turn && names.count(b"b") == turn);
         assert!(rt; names.has(b"b") && !names.has(b"c"));
     }
     Ok(())
 }
 
-#[test]
-fn places_without_a_value_are_empty(rt: HostRuntime) -> Result<(), test::Fail> {
-    let mut list = Sparse::new(rt.alloc(), 5);
-    for (place, value) in [(3, 30), (1, 10), (3, 31), (5, 50)] {
-        list.set(place, value)?;
+const SET: &[(usize, i32)] = &[(3, 30), (1, 10), (3, 31), (5, 50)];
+
+fn places_set(alloc: Global) -> Result<Sparse<i32>, AllocError> {
+    let mut list = Sparse::new(alloc, 5);
+    for (place, value) in SET {
+        list.set(*place, *value)?;
     }
-    for (place, want) in [(1, Some(&10)), (3, Some(&31)), (2, None), (5, None)] {
-        assert!(rt; list.get(place) == want);
+    Ok(list)
+}
+
+const GOT: &[(usize, Option<i32>)] = &[(1, Some(10)), (3, Some(31)), (2, None), (5, None)];
+
+#[test]
+fn places_without_a_value_are_empty(rt: HostRuntime) -> Result<(), AllocError> {
+    let list = places_set(rt.alloc())?;
+    for (place, wanted) in GOT {
+        assert!(rt; list.get(*place).copied() == *wanted);
     }
     assert!(rt; list.is_empty_at(4) && !list.is_empty_at(3) && !list.is_empty_at(5));
-    let mut places = list.places();
-    assert!(rt; places.next() == Some(&1) && places.next() == Some(&3));
-    assert!(rt; places.next() == None);
     Ok(())
 }
 
 #[test]
-fn words_of_the_canonical_text(rt: HostRuntime) -> Result<(), test::Fail> {
-    let mut out = Vec::new(rt.alloc());
+fn places_with_a_value_are_in_their_order(rt: HostRuntime) -> Result<(), AllocError> {
+    let list = places_set(rt.alloc())?;
+    let mut places = list.places();
+    assert!(rt; places.next().copied() == Some(1) && places.next().copied() == Some(3));
+    assert!(rt; places.next().is_none());
+    Ok(())
+}
+
+fn canonical(alloc: Global) -> Result<Vec<u8>, AllocError> {
+    let mut out = Vec::new(alloc);
     push_count(&mut out, u64::MAX)?;
     push_counts_behind(&mut out, &[4, 3])?;
     push_quoted(&mut out, b"a\"\\\n\tb")?;
@@ -144,9 +189,14 @@ fn words_of_the_canonical_text(rt: HostRuntime) -> Result<(), test::Fail> {
     push_numbers(&mut out, &[])?;
     push_numbers(&mut out, &[0, -2, 3])?;
     out.extend_from_slice(ElemType::Byte.word())?;
+    Ok(out)
+}
+
+#[test]
+fn words_of_the_canonical_text(rt: HostRuntime) -> Result<(), AllocError> {
     let want =
         "18446744073709551615 4 3\"a\\\"\\\\\\n\tb\"-9223372036854775808 -10 -2 3signed byte";
-    assert!(rt; out.as_slice() == want.as_bytes());
+    assert!(rt; canonical(rt.alloc())?.as_slice() == want.as_bytes());
     Ok(())
 }
 
@@ -161,10 +211,9 @@ fn below_ten(alloc: Global, n: u8) -> Result<Vec<u8>, Fail<u8>> {
 }
 
 #[test]
-fn a_refusal_is_told_from_want_of_memory(rt: HostRuntime) -> Result<(), test::Fail> {
+fn a_refusal_is_told_from_want_of_memory(rt: HostRuntime) {
     let alloc = rt.alloc();
     assert!(rt; below_ten(alloc, 9).is_ok());
     assert!(rt; below_ten(alloc, 12).err() == Some(Fail::Refused(12)));
     assert!(rt; Fail::<u8>::from(AllocError) == Fail::Memory);
-    Ok(())
 }

@@ -3,9 +3,8 @@
 use dx_base::Bytes;
 use dx_io::{CallNumbers, FileFail, Files, NamedBytes};
 use std::alloc::{AllocError, Global};
-use std::test::Fail;
 
-pub(crate) fn numbers(alloc: Global, calls: &[u64]) -> Result<CallNumbers, Fail> {
+pub(crate) fn numbers(alloc: Global, calls: &[u64]) -> Result<CallNumbers, AllocError> {
     Ok(CallNumbers::from_vec(calls.to_vec(alloc)?))
 }
 

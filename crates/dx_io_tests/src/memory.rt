@@ -3,22 +3,28 @@
 use crate::made::{Answer, named, numbers, read};
 use dx_base::Bytes;
 use dx_io::{ExportFail, Exports, MemExports, MemFiles, MemSink, Sink, SinkFail, write_all};
+use std::alloc::{AllocError, Global};
 use std::test::Fail;
+
+fn made_files(alloc: Global) -> Result<MemFiles, AllocError> {
+    let pairs = named(alloc, &[("a", "1"), ("b", "2"), ("a", "3")])?;
+    Ok(MemFiles::new(alloc, pairs, numbers(alloc, &[3])?))
+}
+
+const READS: &[(&[u8], &[u8], Answer)] = &[
+    (b"a", b"1", Answer::Found),
+    (b"c", b"1", Answer::Missing),
+    (b"a", b"1", Answer::Fault),
+    (b"b", b"1", Answer::Other),
+    (b"b", b"2", Answer::Found),
+];
 
 #[test]
 fn files_in_memory_are_found_under_their_names(rt: HostRuntime) -> Result<(), Fail> {
-    let alloc = rt.alloc();
-    let pairs = named(alloc, &[("a", "1"), ("b", "2"), ("a", "3")])?;
-    let mut files = MemFiles::new(alloc, pairs, numbers(alloc, &[3])?);
-    for (name, want) in [
-        (b"a", Answer::Found),
-        (b"c", Answer::Missing),
-        (b"a", Answer::Fault),
-        (b"b", Answer::Other),
-    ] {
-        assert!(rt; read(alloc, &mut files, name, b"1")? == want);
+    let mut files = made_files(rt.alloc())?;
+    for (name, content, wanted) in READS {
+        assert!(rt; read(rt.alloc(), &mut files, name, content)? == *wanted);
     }
-    assert!(rt; read(alloc, &mut files, b"b", b"2")? == Answer::Found);
     assert!(rt; files.asked().len() == 5);
     Ok(())
 }
@@ -26,16 +32,13 @@ fn files_in_memory_are_found_under_their_names(rt: HostRuntime) -> Result<(), Fa
 #[test]
 fn numbers_of_calls_are_contained_or_not(rt: HostRuntime) -> Result<(), Fail> {
     let calls = numbers(rt.alloc(), &[2, 5])?;
-    for (call, want) in [(1, false), (2, true), (5, true), (6, false)] {
-        assert!(rt; calls.contains(call) == want);
-    }
+    assert!(rt; !calls.contains(1) && calls.contains(2) && calls.contains(5) && !calls.contains(6));
     Ok(())
 }
 
 #[test]
 fn a_sink_in_memory_has_what_was_written(rt: HostRuntime) -> Result<(), Fail> {
-    let alloc = rt.alloc();
-    let mut out = MemSink::new(alloc, numbers(alloc, &[2])?);
+    let mut out = MemSink::new(rt.alloc(), numbers(rt.alloc(), &[2])?);
     assert!(rt; write_all(&mut out, b"one") == Ok(()));
     assert!(rt; write_all(&mut out, b"two") == Err(SinkFail::Fault));
     assert!(rt; out.write(b"three") == Ok(5));
@@ -45,8 +48,7 @@ fn a_sink_in_memory_has_what_was_written(rt: HostRuntime) -> Result<(), Fail> {
 
 #[test]
 fn a_slow_sink_takes_a_few_bytes_a_call(rt: HostRuntime) -> Result<(), Fail> {
-    let alloc = rt.alloc();
-    let mut out = MemSink::slow(alloc, 2, numbers(alloc, &[5])?);
+    let mut out = MemSink::slow(rt.alloc(), 2, numbers(rt.alloc(), &[5])?);
     assert!(rt; out.write(b"abcde") == Ok(2));
     assert!(rt; write_all(&mut out, b"cde") == Ok(()));
     assert!(rt; write_all(&mut out, b"fgh") == Err(SinkFail::Fault));
@@ -54,22 +56,32 @@ fn a_slow_sink_takes_a_few_bytes_a_call(rt: HostRuntime) -> Result<(), Fail> {
     Ok(())
 }
 
+fn put(
+    alloc: Global,
+    exports: &mut MemExports,
+    name: &[u8],
+    content: &[u8],
+) -> Result<Result<(), ExportFail>, AllocError> {
+    let name = Bytes::copy_of(alloc, name)?;
+    Ok(exports.put(alloc, &name, content))
+}
+
+fn is_of(put: Option<&(Bytes, Bytes)>, name: &[u8], content: &[u8]) -> bool {
+    match put {
+        Some(put) => put.0.bytes() == name && put.1.bytes() == content,
+        None => false,
+    }
+}
+
 #[test]
 fn exports_in_memory_keep_the_completed_puts_in_order(rt: HostRuntime) -> Result<(), Fail> {
     let alloc = rt.alloc();
     let mut exports = MemExports::new(alloc, numbers(alloc, &[2])?);
-    for (name, content, want) in [
-        (b"a", b"1", Ok(())),
-        (b"b", b"2", Err(ExportFail::Fault)),
-        (b"a", b"3", Ok(())),
-    ] {
-        let name = Bytes::copy_of(alloc, name)?;
-        assert!(rt; exports.put(alloc, &name, content) == want);
-    }
+    assert!(rt; put(alloc, &mut exports, b"a", b"1")? == Ok(()));
+    assert!(rt; put(alloc, &mut exports, b"b", b"2")? == Err(ExportFail::Fault));
+    assert!(rt; put(alloc, &mut exports, b"a", b"3")? == Ok(()));
     let puts = exports.puts();
     assert!(rt; puts.len() == 2);
-    for ((name, content), want) in puts.iter().zip([(b"a", b"1"), (b"a", b"3")]) {
-        assert!(rt; name.bytes() == want.0.as_slice() && content.bytes() == want.1.as_slice());
-    }
+    assert!(rt; is_of(puts.first(), b"a", b"1") && is_of(puts.last(), b"a", b"3"));
     Ok(())
 }
