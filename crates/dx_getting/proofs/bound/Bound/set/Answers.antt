@@ -5,7 +5,7 @@ use Rattle.dx_getting.proofs.BoundValues.{once_each, changed_value}
 use Rattle.dx_getting.proofs.bound.Bound.set.Goals as goal
 
 pub returns-clause-values : goal.returns-clause-values
-returns-clause-values c = λ t. changed_value (tags.ghosts.eq t) c.self.inside.table.entries c.insert.new.table.entries (Some c.args.value) (tags.ghosts.eq c.args.tag t) _ (ap (λ (t : Table). t.pairs) c.self.view_is) (c.in-Ok.ensures.updates.0 t)
+returns-clause-values c = λ t. changed_value (tags.ghosts.eq t) c.self.inside.table.entries c.insert.new.self.entries (Some c.args.value) (tags.ghosts.eq c.args.tag t) _ (ap (λ (t : Table). t.pairs) c.self.view_is) (c.in-Ok.ensures.updates.0 t)
 
 pub returns-clause-once : goal.returns-clause-once
-returns-clause-once c = once_each c.insert.new.table.entries c.insert.ensures.unique
+returns-clause-once c = once_each c.insert.new.self.entries c.insert.ensures.unique
