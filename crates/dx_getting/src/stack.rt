@@ -35,7 +35,7 @@ fn at_hand<S: Sites>(
     ensures calls { AreCalls scene.now.tags.now work.old.cache.entries → AreCalls scene.now.tags.now work.new.cache.entries }
     ensures above { (u : ℕ) → t.tag < u → IsAway work.old u → IsAway work.new u }
     ensures none { IfOk result (λ v. v ≡ None → IsAway work.new t.tag × (IsToGet (setting_of scene.now (S.formed sites.now)) t)) }
-    ensures gets { (files : World) (base now : Told) (s : State) → LinksDenote (setting_of scene.now (S.formed sites.now)) files scene.now.links.now → Stands (setting_of scene.now (S.formed sites.now)) files work.old base now s → AtHand (setting_of scene.now (S.formed sites.now)) files base t result (get (frame_of (setting_of scene.now (S.formed sites.now)) files work.old.cache.budget) (value_term (heads_of scene.now.tags.now) t) s) work.old work.new now }
+    ensures gets { (files : World) (base now : Told) (s : State) → LinksDenote (setting_of scene.now (S.formed sites.now)) files scene.now.links.now.pairs → Stands (setting_of scene.now (S.formed sites.now)) files work.old base now s → AtHand (setting_of scene.now (S.formed sites.now)) files base t result (get (frame_of (setting_of scene.now (S.formed sites.now)) files work.old.cache.budget) (value_term (heads_of scene.now.tags.now) t) s) work.old work.new now }
 {
     match value_given(scene, t)? {
         Given::Ready(value) => Ok(Some(value)),
@@ -71,7 +71,7 @@ fn take_argument<S: Sites>(
     ensures calls { AreCalls scene.now.tags.now work.old.cache.entries → AreCalls scene.now.tags.now work.new.cache.entries }
     ensures above { (u : ℕ) → top.old.wanted.tag < u → IsAway work.old u → IsAway work.new u }
     ensures stepped { OnOk result (IsStepped (setting_of scene.now (S.formed sites.now)) work.new (left_of scene.now.tags.now below.old.items top.old) (lowest below.old.items top.old) below.new.items top.new) }
-    ensures gets { (files : World) (base now : Told) (s : State) → LinksDenote (setting_of scene.now (S.formed sites.now)) files scene.now.links.now → Stands (setting_of scene.now (S.formed sites.now)) files work.old base now s → HasInputs (setting_of scene.now (S.formed sites.now)) files top.old → HaveInputs (setting_of scene.now (S.formed sites.now)) files below.old.items → TakesOn (setting_of scene.now (S.formed sites.now)) files base work.old.cache.budget result (rest_of (frame_of (setting_of scene.now (S.formed sites.now)) files work.old.cache.budget) scene.now.tags.now below.old.items top.old s) below.new.items top.new work.new now }
+    ensures gets { (files : World) (base now : Told) (s : State) → LinksDenote (setting_of scene.now (S.formed sites.now)) files scene.now.links.now.pairs → Stands (setting_of scene.now (S.formed sites.now)) files work.old base now s → HasInputs (setting_of scene.now (S.formed sites.now)) files top.old → HaveInputs (setting_of scene.now (S.formed sites.now)) files below.old.items → TakesOn (setting_of scene.now (S.formed sites.now)) files base work.old.cache.budget result (rest_of (frame_of (setting_of scene.now (S.formed sites.now)) files work.old.cache.budget) scene.now.tags.now below.old.items top.old s) below.new.items top.new work.new now }
 {
     match at_hand(scene, arg, sites, work)? {
         Some(value) => top.inputs.push(value)?,

@@ -1,5 +1,5 @@
 // The changes of one execution.
-ghost use Rattle.std.specs.Prelude.{◌≡◌, ◌==◌, [], ◌∷◌, ◌++◌, length, OnOk, OnErr};
+ghost use Rattle.std.specs.Prelude.{◌≡◌, ◌<◌, ◌==◌, [], ◌∷◌, ◌++◌, Some, length, slice_get, OnOk, OnErr};
 ghost use Rattle.std.specs.Map.{keys_of};
 ghost use Rattle.std.specs.List.Sorted.{IsStrictlySortedBy};
 ghost use Rattle.dx_links.specs.LinkMap.{LinkMap, after, key_cmp};
@@ -59,6 +59,14 @@ impl Changes {
         ensures { result ≡ (length self.now == 0) }
     {
         self.placed.is_empty()
+    }
+
+    /// The change at a place in their order, counted from 0.
+    pub fn at(&self, i: usize) -> &Change
+        requires within { i < length self.now }
+        ensures { slice_get self.now i ≡ Some result.now }
+    {
+        &self.placed[i].change
     }
 
     /// Puts a change behind the others. Where memory runs out they stay as they were.

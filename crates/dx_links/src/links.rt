@@ -1,7 +1,8 @@
 // The links: a list in the order of the keys, which is searched by halving.
 
 ghost use Rattle.std.specs.Prelude.{◌≡◌, ◌<◌, ◌≤◌, [], None, Some, length, MatchOption, OnOk, IfOk, slice_get};
-ghost use Rattle.std.specs.List.Sorted.{IsBinarySearchResult, IsSearchInRange};
+ghost use Rattle.std.specs.List.Sorted.{IsBinarySearchResult, IsSearchInRange, IsStrictlySortedBy};
+ghost use Rattle.std.specs.Map.{keys_of};
 ghost use Rattle.dx_links.specs.LinkMap.{held_at, after, tag_at, key_cmp};
 
 use crate::changes::Changes;
@@ -79,6 +80,7 @@ impl Links {
         ensures links { self.new.links ≡ self.old.links }
         ensures room { OnOk result (keys ≤ self.new.room) }
         ensures kept { self.old.room ≤ self.new.room }
+        ensures sorted { IsStrictlySortedBy key_cmp (keys_of self.new.links) }
     {
         self.links.reserve(keys)?;
         let places = self.links.capacity();

@@ -7,7 +7,7 @@ use Rattle.std.specs.declared.alloc.Global.{Global}
 use denote.Bor.{Bor}
 use Rattle.dx_base.specs.Object.{Tree}
 use Rattle.dx_tags.specs.declared.term.ValueTag.{ValueTag}
-use Rattle.dx_getting.specs.Terms.{BoundValues, bound_values}
+use Rattle.dx_getting.specs.Terms.{BoundValues, Table, bound_values}
 use Rattle.dx_getting.proofs.BoundValues.{value_found}
 use Rattle.dx_getting.proofs.bound.Bound.get.Goals as goal
 
@@ -19,4 +19,4 @@ found test xs self None v e = ap (lookup test) (sym v) ∙ value_found test xs �
 found test xs self (Some o) v e = ap (lookup test) (sym v) ∙ value_found test xs ∙ ap (option_map shown) (sym e)
 
 pub returns : goal.returns
-returns c = found _ c.self.inside.table.entries _ c.get.result c.self.view_is c.get.ensures.value
+returns c = found _ c.self.inside.table.entries _ c.get.result (ap (λ (t : Table). t.pairs) c.self.view_is) c.get.ensures.value
