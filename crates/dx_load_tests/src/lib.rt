@@ -1,27 +1,11 @@
-//! Tests of loading, of frames and of sessions, by public calls alone.
+//! Tests of loading, of constants, of the table of functions and of the sequencer, by public calls alone.
 #![tactic(auto)]
 
 #[cfg(test)]
 mod constant_tests;
 #[cfg(test)]
-mod device_tests;
-#[cfg(test)]
-mod frame_tests;
-#[cfg(test)]
-mod kept_tests;
-#[cfg(test)]
-mod limit_tests;
-#[cfg(test)]
 mod load_tests;
 #[cfg(test)]
-mod macro_tests;
-#[cfg(test)]
-mod outcome;
-#[cfg(test)]
-mod print_tests;
-#[cfg(test)]
 mod sequencer_tests;
-#[cfg(test)]
-mod session_tests;
 #[cfg(test)]
 mod table_tests;

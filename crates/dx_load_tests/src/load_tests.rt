@@ -1,6 +1,5 @@
 //! Loading over files in memory: statements, refusals with their files, and how often files are asked for.
 
-use crate::outcome::files;
 use dx_base::{Bytes, SyntaxError, SyntaxKind};
 use dx_include::{LoadFail, load};
 use dx_io::{CallNumbers, MemFiles, NamedBytes};
@@ -71,6 +70,17 @@ fn is_loaded(
     Ok(out.as_slice() == want.as_bytes() && files.asked().len() == reads)
 }
 
+/// Files with these names and texts.
+fn files_of(alloc: Global, texts: &[(&str, &str)]) -> Result<MemFiles, AllocError> {
+    let mut pairs = Vec::new(alloc);
+    for (name, text) in texts {
+        let name = Bytes::copy_of(alloc, name.as_bytes())?;
+        pairs.push((name, Bytes::copy_of(alloc, text.as_bytes())?))?;
+    }
+    let fail = CallNumbers::from_vec(Vec::new(alloc));
+    Ok(MemFiles::new(alloc, NamedBytes::from_vec(pairs), fail))
+}
+
 /// The same where this is the text of `s`, beside some files that it may include.
 fn is_session_loaded(
     alloc: Global,
@@ -85,7 +95,7 @@ fn is_session_loaded(
         ("bad", "r = 1.5;"),
         ("me", "include \"me\""),
     ];
-    let mut files = files(alloc, &texts, 0)?;
+    let mut files = files_of(alloc, &texts)?;
     is_loaded(alloc, &mut files, want, reads)
 }
 

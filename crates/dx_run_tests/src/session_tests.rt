@@ -6,7 +6,7 @@ ghost use Rattle.dx_engine.specs.Keeping.{StateFits};
 
 use crate::outcome::{Failing, NONE, devices, files};
 use dx_ast::Stmts;
-use dx_io::{Exports, Files, MemExports, MemFiles, MemSink, Sink};
+use dx_io::{MemExports, MemFiles, MemSink};
 use dx_modules::Modules;
 use dx_parser::parse;
 use dx_sessions::{End, Listings, Session};
@@ -39,13 +39,13 @@ fn letter(ended: Result<bool, End>) -> u8 {
 }
 
 // Performs the statements one after the other, also behind one that was cut short, and answers how each ended.
-fn perform_each<F: Files, X: Exports, O: Sink>(
+fn perform_each(
     alloc: Global,
     session: &mut Session,
     statements: Stmts,
-    files: &mut F,
-    exports: &mut X,
-    out: &mut O,
+    files: &mut MemFiles,
+    exports: &mut MemExports,
+    out: &mut MemSink,
     lib: &mut Modules,
 ) -> Result<Vec<u8>, AllocError>
     requires lawful { AreLawful (plain_stmts statements) }
@@ -70,8 +70,8 @@ fn ends(
         Some(statements) => statements,
         None => return Err(Fail::from("no script")),
     };
-    let mut files: MemFiles = files(alloc, texts, fail.read)?;
-    let (mut exports, mut out): (MemExports, MemSink) = devices(alloc, fail)?;
+    let mut files = files(alloc, texts, fail.read)?;
+    let (mut exports, mut out) = devices(alloc, fail)?;
     let listings = Listings {
         trace: false,
         links: false,
