@@ -3,7 +3,7 @@ use crate::shown::{push_object, push_parts};
 use crate::stock::{Words, object, parts};
 use crate::wholes::any;
 use dx_base::Bytes;
-use dx_objects::{MembersError, Object, Parts, WithError};
+use dx_objects::{MembersError, Object, Part, Parts, WithError};
 use std::alloc::{AllocError, Global};
 use std::rc::Rc;
 use std::test::Fail;
@@ -29,10 +29,9 @@ fn shown(alloc: Global, made: Result<Object, WithError>) -> Result<Vec<u8>, Allo
 }
 
 fn with(alloc: Global, id: u8, name: &[u8], new: u8) -> Result<Vec<u8>, Fail> {
+    let (object, part) = (any(alloc, id)?, any(alloc, new)?);
     let name = Bytes::copy_of(alloc, name)?;
-    let part = any(alloc, new)?;
-    let made = any(alloc, id)?.with_component(alloc, &name, part);
-    Ok(shown(alloc, made)?)
+    Ok(shown(alloc, object.with_component(alloc, &name, part))?)
 }
 
 fn without(alloc: Global, id: u8, name: &[u8]) -> Result<Vec<u8>, Fail> {
@@ -111,15 +110,20 @@ fn members_word(fail: MembersError) -> &'static [u8] {
     }
 }
 
-fn with_members(alloc: Global, id: u8, new: &[u8]) -> Result<Vec<u8>, Fail> {
-    let new = objects(alloc, new)?;
-    let made = any(alloc, id)?.with_members(alloc, &new);
+// The object, or why it has no such members.
+fn shown_members(alloc: Global, made: Result<Object, MembersError>) -> Result<Vec<u8>, AllocError> {
     let mut text = Vec::new(alloc);
     match made {
         Ok(object) => push_object(&mut text, &object)?,
         Err(fail) => text.extend_from_slice(members_word(fail))?,
     }
     Ok(text)
+}
+
+fn with_members(alloc: Global, id: u8, new: &[u8]) -> Result<Vec<u8>, Fail> {
+    let new = objects(alloc, new)?;
+    let object = any(alloc, id)?;
+    Ok(shown_members(alloc, object.with_members(alloc, &new))?)
 }
 
 // The object and its new members, and what is made.
@@ -165,24 +169,34 @@ fn there_and_back(alloc: Global, words: Words<'_>) -> Result<Vec<u8>, Fail> {
     Ok(text)
 }
 
+fn push_list(out: &mut Vec<u8>, list: Result<Parts, AllocError>) -> Result<(), AllocError> {
+    push_parts(out, list?.as_slice())
+}
+
 // Copies of a list: as it is, with `hello` under a name, and without what has the name.
+fn push_copies(
+    alloc: Global,
+    out: &mut Vec<u8>,
+    list: &[Part],
+    name: &[u8],
+    hello: Rc<Object>,
+) -> Result<(), AllocError> {
+    push_list(out, Parts::copy_of(alloc, list))?;
+    out.extend_from_slice(b" /")?;
+    push_list(out, Parts::copy_with(alloc, list, name, hello))?;
+    out.extend_from_slice(b" /")?;
+    push_list(out, Parts::copy_without(alloc, list, name))
+}
+
 fn copies(alloc: Global, words: Words<'_>, name: &[u8]) -> Result<Vec<u8>, Fail> {
     let list = parts(alloc, words)?;
     let mut text = Vec::new(alloc);
-    push_parts(
+    push_copies(
+        alloc,
         &mut text,
-        Parts::copy_of(alloc, list.as_slice())?.as_slice(),
-    )?;
-    text.extend_from_slice(b" /")?;
-    let hello = object(alloc, b'h')?;
-    push_parts(
-        &mut text,
-        Parts::copy_with(alloc, list.as_slice(), name, hello)?.as_slice(),
-    )?;
-    text.extend_from_slice(b" /")?;
-    push_parts(
-        &mut text,
-        Parts::copy_without(alloc, list.as_slice(), name)?.as_slice(),
+        list.as_slice(),
+        name,
+        object(alloc, b'h')?,
     )?;
     Ok(text)
 }
@@ -274,18 +288,28 @@ fn share_first(one: &Object, other: &Object) -> bool {
     }
 }
 
+// Whether an object is made, and has the first part of this one.
+fn is_sharing<E: Drop>(one: &Object, made: Result<Object, E>) -> bool {
+    match made {
+        Ok(other) => share_first(one, &other),
+        Err(_) => false,
+    }
+}
+
+fn shares_with_a_component(alloc: Global, field: &Object) -> Result<bool, Fail> {
+    let name = Bytes::copy_of(alloc, b"x")?;
+    let part = object(alloc, b'n')?;
+    Ok(is_sharing(field, field.with_component(alloc, &name, part)))
+}
+
 #[test]
 fn what_is_not_changed_is_shared(rt: HostRuntime) -> Result<(), Fail> {
     let alloc = rt.alloc();
-    let field = any(alloc, b'F')?;
-    let name = Bytes::copy_of(alloc, b"x")?;
-    let other = field.with_component(alloc, &name, object(alloc, b'n')?)?;
-    assert!(rt; share_first(&field, &other));
-    let fewer = field.without_component(alloc, b"data")?;
-    assert!(rt; share_first(&field, &fewer));
-    let group = any(alloc, b'R')?;
-    let same = group.with_members(alloc, &[])?;
-    assert!(rt; share_first(&group, &same) && !share_first(&group, &field));
+    let (field, group) = (any(alloc, b'F')?, any(alloc, b'R')?);
+    assert!(rt; shares_with_a_component(alloc, &field)?);
+    assert!(rt; is_sharing(&field, field.without_component(alloc, b"data")));
+    assert!(rt; is_sharing(&group, group.with_members(alloc, &[])));
+    assert!(rt; !share_first(&group, &field));
     Ok(())
 }
 

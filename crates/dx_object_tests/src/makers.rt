@@ -1,6 +1,6 @@
 // What the six makers answer, and what `Measure` tells of an object before it is made.
 use crate::shown::{measure_of, push_made};
-use crate::stock::{Words, object, parts, twelve};
+use crate::stock::{Words, made_of, object, parts, twelve};
 use dx_base::Bytes;
 use dx_objects::{Measure, Object, ObjectError, Parts};
 use std::alloc::Global;
@@ -26,13 +26,7 @@ fn whole(maker: u8, parts: Parts, attributes: Parts) -> Made {
         b's' => Measure::series(parts.as_slice(), attributes.as_slice()),
         _ => Measure::group(parts.as_slice(), attributes.as_slice()),
     };
-    let made = match maker {
-        b'f' => Object::field(parts, attributes),
-        b'c' => Object::composite(parts, attributes),
-        b's' => Object::series(parts, attributes),
-        _ => Object::group(parts, attributes),
-    };
-    (told, made)
+    (told, made_of(maker, parts, attributes))
 }
 
 // `a` and `t` make an array of twelve ints and the text `hello`, `f`, `g`, `c` and `s` an object of these parts.

@@ -42,17 +42,23 @@ fn many_members_are_looked_through(rt: HostRuntime) -> Result<(), Fail> {
     Ok(())
 }
 
+// So many parts and one more under the name of this one.
+fn with_one_more(alloc: Global, count: u32, repeated: u32) -> Result<Parts, Fail> {
+    let object = object(alloc, b'f')?;
+    let mut parts = many(alloc, count, &object)?;
+    parts.push(part(alloc, &name_of(repeated), 0, object)?)?;
+    Ok(parts)
+}
+
 // Why no group is made of so many members and one more under the name of this one; or, where they are attributes, no
-// text.
+// series.
 fn refusal(
     alloc: Global,
     count: u32,
     repeated: u32,
     are_members: bool,
 ) -> Result<Option<ObjectError>, Fail> {
-    let object = object(alloc, b'f')?;
-    let mut parts = many(alloc, count, &object)?;
-    parts.push(part(alloc, &name_of(repeated), 0, object)?)?;
+    let parts = with_one_more(alloc, count, repeated)?;
     let none = Parts::new(alloc);
     Ok(if are_members {
         Object::composite(parts, none).err()

@@ -1,7 +1,7 @@
 // Lists of values.
 use crate::wholes::any;
 use dx_objects::{Object, Outs, Value};
-use std::alloc::Global;
+use std::alloc::{AllocError, Global};
 use std::rc::Rc;
 use std::test::Fail;
 
@@ -85,15 +85,19 @@ fn lists_of_values_count_64_for_null(rt: HostRuntime) -> Result<(), Fail> {
     Ok(())
 }
 
+// Whether a copy of a list, and what it is as a vector and back, have its objects, and this size and these sizes.
+fn copies(alloc: Global, list: &Outs, size: u64, wanted: &[u64; 4]) -> Result<bool, AllocError> {
+    let copy = list.copy(alloc)?;
+    let is_copy = share_all(list, &copy) && copy.size() == size;
+    let back = Outs::from_vec(copy.into_vec());
+    Ok(is_copy && share_all(list, &back) && sizes(&back) == *wanted)
+}
+
 #[test]
 fn a_copy_shares_the_objects(rt: HostRuntime) -> Result<(), Fail> {
     let alloc = rt.alloc();
     for (ids, size, wanted) in ROWS {
-        let list = outs(alloc, ids)?;
-        let copy = list.copy(alloc)?;
-        assert!(rt; share_all(&list, &copy) && copy.size() == *size);
-        let back = Outs::from_vec(copy.into_vec());
-        assert!(rt; share_all(&list, &back) && sizes(&back) == *wanted);
+        assert!(rt; copies(alloc, &outs(alloc, ids)?, *size, wanted)?);
     }
     Ok(())
 }

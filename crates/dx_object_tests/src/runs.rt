@@ -11,9 +11,9 @@ type Answered = (usize, u64, Option<Code>);
 
 const NOTHING: Answered = (0, 0, None);
 
-fn answer_of<L: Library>(
+fn answer_of(
     alloc: Global,
-    library: &mut L,
+    library: &mut Recorder<Small>,
     module: Module,
     inputs: &Outs,
     file: Option<&Bytes>,

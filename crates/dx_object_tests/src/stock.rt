@@ -1,7 +1,7 @@
 // Simple objects, each named by a letter, and lists of parts of them.
 use dx_base::Bytes;
-use dx_objects::{Array, ElemType, Object, Part, Parts, Shape};
-use std::alloc::Global;
+use dx_objects::{Array, ElemType, Object, ObjectError, Part, Parts, Shape};
+use std::alloc::{AllocError, Global};
 use std::rc::Rc;
 use std::test::Fail;
 
@@ -25,15 +25,18 @@ fn text(alloc: Global, bytes: &[u8]) -> Result<Rc<Object>, Fail> {
     Ok(Rc::new(alloc, object)?)
 }
 
-// A field, a group, a composite group or a series without parts.
+/// A field, a composite group or a series for its letter, and else a group.
+pub(crate) fn made_of(id: u8, parts: Parts, attributes: Parts) -> Result<Object, ObjectError> {
+    match id {
+        b'f' => Object::field(parts, attributes),
+        b'c' => Object::composite(parts, attributes),
+        b's' => Object::series(parts, attributes),
+        _ => Object::group(parts, attributes),
+    }
+}
+
 fn empty(alloc: Global, id: u8) -> Result<Rc<Object>, Fail> {
-    let (parts, attributes) = (Parts::new(alloc), Parts::new(alloc));
-    let object = match id {
-        b'f' => Object::field(parts, attributes)?,
-        b'c' => Object::composite(parts, attributes)?,
-        b's' => Object::series(parts, attributes)?,
-        _ => Object::group(parts, attributes)?,
-    };
+    let object = made_of(id, Parts::new(alloc), Parts::new(alloc))?;
     Ok(Rc::new(alloc, object)?)
 }
 
@@ -64,23 +67,32 @@ fn nested(
     Ok(outer)
 }
 
+// One attribute.
+fn attribute(alloc: Global, object: Rc<Object>) -> Result<Parts, Fail> {
+    let mut attributes = Parts::new(alloc);
+    attributes.push(part(alloc, b"x", 0, object)?)?;
+    Ok(attributes)
+}
+
 // A field of 64 levels, which are those of its attribute.
 fn deep_field(alloc: Global) -> Result<Rc<Object>, Fail> {
-    let mut attributes = Parts::new(alloc);
     let within = nested(alloc, 62, 1, text(alloc, b"")?)?;
-    attributes.push(part(alloc, b"x", 0, within)?)?;
-    let field = Object::field(Parts::new(alloc), attributes)?;
+    let field = Object::field(Parts::new(alloc), attribute(alloc, within)?)?;
     Ok(Rc::new(alloc, field)?)
+}
+
+fn leaf_of(alloc: Global, id: u8) -> Result<Rc<Object>, Fail> {
+    if id == b'b' {
+        text(alloc, &vec![in alloc; 0; 301_888]?)
+    } else {
+        text(alloc, b"")
+    }
 }
 
 // Groups around a text: `l` and `d` have 63 and 64 levels, `m` is 1,048,576 objects, `w` as many in two levels, and `b`
 // states 268,435,392 bytes.
 fn groups(alloc: Global, id: u8) -> Result<Rc<Object>, Fail> {
-    let leaf = if id == b'b' {
-        text(alloc, &vec![in alloc; 0; 301_888]?)?
-    } else {
-        text(alloc, b"")?
-    };
+    let leaf = leaf_of(alloc, id)?;
     match id {
         b'l' => nested(alloc, 62, 1, leaf),
         b'd' => nested(alloc, 63, 1, leaf),
@@ -104,6 +116,13 @@ pub(crate) fn object(alloc: Global, id: u8) -> Result<Rc<Object>, Fail> {
     }
 }
 
+fn name_of(alloc: Global, name: &[u8]) -> Result<Option<Bytes>, AllocError> {
+    if name.is_empty() {
+        return Ok(None);
+    }
+    Ok(Some(Bytes::copy_of(alloc, name)?))
+}
+
 /// A part, which has no name where the bytes are empty.
 pub(crate) fn part(
     alloc: Global,
@@ -111,13 +130,8 @@ pub(crate) fn part(
     position: i32,
     object: Rc<Object>,
 ) -> Result<Part, Fail> {
-    let name = if name.is_empty() {
-        None
-    } else {
-        Some(Bytes::copy_of(alloc, name)?)
-    };
     Ok(Part {
-        name,
+        name: name_of(alloc, name)?,
         position,
         object,
     })

@@ -1,5 +1,5 @@
 // Objects with parts or attributes, each named by a capital letter.
-use crate::stock::{Words, object, part, parts, twelve};
+use crate::stock::{Words, made_of, object, part, parts, twelve};
 use dx_objects::{Array, Object, Parts};
 use std::alloc::Global;
 use std::rc::Rc;
@@ -53,21 +53,29 @@ fn grid_field(alloc: Global) -> Result<Rc<Object>, Fail> {
 }
 
 // `A` is a field, `R` and `W` are groups, `C` is a composite group and `S` a series.
-fn whole(alloc: Global, id: u8) -> Result<Rc<Object>, Fail> {
-    let words: Words<'_> = match id {
+fn words_of(id: u8) -> Words<'static> {
+    match id {
         b'A' => &[(b"a", b'a')],
         b'W' => &[(b"b", b't'), (b"", b't'), (b"ab", b'n'), (b"a", b'h')],
         b'C' => &[(b"a", b'f'), (b"", b'f')],
         b'S' => &[(b"", b't'), (b"", b'f')],
         _ => &[(b"a", b't'), (b"", b'f')],
-    };
-    let (parts, attributes) = (parts(alloc, words)?, parts(alloc, &[(b"u", b't')])?);
-    let object = match id {
-        b'A' => Object::field(parts, attributes)?,
-        b'C' => Object::composite(parts, attributes)?,
-        b'S' => Object::series(parts, attributes)?,
-        _ => Object::group(parts, attributes)?,
-    };
+    }
+}
+
+// The letter of the maker.
+fn maker_of(id: u8) -> u8 {
+    match id {
+        b'A' => b'f',
+        b'C' => b'c',
+        b'S' => b's',
+        _ => b'g',
+    }
+}
+
+fn whole(alloc: Global, id: u8) -> Result<Rc<Object>, Fail> {
+    let members = parts(alloc, words_of(id))?;
+    let object = made_of(maker_of(id), members, parts(alloc, &[(b"u", b't')])?)?;
     Ok(Rc::new(alloc, object)?)
 }
 
