@@ -19,7 +19,7 @@ IsFound t bound = (o : Object) × (lookup (tags.ghosts.eq t) bound ≡ Some o)
 
 -- ---- one value more at the end
 
-found_more : (t : ValueTag) (xs : BoundValues) (x : ValueTag × Object) → IsFound t xs → IsFound t (xs ++ x ∷ [])
+pub found_more : (t : ValueTag) (xs : BoundValues) (x : ValueTag × Object) → IsFound t xs → IsFound t (xs ++ x ∷ [])
 found_more t [] x f = absurd (let none = f.1 in cc)
 found_more t (y ∷ ys) x f = by (tags.ghosts.eq t y.0) f.1 (found_more t ys x)
   where
@@ -28,7 +28,7 @@ found_more t (y ∷ ys) x f = by (tags.ghosts.eq t y.0) f.1 (found_more t ys x)
     by true e next = (y.1, refl)
     by false e next = next (f.0, e)
 
-found_last : (t : ValueTag) (o : Object) (xs : BoundValues) → IsFound t (xs ++ (t, o) ∷ [])
+pub found_last : (t : ValueTag) (o : Object) (xs : BoundValues) → IsFound t (xs ++ (t, o) ∷ [])
 found_last t o [] = (o, rw ((tag_decides t t).1 refl) refl)
 found_last t o (y ∷ ys) = by (tags.ghosts.eq t y.0) (found_last t o ys)
   where
@@ -36,7 +36,7 @@ found_last t o (y ∷ ys) = by (tags.ghosts.eq t y.0) (found_last t o ys)
     by true f = (y.1, refl)
     by false f = f
 
-links_more : (links : LinkMap) (xs : BoundValues) (x : ValueTag × Object) → AreLinks links xs → IsLink links x → AreLinks links (xs ++ x ∷ [])
+pub links_more : (links : LinkMap) (xs : BoundValues) (x : ValueTag × Object) → AreLinks links xs → IsLink links x → AreLinks links (xs ++ x ∷ [])
 links_more links [] x a l = (l, tt)
 links_more links (y ∷ ys) x a l = (a.0, links_more links ys x a.1 l)
 

@@ -1,4 +1,5 @@
 pub mod Binding
 pub mod Emptying
 pub mod Putting
+pub mod Rebinding
 pub mod Terms

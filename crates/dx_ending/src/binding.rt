@@ -9,7 +9,7 @@ use std::alloc::{AllocError, Global};
 
 /// The values of all links by their terms, and no others.
 pub fn bound_of(alloc: Global, links: &Links) -> Result<Bound, AllocError>
-    ensures { IfOk result (λ bound. IsBound links.now.links bound) }
+    ensures { IfOk result (λ bound. IsBound links.now.links bound.pairs) }
 {
     let mut bound = Bound::new(alloc);
     for i in 0..links.len() {
@@ -28,7 +28,7 @@ pub fn bound_of(alloc: Global, links: &Links) -> Result<Bound, AllocError>
 
 // The value of one link more, unless its term has a value. Two links of one term hold the same.
 fn bind(bound: &mut Bound, link: &Held) -> Result<(), AllocError>
-    ensures { OnOk result (bound.new ≡ with_link bound.old link.now) }
+    ensures { OnOk result (bound.new.pairs ≡ with_link bound.old.pairs link.now) }
 {
     if bound.get(link.tag()).is_some() {
         return Ok(());

@@ -140,18 +140,18 @@ formed_lawful setup at l =
     lawful_from at.tags (nodes_in setup) (attributes_small (nodes_in setup) (nodes_of (graph_of setup.graph.now) setup.graph.now.lawful)) (nodes_named setup.graph.now) at.seen.memo.formed.entries
     (λ i e h. let r = entry_found at.seen.memo.formed.entries i e h in call_there at.tags e.0 (l.formed.memo.calls e.0 r.0 r.1))
 
-pub links_bound : (setup : Setup) (at : Progress) → IsLooking setup at → LinksBound setup.links.now.links setup.bound.now
-links_bound setup at l = link_held setup.links.now.links setup.bound.now l.bound.all
+pub links_bound : (setup : Setup) (at : Progress) → IsLooking setup at → LinksBound setup.links.now.links setup.bound.now.pairs
+links_bound setup at l = link_held setup.links.now.links setup.bound.now.pairs l.bound.all
 
 pub is_covered : (setup : Setup) (at : Progress) → IsLooking setup at → (t : ValueTag) → Fits at.tags t → IsFound setup.links.now.links at.tags (formed_of at.seen.memo) t →
-    IsCovered (formed_calls (heads_of at.tags) (setting_in setup at).formed) (link_terms (heads_of at.tags) setup.bound.now) (value_term (heads_of at.tags) t)
-is_covered setup at l t fits found = closed_covers setup.links.now.links at.tags setup.bound.now (nodes_in setup) at.seen l.exact l.closed (links_bound setup at l) t fits found
+    IsCovered (formed_calls (heads_of at.tags) (setting_in setup at).formed) (link_terms (heads_of at.tags) setup.bound.now.pairs) (value_term (heads_of at.tags) t)
+is_covered setup at l t fits found = closed_covers setup.links.now.links at.tags setup.bound.now.pairs (nodes_in setup) at.seen l.exact l.closed (links_bound setup at l) t fits found
 
 pub may_get : (setup : Setup) (at : Progress) → IsLooking setup at → (t : ValueTag) → Fits at.tags t → IsFound setup.links.now.links at.tags (formed_of at.seen.memo) t → MayGetValue (setting_in setup at) t
 may_get setup at l t fits found = record {
   exact = getting_exact at.tags l.exact;
   lawful = formed_lawful setup at l;
-  links = links_fit at.tags setup.links.now.links l.links setup.bound.now l.bound.only;
+  links = links_fit at.tags setup.links.now.links l.links setup.bound.now.pairs l.bound.only;
   fits = fits;
   covered = is_covered setup at l t fits found;
 }
@@ -161,10 +161,10 @@ may_get setup at l t fits found = record {
 pub around_same : (setup : Setup) (at : Progress) (x : Fixed) (k : Kept) → IsKept (heads_of at.tags) setup k → around_of (setting_in setup at) (world x.answer x.file) ≡ course.around_of x k
 around_same setup at x k kept = ap (λ h. record { answer = x.answer; file = x.file; held = value_at h }) (sym kept.held)
 
-pub links_denote : (setup : Setup) (at : Progress) → IsLooking setup at → (x : Fixed) (k : Kept) → IsKept (heads_of at.tags) setup k → LinksRight (course.around_of x k) k.links → LinksDenote (setting_in setup at) (world x.answer x.file) setup.bound.now
+pub links_denote : (setup : Setup) (at : Progress) → IsLooking setup at → (x : Fixed) (k : Kept) → IsKept (heads_of at.tags) setup k → LinksRight (course.around_of x k) k.links → LinksDenote (setting_in setup at) (world x.answer x.file) setup.bound.now.pairs
 links_denote setup at l x k kept r =
     bound_denote (setting_in setup at) (world x.answer x.file) setup.links.now.links
-    (subst (λ a. LinksRight a (links_of (heads_of at.tags) setup.links.now.links)) (sym (around_same setup at x k kept)) (subst (LinksRight (course.around_of x k)) kept.links r)) setup.bound.now l.bound.only
+    (subst (λ a. LinksRight a (links_of (heads_of at.tags) setup.links.now.links)) (sym (around_same setup at x k kept)) (subst (LinksRight (course.around_of x k)) kept.links r)) setup.bound.now.pairs l.bound.only
 
 -- the frame of getting, with these calls formed
 abbrev getting_frame : Setup → Progress → Fixed → List FormedCall → Frame
@@ -173,7 +173,7 @@ getting_frame setup at x later = with_formed (frame_of (setting_in setup at) (wo
 frames_alike : (setup : Setup) (at : Progress) → IsLooking setup at → (x : Fixed) (k : Kept) → IsKept (heads_of at.tags) setup k → (later : List FormedCall) → SameLinks (getting_frame setup at x later) (frame_with x k later)
 frames_alike setup at l x k kept later = record {
   around = sym (around_same setup at x k kept);
-  links = λ t. ap (λ (ls : LinkTerms). has_value (map (λ (l : Key × Link). l.1.term) ls) t) kept.links ∙ same_links (heads_of at.tags) setup.links.now.links setup.bound.now l.bound t;
+  links = λ t. ap (λ (ls : LinkTerms). has_value (map (λ (l : Key × Link). l.1.term) ls) t) kept.links ∙ same_links (heads_of at.tags) setup.links.now.links setup.bound.now.pairs l.bound t;
   formed = refl;
   budget = refl;
 }
@@ -196,7 +196,7 @@ pub gets_all_same : (setup : Setup) (at : Progress) → IsLooking setup at → (
 gets_all_same setup at l x k kept f e ts earlier found later same s =
     links_alike.get_all_alike (getting_frame setup at x later) (frame_with x k later) (frames_alike setup at l x k kept later) (value_terms (heads_of at.tags) ts) s
     ∙ alike.get_all_alike (frame_of (setting_in setup at) (world x.answer x.file) x.budget) later (subst (λ fs. SameCalls fs later) (sym (calls_same setup at f e)) same) (value_terms (heads_of at.tags) ts)
-    (all_closed_cover setup.links.now.links at.tags setup.bound.now (nodes_in setup) at.seen l.exact l.closed (links_bound setup at l) ts earlier found) s
+    (all_closed_cover setup.links.now.links at.tags setup.bound.now.pairs (nodes_in setup) at.seen l.exact l.closed (links_bound setup at l) ts earlier found) s
 
 -- ---- what is formed behind
 

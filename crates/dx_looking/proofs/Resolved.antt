@@ -22,7 +22,7 @@ use Rattle.dx_tags.specs.declared.term.ValueTag.{ValueTag}
 
 module _ (setup : Setup) (at : Progress) (new : List Term) (seen : Seen) (l : IsLooking setup at) (g : GoesOn at.tags new) where
   pub sight_same : sight_in setup (with_seen at new seen) ≡ sight_in setup at
-  sight_same = ap₂ (λ ls vs. told_sight ls setup.written.now.files vs) (links_same at.tags new g setup.links.now.links setup.bound.now l.links l.bound) (told_same at.tags new g at.told l.told)
+  sight_same = ap₂ (λ ls vs. told_sight ls setup.written.now.files vs) (links_same at.tags new g setup.links.now.links setup.bound.now.pairs l.links l.bound) (told_same at.tags new g at.told l.told)
 
   pub sees_new : AreExact new → Sees (λ (t : ValueTag). lookup (tags.ghosts.eq t) at.told) setup.links.now.links setup.written.now.files new (sight_in setup (with_seen at new seen))
   sees_new x = sees_so new x setup at.told (values_grow at.tags new g at.told l.told)

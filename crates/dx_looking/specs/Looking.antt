@@ -51,7 +51,7 @@ AreValues terms (x ∷ xs) = IsValue terms x.0 × AreValues terms xs
 pub record IsLooking (setup : Setup) (at : Progress) : Type 0 where
   pub exact : AreExact at.tags
   pub links : LinksFit at.tags setup.links.now.links
-  pub bound : IsBound setup.links.now.links setup.bound.now
+  pub bound : IsBound setup.links.now.links setup.bound.now.pairs
   pub entries : AreCalls at.tags at.work.cache.entries
   pub told : AreValues at.tags at.told
   pub fits : SeenFits (nodes_in setup) at.tags at.seen

@@ -82,7 +82,7 @@ sight_in setup at = told_sight (links_of (heads_of at.tags) setup.links.now.link
 -- ---- what getting has
 
 abbrev pub setting_in : Setup → Progress → Setting
-setting_in setup at = record { terms = at.tags; links = setup.bound.now; held = setup.held.now; formed = formed_in (nodes_in setup) at.seen.memo.formed.entries }
+setting_in setup at = record { terms = at.tags; links = setup.bound.now.pairs; held = setup.held.now; formed = formed_in (nodes_in setup) at.seen.memo.formed.entries }
 
 abbrev pub fixed : Answers → InputFiles → ℕ → Fixed
 fixed answer file budget = record { answer = answer; file = file; budget = budget }
