@@ -67,7 +67,7 @@ module _ (setup : Setup) (st : State) (is : IsSetup setup st) (seen : Seen) (at 
   looking_begun f fits closed right formed met = subst (IsLooking setup) (sym same) (record {
     exact = f.exact;
     links = subst (λ l. LinksFit st.tags l.links) (sym is.links) f.links;
-    bound = subst (λ b. IsBound setup.links.now.links b) (sym is.bound) (subst (λ l. IsBound l.links st.bound) (sym is.links) f.bound);
+    bound = subst (λ b. IsBound setup.links.now.links b.pairs) (sym is.bound) (subst (λ l. IsBound l.links st.bound.pairs) (sym is.links) f.bound);
     entries = f.entries;
     told = subst (AreValues st.tags) (sym fresh.told) tt;
     fits = fits;
@@ -95,7 +95,7 @@ module _ (setup : Setup) (st : State) (is : IsSetup setup st) (seen : Seen) (at 
   })
     where
       entries_first : (x : Fixed) → IsSoundState x st → EntriesRight (setting_in setup at_first) (world x.answer x.file) st.cache.entries
-      entries_first x sound = entries_alike st.tags st.bound setup.bound.now st.held setup.held.now (sym is.held) [] (setting_in setup at_first).formed (world x.answer x.file) st.cache.entries sound.entries
+      entries_first x sound = entries_alike st.tags st.bound.pairs setup.bound.now.pairs st.held setup.held.now (sym is.held) [] (setting_in setup at_first).formed (world x.answer x.file) st.cache.entries sound.entries
 
 -- ---- at the end
 
@@ -111,7 +111,7 @@ effects_so setup st is x base all before (Ok g) at now written h = record {
   entries = sym h.stands.work.entries;
   events = sym h.stands.work.events;
   told = h.stands.work.told;
-  right = entries_alike at.tags setup.bound.now st.bound setup.held.now st.held is.held (setting_in setup at).formed [] (world x.answer x.file) at.work.cache.entries h.stands.work.sound.entries;
+  right = entries_alike at.tags setup.bound.now.pairs st.bound.pairs setup.held.now st.held is.held (setting_in setup at).formed [] (world x.answer x.file) at.work.cache.entries h.stands.work.sound.entries;
   sound = h.stands.sound;
 }
 effects_so setup st is x base all before (Err short) at now written h = record { printed = h.printed; told = h.told }
@@ -132,7 +132,7 @@ pub state_fits : (setup : Setup) (st : State) (is : IsSetup setup st) (r : Resul
 state_fits setup st is (Ok g) at l = record {
   exact = l.exact;
   links = subst (λ y. LinksFit at.tags y.links) is.links l.links;
-  bound = subst (λ b. IsBound st.links.links b) is.bound (subst (λ y. IsBound y.links setup.bound.now) is.links l.bound);
+  bound = subst (λ b. IsBound st.links.links b.pairs) is.bound (subst (λ y. IsBound y.links setup.bound.now.pairs) is.links l.bound);
   entries = l.entries;
 }
 state_fits setup st is (Err short) at l = tt

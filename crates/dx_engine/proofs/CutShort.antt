@@ -7,6 +7,8 @@ use Rattle.dx_io.proofs.Growing.{grows_by_nothing}
 use Rattle.dx_ending.specs.Putting.{ArePut, ArePutBefore}
 use Rattle.dx_performing.specs.Execution.{Export}
 use Rattle.dx_links.specs.Denotes.{Around}
+use Rattle.dx_links.specs.LinkMap.{LinkMap, Linked}
+use Rattle.dx_getting.specs.Terms.{Table}
 use Rattle.dx_demand.specs.Terms.{AreExact}
 use Rattle.dx_demand.specs.Picked.{LinksFit}
 use Rattle.dx_demand.proofs.Growing.{links_fit_grows}
@@ -27,21 +29,21 @@ use Rattle.dx_engine.specs.declared.exec_error.ExecError.TheVariants.{Module, Re
 use Rattle.dx_engine.specs.declared.state.State.{State}
 
 module _ (st st1 st2 : State) (fits : StateFits st) (cut : IsCutFrom st st1) (gone : IsForgotten st1 st2) where
-  links_are : st2.links ≡ st.links
-  links_are = gone.links ∙ cut.links
+  links_are : st2.links.links ≡ st.links.links
+  links_are = ap (λ (l : Linked). l.links) gone.links ∙ cut.links
 
   fits_then : StateFits st2
   fits_then = record {
     exact = subst AreExact (sym gone.tags) cut.exact;
-    links = subst (λ y. LinksFit st2.tags y.links) (sym links_are) (subst (λ terms. LinksFit terms st.links.links) (sym gone.tags) (links_fit_grows st.tags st1.tags cut.goes_on st.links.links fits.links));
-    bound = subst (λ y. IsBound y.links st2.bound) (sym links_are) (subst (IsBound st.links.links) (sym (gone.bound ∙ cut.bound)) fits.bound);
+    links = subst (LinksFit st2.tags) (sym links_are) (subst (λ terms. LinksFit terms st.links.links) (sym gone.tags) (links_fit_grows st.tags st1.tags cut.goes_on st.links.links fits.links));
+    bound = subst (λ (y : LinkMap). IsBound y st2.bound.pairs) (sym links_are) (subst (IsBound st.links.links) (sym (ap (λ (t : Table). t.pairs) gone.bound ∙ cut.bound)) fits.bound);
     entries = subst (AreCalls st2.tags) (sym gone.entries) tt;
   }
 
   terms_are : (kept_of st2).links ≡ (kept_of st).links
   terms_are =
-      ap₂ (λ hs (y : _). links_of hs y) (ap heads_of gone.tags) (ap (λ y. y.links) links_are)
-      ∙ links_same st.tags st1.tags cut.goes_on st.links.links st.bound fits.links fits.bound
+      ap₂ links_of (ap heads_of gone.tags) links_are
+      ∙ links_same st.tags st1.tags cut.goes_on st.links.links st.bound.pairs fits.links fits.bound
 
   around_is : (x : Fixed) → around_of x (kept_of st2) ≡ around_of x (kept_of st)
   around_is x = ap (λ held. around_of x (record { entries = []; terms = []; links = []; held = held; written = [] })) (gone.held ∙ cut.held)
@@ -59,7 +61,7 @@ module _ (st st1 st2 : State) (fits : StateFits st) (cut : IsCutFrom st st1) (go
 abbrev AreKept : State → State → Type 0
 AreKept st1 st2 = (st2.tags ≡ st1.tags) × (st2.held ≡ st1.held) × (st2.cache ≡ st1.cache)
 
-then_kept : (st st1 st2 : State) → IsCutFrom st st1 → st2.links ≡ st1.links → st2.bound ≡ st1.bound → AreKept st1 st2 → IsCutFrom st st2
+then_kept : (st st1 st2 : State) → IsCutFrom st st1 → st2.links.links ≡ st1.links.links → st2.bound.pairs ≡ st1.bound.pairs → AreKept st1 st2 → IsCutFrom st st2
 then_kept st st1 st2 cut links bound same = record {
   exact = subst AreExact (sym same.0) cut.exact;
   goes_on = subst (GoesOn st.tags) (sym same.0) cut.goes_on;
@@ -69,7 +71,7 @@ then_kept st st1 st2 cut links bound same = record {
   budget = ap (λ (c : _). c.budget) same.2 ∙ cut.budget;
 }
 
-pub cut_at_end : (r : Result (Unit {0}) ExecError) (st st1 st2 : State) → IsCutFrom st st1 → OnCut r (st2.links ≡ st1.links) → OnCut r (st2.bound ≡ st1.bound) → OnCut r (AreKept st1 st2) → OnCut r (IsCutFrom st st2)
+pub cut_at_end : (r : Result (Unit {0}) ExecError) (st st1 st2 : State) → IsCutFrom st st1 → OnCut r (st2.links.links ≡ st1.links.links) → OnCut r (st2.bound.pairs ≡ st1.bound.pairs) → OnCut r (AreKept st1 st2) → OnCut r (IsCutFrom st st2)
 cut_at_end (Ok u) st st1 st2 cut links bound same = tt
 cut_at_end (Err (Module site code)) st st1 st2 cut links bound same = tt
 cut_at_end (Err ReadFault) st st1 st2 cut links bound same = then_kept st st1 st2 cut links bound same
@@ -124,13 +126,13 @@ budget_behind st st1 st2 (Err WriteFault) end cut same gone = gone.budget ∙ cu
 budget_behind st st1 st2 (Err ExportFault) end cut same gone = gone.budget ∙ cut.budget
 budget_behind st st1 st2 (Err Memory) end cut same gone = gone.budget ∙ cut.budget
 
-pub links_behind_cut : (st st1 st2 : State) (r : Result (Unit {0}) ExecError) → OnCut r (IsCutFrom st st1) → OnCut r (IsForgotten st1 st2) → OnCut r (st2.links ≡ st.links)
+pub links_behind_cut : (st st1 st2 : State) (r : Result (Unit {0}) ExecError) → OnCut r (IsCutFrom st st1) → OnCut r (IsForgotten st1 st2) → OnCut r (st2.links.links ≡ st.links.links)
 links_behind_cut st st1 st2 (Ok u) cut gone = tt
 links_behind_cut st st1 st2 (Err (Module site code)) cut gone = tt
-links_behind_cut st st1 st2 (Err ReadFault) cut gone = gone.links ∙ cut.links
-links_behind_cut st st1 st2 (Err WriteFault) cut gone = gone.links ∙ cut.links
-links_behind_cut st st1 st2 (Err ExportFault) cut gone = gone.links ∙ cut.links
-links_behind_cut st st1 st2 (Err Memory) cut gone = gone.links ∙ cut.links
+links_behind_cut st st1 st2 (Err ReadFault) cut gone = ap (λ (l : Linked). l.links) gone.links ∙ cut.links
+links_behind_cut st st1 st2 (Err WriteFault) cut gone = ap (λ (l : Linked). l.links) gone.links ∙ cut.links
+links_behind_cut st st1 st2 (Err ExportFault) cut gone = ap (λ (l : Linked). l.links) gone.links ∙ cut.links
+links_behind_cut st st1 st2 (Err Memory) cut gone = ap (λ (l : Linked). l.links) gone.links ∙ cut.links
 
 pub none_cached : (st1 st2 : State) (r : Result (Unit {0}) ExecError) → OnCut r (IsForgotten st1 st2) → OnCut r (st2.cache.entries ≡ [])
 none_cached st1 st2 (Ok u) gone = tt

@@ -17,7 +17,7 @@ use Rattle.dx_getting.specs.declared.event.Event.TheVariants as shown
 use Rattle.dx_objects.specs.Runs.{Values}
 use Rattle.dx_performing.specs.Execution.{Export}
 use Rattle.dx_ending.specs.Putting.{ArePut, ArePutBefore}
-use Rattle.dx_engine.specs.Leaving.{IsLeft, EmptySo, links_behind}
+use Rattle.dx_engine.specs.Leaving.{IsLeft, EmptyIf, links_behind}
 use Rattle.dx_engine.specs.Ending.{OnEnd, OnCut, ErrorIs, SiteIs, CutsPuts, ended_so, export_error}
 use Rattle.dx_engine.specs.declared.exec_error.ExecError.{ExecError}
 use Rattle.dx_engine.specs.declared.exec_error.ExecError.TheVariants.{Module, ReadFault, WriteFault, ExportFault, Memory}
@@ -130,7 +130,7 @@ left_so st st2 st3 links full l t h c e left = record {
   events = left.events ∙ ap (λ (y : List Event). y ++ (if full then shown.Clear ∷ [] else [])) e;
 }
 
-pub left_behind : (st st2 st3 : State) (nodes : List Node) (e : Option (ℕ × Code)) (site : Option (List ℕ × Code)) (failed full : Bool) (changes : List Change) (empty : Option NextEmpty) → SiteIs nodes e site → failed ≡ is_some site → st2.links.links ≡ links_behind st.links.links failed changes → st2.tags ≡ st.tags → st2.held ≡ st.held → st2.cache ≡ st.cache → st2.events.items ≡ st.events.items → EmptySo (links_behind st.links.links failed changes) full empty → (EmptySo st2.links.links full empty → IsLeft st2 st2.links.links full st3) → IsLeft st (links_behind st.links.links (is_some e) changes) full st3
+pub left_behind : (st st2 st3 : State) (nodes : List Node) (e : Option (ℕ × Code)) (site : Option (List ℕ × Code)) (failed full : Bool) (changes : List Change) (empty : Option NextEmpty) → SiteIs nodes e site → failed ≡ is_some site → st2.links.links ≡ links_behind st.links.links failed changes → st2.tags ≡ st.tags → st2.held ≡ st.held → st2.cache ≡ st.cache → st2.events.items ≡ st.events.items → EmptyIf (links_behind st.links.links failed changes) full empty → (EmptyIf st2.links.links full empty → IsLeft st2 st2.links.links full st3) → IsLeft st (links_behind st.links.links (is_some e) changes) full st3
 left_behind st st2 st3 nodes e site failed full changes empty s f l t h c ev m left =
     left_so st st2 st3 (links_behind st.links.links (is_some e) changes) full (l ∙ ap (λ (b : Bool). links_behind st.links.links b changes) (f ∙ site_tells nodes e site s)) t h c ev
-    (left (subst (λ (y : LinkMap). EmptySo y full empty) (sym l) m))
+    (left (subst (λ (y : LinkMap). EmptyIf y full empty) (sym l) m))

@@ -110,9 +110,9 @@ behind_each terms st g f c = by (is_some g.error)
     by true = f
     by false = after_each terms st.links.links g.changes f c
 
-pub carried_fits : (st st' st2 : State) (g : Gathered) → StateFits st' → st'.links ≡ st.links → ChangesFit st'.tags g.changes → IsCarried st st' g st2 → IsBound st2.links.links st2.bound → StateFits st2
+pub carried_fits : (st st' st2 : State) (g : Gathered) → StateFits st' → st'.links ≡ st.links → ChangesFit st'.tags g.changes → IsCarried st st' g st2 → IsBound st2.links.links st2.bound.pairs → StateFits st2
 carried_fits st st' st2 g f same c is bound =
-    let each : EachFits st'.tags st.links.links = subst (λ (ls : LinkMap). EachFits st'.tags ls) (ap (λ l. l.links) same) (each_fits st'.tags st'.links.links st'.bound f.links f.bound) in
+    let each : EachFits st'.tags st.links.links = subst (λ (ls : LinkMap). EachFits st'.tags ls) (ap (λ l. l.links) same) (each_fits st'.tags st'.links.links st'.bound.pairs f.links f.bound) in
     let fits : LinksFit st'.tags (links_behind st g) = each_held st'.tags (links_behind st g) (behind_each st'.tags st g each c) in
     let calls : AreCalls st'.tags st2.cache.entries = subst (AreCalls st'.tags) (sym is.entries) f.entries in
     record {
@@ -122,7 +122,7 @@ carried_fits st st' st2 g f same c is bound =
       entries = subst (λ ts. AreCalls ts st2.cache.entries) (sym is.tags) calls;
     }
 
-pub emptied_fits : (st st2 : State) (g : Gathered) → IsEmptied st g st2 → IsBound st2.links.links st2.bound → StateFits st2
+pub emptied_fits : (st st2 : State) (g : Gathered) → IsEmptied st g st2 → IsBound st2.links.links st2.bound.pairs → StateFits st2
 emptied_fits st st2 g is bound =
     let links = links_behind st g in
     record {
@@ -153,10 +153,10 @@ module _ (x : Fixed) (st st' st2 : State) (effects : List CallTree) (nodes : Lis
   done = committed (kept_of st) (execution (world_of x (kept_of st)) effects) (course_of x st effects)
 
   links_there : (b : Bool) → links_of (heads_of st'.tags) (if b then st.links.links else after st.links.links g.changes) ≡ (if b then (kept_of st).links else after_set_terms (kept_of st).links (course_of x st effects).sets)
-  links_there true = links_same st.tags st'.tags on st.links.links st.bound fits.links fits.bound
+  links_there true = links_same st.tags st'.tags on st.links.links st.bound.pairs fits.links fits.bound
   links_there false =
       sets_alike (heads_of st'.tags) st.links.links g.changes
-      ∙ ap₂ after_set_terms (links_same st.tags st'.tags on st.links.links st.bound fits.links fits.bound) are.sets
+      ∙ ap₂ after_set_terms (links_same st.tags st'.tags on st.links.links st.bound.pairs fits.links fits.bound) are.sets
 
   error_there : is_some g.error ≡ is_some (execution (world_of x (kept_of st)) effects).error
   error_there = sym (some_error nodes g.error) ∙ ap is_some are.error
@@ -221,9 +221,9 @@ pub right_carried : (st st' st2 : State) (g : Gathered) (files : World) → st'.
 right_carried st st' st2 g files same is right =
     let held : st'.held ≡ st2.held = same ∙ sym is.held in
     subst (λ (es : List Entry). EntriesRight (setting_of st2) files es) (sym is.entries)
-    (subst (λ (ts : List Term). EntriesRight (record { terms = ts; links = st2.bound; held = st2.held; formed = [] }) files st'.cache.entries) (sym is.tags)
-    (subst (λ (vs : Values). EntriesRight (record { terms = st'.tags; links = st2.bound; held = vs; formed = [] }) files st'.cache.entries) held
-    (right_with st'.tags st'.held st'.bound st2.bound files st'.cache.entries right)))
+    (subst (λ (ts : List Term). EntriesRight (record { terms = ts; links = st2.bound.pairs; held = st2.held; formed = [] }) files st'.cache.entries) (sym is.tags)
+    (subst (λ (vs : Values). EntriesRight (record { terms = st'.tags; links = st2.bound.pairs; held = vs; formed = [] }) files st'.cache.entries) held
+    (right_with st'.tags st'.held st'.bound.pairs st2.bound.pairs files st'.cache.entries right)))
 
 pub right_emptied : (st st2 : State) (g : Gathered) (files : World) → IsEmptied st g st2 → EntriesRight (setting_of st2) files st2.cache.entries
 right_emptied st st2 g files is = subst (λ (es : List Entry). EntriesRight (setting_of st2) files es) (sym is.entries) tt
@@ -316,7 +316,7 @@ module _ (st st' st2 : State) (g : Gathered) (links : LinkMap) (full : Bool)
     written = written_is;
   }
 
-  pub fits_behind : StateFits st' → st'.links ≡ st.links → ChangesFit st'.tags g.changes → IsBound st2.links.links st2.bound → StateFits st2
+  pub fits_behind : StateFits st' → st'.links ≡ st.links → ChangesFit st'.tags g.changes → IsBound st2.links.links st2.bound.pairs → StateFits st2
   fits_behind f same c bound = cases full
       (λ so. emptied_fits st st2 g (is_emptied so) bound)
       (λ off. carried_fits st st' st2 g f same c (is_carried off) bound)

@@ -8,8 +8,8 @@ use Rattle.dx_engine.specs.declared.state.State.{State}
 pub record IsCutFrom (old new : State) : Type 0 where
   pub exact : AreExact new.tags
   pub goes_on : GoesOn old.tags new.tags
-  pub links : new.links ≡ old.links
-  pub bound : new.bound ≡ old.bound
+  pub links : new.links.links ≡ old.links.links
+  pub bound : new.bound.pairs ≡ old.bound.pairs
   pub held : new.held ≡ old.held
   pub budget : new.cache.budget ≡ old.cache.budget
 

@@ -17,7 +17,7 @@ use Rattle.dx_engine.specs.declared.state.State.{State}
 pub record StateFits (st : State) : Type 0 where
   pub exact : AreExact st.tags
   pub links : LinksFit st.tags st.links.links
-  pub bound : IsBound st.links.links st.bound
+  pub bound : IsBound st.links.links st.bound.pairs
   pub entries : AreCalls st.tags st.cache.entries
 
 -- it is this to the machine
@@ -32,7 +32,7 @@ kept_of st = record {
 
 -- its terms and held values, for getting
 abbrev pub setting_of : State → Setting
-setting_of st = record { terms = st.tags; links = st.bound; held = st.held; formed = [] }
+setting_of st = record { terms = st.tags; links = st.bound.pairs; held = st.held; formed = [] }
 
 -- for what modules answer, the files and the budget: each link's value is what its term denotes, each entry has the results that
 -- its call denotes, and the entries are sound

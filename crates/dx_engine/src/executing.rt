@@ -46,7 +46,7 @@ impl State {
         ensures export_cause { Cause ExportFault (X.faults exports.old) (X.faults exports.new) result }
         ensures fits { StateFits self.new }
         ensures budget { self.new.cache.budget ≡ self.old.cache.budget }
-        ensures links { OnCut result (self.new.links ≡ self.old.links) }
+        ensures links { OnCut result (self.new.links.links ≡ self.old.links.links) }
         ensures forgets { OnCut result (self.new.cache.entries ≡ []) }
         ensures sound { FromState L.answer (F.content files.old) self.old (λ x. IsSoundState x self.new) }
         ensures written { HasPut (X.puts exports.old) (X.puts exports.new) self.old.written.files self.new.written.files }

@@ -56,7 +56,7 @@ pub fn make<F: Files, X: Exports, O: Sink, L: Library>(
     ensures fits { StateFits state.new }
     ensures budget { state.new.cache.budget ≡ state.old.cache.budget }
     ensures sound { FromState L.answer (F.content files.old) state.old (λ x. IsSoundState x state.new) }
-    ensures links { OnErr result (state.new.links ≡ state.old.links) }
+    ensures links { OnErr result (state.new.links.links ≡ state.old.links.links) }
     ensures written { HasPut (X.puts exports.old) (X.puts exports.new) state.old.written.files state.new.written.files }
     ensures makes { FromState L.answer (F.content files.old) state.old (λ x. MakesSo x state.old (coursed x (dictionary_of d.now) frames.now (plain_stmt s.now) (kept_of state.old)) (record { told = told (L.done lib.old) (F.asked files.old); written = O.written out.old; puts = X.puts exports.old }) result state.new (record { told = told (L.done lib.new) (F.asked files.new); written = O.written out.new; puts = X.puts exports.new })) }
 {

@@ -9,7 +9,6 @@ use Rattle.dx_ending.specs.Putting.{ArePut}
 use Rattle.dx_macros.specs.declared.dictionary.Dictionary.{Dictionary}
 use Rattle.dx_macros.specs.DictionaryView.{dictionary_of}
 use Rattle.dx_links.specs.LinkMap.{LinkMap}
-use Rattle.dx_links.specs.declared.links.Links.{Links as CodeLinks}
 use Rattle.dx_machine.specs.Machine.{Task, tasks_of}
 use Rattle.dx_macros.specs.Dictionary.{Dictionary as Definitions}
 use Rattle.dx_macros.specs.Expansion.{effects}
@@ -139,17 +138,17 @@ objects_same : (a b : List Head) (links : LinkMap) → objects_of (links_of a li
 objects_same a b [] = refl
 objects_same a b (l ∷ ls) = ap (λ (rest : Links). (l.0, l.1.value) ∷ rest) (objects_same a b ls)
 
-links_same : (st st' : State) → st'.links ≡ st.links → (current (kept_of st')).links ≡ (current (kept_of st)).links
-links_same st st' same = ap (λ (y : CodeLinks). objects_of (links_of (heads_of st'.tags) y.links)) same ∙ objects_same (heads_of st'.tags) (heads_of st.tags) st.links.links
+links_same : (st st' : State) → st'.links.links ≡ st.links.links → (current (kept_of st')).links ≡ (current (kept_of st)).links
+links_same st st' same = ap (λ (y : LinkMap). objects_of (links_of (heads_of st'.tags) y)) same ∙ objects_same (heads_of st'.tags) (heads_of st.tags) st.links.links
 
-before_unput : (l : Listings) (c : Coursed) (st st' : State) (was now : Devices) → st'.links ≡ st.links → NonePut st was st' now → IsLeftIn l c was now (current (kept_of st)) (current (kept_of st'))
+before_unput : (l : Listings) (c : Coursed) (st st' : State) (was now : Devices) → st'.links.links ≡ st.links.links → NonePut st was st' now → IsLeftIn l c was now (current (kept_of st)) (current (kept_of st'))
 before_unput l c st st' was now same none =
     before_puts (record {
       puts = none.puts;
       current = ap₂ (λ (links : Links) (files : FileMap). let y : Current = record { links = links; written = files } in y) (links_same st st' same) none.files;
     })
 
-before_put : (l : Listings) (c : Coursed) (st st' : State) (was now : Devices) → st'.links ≡ st.links → IsCutLate c st was st' now → IsLeftIn l c was now (current (kept_of st)) (current (kept_of st'))
+before_put : (l : Listings) (c : Coursed) (st st' : State) (was now : Devices) → st'.links.links ≡ st.links.links → IsCutLate c st was st' now → IsLeftIn l c was now (current (kept_of st)) (current (kept_of st'))
 before_put l c st st' was now same late =
     at_a_put (record {
       printed = late.printed;
@@ -163,7 +162,7 @@ before_put l c st st' was now same late =
       written = late.puts.made.files;
     })
 
-left_by : (x : Fixed) (l : Listings) (st st' : State) (made : Coursed × Kept) (was now : Devices) (end : End) → st'.links ≡ st.links → MakesSo x st made was (Err end) st' now → IsLeftIn l made.0 was now (current (kept_of st)) (current (kept_of st'))
+left_by : (x : Fixed) (l : Listings) (st st' : State) (made : Coursed × Kept) (was now : Devices) (end : End) → st'.links.links ≡ st.links.links → MakesSo x st made was (Err end) st' now → IsLeftIn l made.0 was now (current (kept_of st)) (current (kept_of st'))
 left_by x l st st' made was now ReadFault same (early, none) = before_unput l made.0 st st' was now same none
 left_by x l st st' made was now WriteFault same (early, none) = before_unput l made.0 st st' was now same none
 left_by x l st st' made was now ExportFault same late = before_put l made.0 st st' was now same late
@@ -171,7 +170,7 @@ left_by x l st st' made was now Memory same (inl (early, none)) = before_unput l
 left_by x l st st' made was now Memory same (inr late) = before_put l made.0 st st' was now same late
 
 pub cut_in : (x : Fixed) (l : Listings) (st st' : State) (made : Coursed × Kept) (was now : Devices) (end : End)
-    → st'.links ≡ st.links → IsSoundState x st' → MakesSo x st made was (Err end) st' now → IsCutIn x l (kept_of st) made.0 was st' now
+    → st'.links.links ≡ st.links.links → IsSoundState x st' → MakesSo x st made was (Err end) st' now → IsCutIn x l (kept_of st) made.0 was st' now
 cut_in x l st st' made was now end same sound h = record {
   front = cut_front x l st st' made was now end h;
   current = left_by x l st st' made was now end same h;

@@ -1,4 +1,6 @@
-use Rattle.std.proofs.Common.{refl}
+use Rattle.std.proofs.Common.{refl, ap}
+use Rattle.dx_links.specs.LinkMap.{Linked}
+use Rattle.dx_getting.specs.Terms.{Table}
 use Rattle.dx_graph.specs.GraphView.{graph_of}
 use Rattle.dx_graph.specs.Unfolding.{unfolded}
 use Rattle.dx_looking.specs.Setting.{fixed}
@@ -21,8 +23,8 @@ returns-in_err-gathered-clause-cut g c =
     on_cut c.from_residual.result _ (record {
       exact = c.run.ensures.exact;
       goes_on = c.run.ensures.goes_on;
-      links = c.run.ensures.links;
-      bound = c.run.ensures.bound;
+      links = ap (λ (l : Linked). l.links) c.run.ensures.links;
+      bound = ap (λ (t : Table). t.pairs) c.run.ensures.bound;
       held = c.run.ensures.held;
       budget = c.run.ensures.budget;
     })
@@ -36,8 +38,8 @@ returns-clause-cut g c =
     (record {
       exact = c.run.ensures.exact;
       goes_on = c.run.ensures.goes_on;
-      links = c.run.ensures.links;
-      bound = c.run.ensures.bound;
+      links = ap (λ (l : Linked). l.links) c.run.ensures.links;
+      bound = ap (λ (t : Table). t.pairs) c.run.ensures.bound;
       held = c.run.ensures.held;
       budget = c.run.ensures.budget;
     })
