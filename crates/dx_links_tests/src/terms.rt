@@ -154,16 +154,18 @@ fn held(tags: &Tags, tag: Tag) -> Option<u64> {
     }
 }
 
+const THREE: &[(Row, Tag)] = &[(Row::Int(7), 0), (Row::Held(8), 1), (Row::Held(9), 2)];
+
+const TWO: &[(Row, Tag)] = &[(Row::Held(9), 0), (Row::Int(7), 1)];
+
 #[test]
 fn tags_are_forgotten(rt: HostRuntime) -> Result<(), Fail> {
     let mut tags = Tags::new(rt.alloc());
-    let rows = [(Row::Int(7), 0), (Row::Held(8), 1), (Row::Held(9), 2)];
-    assert!(rt; have(rt.alloc(), &mut tags, &rows)?);
+    assert!(rt; have(rt.alloc(), &mut tags, THREE)?);
     assert!(rt; held(&tags, 0) == None && held(&tags, 1) == Some(8) && held(&tags, 2) == Some(9));
     tags.clear();
     assert!(rt; tags.count() == 0 && held(&tags, 1) == None);
-    let rows = [(Row::Held(9), 0), (Row::Int(7), 1)];
-    assert!(rt; have(rt.alloc(), &mut tags, &rows)?);
+    assert!(rt; have(rt.alloc(), &mut tags, TWO)?);
     assert!(rt; tags.count() == 2 && held(&tags, 0) == Some(9));
     Ok(())
 }
