@@ -6,15 +6,15 @@ use std::test::Fail;
 const ALL: &str =
     "macro m() { SetGlobal(Compute(\"1 + 1\"), \"n\"); Echo(Import(\"i\")); Export(3, \"o\"); Export(4, \"p\"); } m(); Echo(GetGlobal(0, \"n\"));";
 
-const fn failing(read: u64, write: u64, put: u64) -> Failing {
-    Failing { read, write, put }
-}
-
 const ROWS: &[Row<'static>] = &[
     (
         ALL,
         1000,
-        failing(0, 0, 0),
+        Failing {
+            read: 0,
+            write: 0,
+            put: 0,
+        },
         "run m:1/Compute:1\nkeep m:1/Compute:1 68\nrun m:1/Import:1\nkeep m:1/Import:1 68\nok\nok\n",
         "7\n2\n",
         [2, 2, 1, 1, 136],
@@ -22,7 +22,11 @@ const ROWS: &[Row<'static>] = &[
     (
         ALL,
         1000,
-        failing(1, 0, 0),
+        Failing {
+            read: 1,
+            write: 0,
+            put: 0,
+        },
         "read fault\nok\n",
         "0\n",
         [1, 0, 1, 0, 0],
@@ -30,7 +34,11 @@ const ROWS: &[Row<'static>] = &[
     (
         ALL,
         1000,
-        failing(0, 1, 0),
+        Failing {
+            read: 0,
+            write: 1,
+            put: 0,
+        },
         "write fault\nok\n",
         "0\n",
         [2, 0, 1, 0, 0],
@@ -38,7 +46,11 @@ const ROWS: &[Row<'static>] = &[
     (
         ALL,
         1000,
-        failing(0, 0, 1),
+        Failing {
+            read: 0,
+            write: 0,
+            put: 1,
+        },
         "export fault\nok\n",
         "7\n0\n",
         [2, 0, 1, 0, 0],
@@ -46,7 +58,11 @@ const ROWS: &[Row<'static>] = &[
     (
         ALL,
         1000,
-        failing(0, 0, 2),
+        Failing {
+            read: 0,
+            write: 0,
+            put: 2,
+        },
         "export fault\nok\n",
         "7\n0\n",
         [2, 1, 1, 0, 0],

@@ -7,7 +7,8 @@ use std::alloc::AllocError;
 fn push_line(seen: &mut Vec<u8>, word: &[u8], site: &Bytes) -> Result<(), AllocError> {
     seen.extend_from_slice(word)?;
     seen.extend_from_slice(site.bytes())?;
-    seen.push(b'\n')
+    seen.push(b'\n')?;
+    Ok(())
 }
 
 fn push_kept(seen: &mut Vec<u8>, site: &Bytes, size: u64) -> Result<(), AllocError> {
@@ -15,7 +16,8 @@ fn push_kept(seen: &mut Vec<u8>, site: &Bytes, size: u64) -> Result<(), AllocErr
     seen.extend_from_slice(site.bytes())?;
     seen.push(b' ')?;
     push_count(seen, size)?;
-    seen.push(b'\n')
+    seen.push(b'\n')?;
+    Ok(())
 }
 
 fn push_event(seen: &mut Vec<u8>, event: &Event) -> Result<(), AllocError> {

@@ -113,31 +113,39 @@ fn execute(alloc: Global, w: &mut World, s: &Stmt) -> Result<(), AllocError>
     push_ended(&mut w.seen, w.state.events(), &ended)
 }
 
-/// A statement is executed, and an assignment joins behind that.
-fn take(alloc: Global, w: &mut World, s: Stmt) -> Result<(), AllocError>
-    requires lawful { IsLawful (plain_stmt s) }
+/// Executes what is no macro.
+fn execute_statement(alloc: Global, w: &mut World, s: &Stmt) -> Result<(), AllocError>
+    requires lawful { IsLawful (plain_stmt s.now) }
     requires fits { StateFits w.old.state }
     ensures fits { StateFits w.new.state }
 {
     match s {
-        Stmt::Macro(m) => w.definitions.define(m.into_inner()),
-        Stmt::Assign(_) => {
-            execute(alloc, w, &s)?;
-            join(w, s)
-        }
-        _ => execute(alloc, w, &s),
+        Stmt::Macro(_) => Ok(()),
+        _ => execute(alloc, w, s),
     }
 }
 
+/// A macro and an assignment join.
 fn join(w: &mut World, s: Stmt) -> Result<(), AllocError>
     requires lawful { IsLawful (plain_stmt s) }
     requires fits { StateFits w.old.state }
     ensures fits { StateFits w.new.state }
 {
     match s {
+        Stmt::Macro(m) => w.definitions.define(m.into_inner()),
         Stmt::Assign(a) => w.definitions.add(a),
         _ => Ok(()),
     }
+}
+
+/// A statement is executed, and a macro or an assignment joins behind that.
+fn take(alloc: Global, w: &mut World, s: Stmt) -> Result<(), AllocError>
+    requires lawful { IsLawful (plain_stmt s) }
+    requires fits { StateFits w.old.state }
+    ensures fits { StateFits w.new.state }
+{
+    execute_statement(alloc, w, &s)?;
+    join(w, s)
 }
 
 fn take_all(alloc: Global, w: &mut World, statements: Stmts) -> Result<(), AllocError>
