@@ -1,6 +1,9 @@
 // Links by their terms, and after changes.
+ghost use Rattle.std.specs.Prelude.{OnOk};
+ghost use Rattle.dx_looking.specs.Setting.{IsBound};
+
 use dx_base::Bytes;
-use dx_ending::{bound_of, links_after};
+use dx_ending::{are_few, bound_of, change_in_place, links_after, prepare_in_place};
 use dx_getting::Bound;
 use dx_links::{Change, Changes, Held, Key, Links};
 use dx_objects::{Object, Parts};
@@ -41,6 +44,28 @@ fn after(alloc: Global, links: &Links, rows: &[Row]) -> Result<Links, Fail> {
         changes.push(change(alloc, *row)?)?;
     }
     Ok(links_after(alloc, links, changes)?)
+}
+
+// Changes links where they are, with their values.
+fn change_both(
+    alloc: Global,
+    links: &mut Links,
+    bound: &mut Bound,
+    rows: &[Row],
+) -> Result<(), Fail>
+    requires bound { IsBound links.old.links bound.old.pairs }
+    ensures bound { OnOk result (IsBound links.new.links bound.new.pairs) }
+{
+    let mut changes = Changes::new(alloc);
+    for row in rows {
+        changes.push(change(alloc, *row)?)?;
+    }
+    if !are_few(&changes) {
+        return Ok(());
+    }
+    let ready = prepare_in_place(alloc, links, bound, changes)?;
+    change_in_place(links, bound, ready);
+    Ok(())
 }
 
 // Whether a term has this text.
@@ -94,5 +119,49 @@ fn changes_leave_the_links_before_them(rt: HostRuntime) -> Result<(), Fail> {
     assert!(rt; links.len() == 3 && new.len() == 2);
     let bound = bound_of(alloc, &new)?;
     assert!(rt; is(&bound, 1, b"one") && is(&bound, 3, b"three") && bound.get(tag(2)).is_none());
+    Ok(())
+}
+
+const REPLACED: [Row; 2] = [
+    Row {
+        name: b"a",
+        held: Some((b"three", 3)),
+    },
+    Row {
+        name: b"d",
+        held: Some((b"two", 2)),
+    },
+];
+
+const TAKEN: [Row; 2] = [
+    Row {
+        name: b"b",
+        held: None,
+    },
+    Row {
+        name: b"c",
+        held: None,
+    },
+];
+
+#[test]
+fn links_and_values_change_in_place(rt: HostRuntime) -> Result<(), Fail> {
+    let alloc = rt.alloc();
+    let mut links = after(alloc, &Links::new(alloc), &FIRST)?;
+    let mut bound = bound_of(alloc, &links)?;
+    change_both(alloc, &mut links, &mut bound, &REPLACED)?;
+    assert!(rt;
+        links.len() == 4
+            && is(&bound, 1, b"one")
+            && is(&bound, 2, b"two")
+            && is(&bound, 3, b"three")
+    );
+    change_both(alloc, &mut links, &mut bound, &TAKEN)?;
+    assert!(rt;
+        links.len() == 2
+            && is(&bound, 2, b"two")
+            && is(&bound, 3, b"three")
+            && bound.get(tag(1)).is_none()
+    );
     Ok(())
 }
