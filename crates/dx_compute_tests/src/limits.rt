@@ -1,16 +1,16 @@
 // Answers beyond the limits of objects: TooLarge, behind all other codes.
 use crate::calls::{answer, code, text};
-use crate::stock::{part, value};
-use dx_base::Bytes;
-use dx_objects::{Array, ElemType, Object, Outs, Parts, Shape, Value};
-use std::alloc::Global;
+use crate::stock::{alone, part, regular, value};
+use dx_base::{Bytes, push_count};
+use dx_objects::{Array, ElemType, Object, Outs, Part, Parts, Shape, Value};
+use std::alloc::{AllocError, Global};
 use std::rc::Rc;
 use std::test::Fail;
 
-fn group(alloc: Global, members: &[Rc<Object>]) -> Result<Rc<Object>, Fail> {
+fn group(alloc: Global, members: &[&Rc<Object>]) -> Result<Rc<Object>, Fail> {
     let mut parts = Parts::new(alloc);
     for member in members {
-        parts.push(part(alloc, "", 0, member.clone()?)?)?;
+        parts.push(part(alloc, "", 0, (*member).clone()?)?)?;
     }
     Ok(Rc::new(alloc, Object::group(parts, Parts::new(alloc))?)?)
 }
@@ -27,7 +27,7 @@ fn named(alloc: Global, name: &str) -> Result<Rc<Object>, Fail> {
 fn deep(alloc: Global, groups: u32) -> Result<Value, Fail> {
     let mut object = named(alloc, "1")?;
     for _ in 0..groups {
-        object = group(alloc, &[object])?;
+        object = group(alloc, &[&object])?;
     }
     Ok(Some(object))
 }
@@ -41,52 +41,75 @@ const LEVELS: [(&str, u32, &str, &str); 5] = [
     ("$0 + $1", 63, "no data", "NoComponent"),
 ];
 
+fn inputs(alloc: Global, expression: Value, object: Value) -> Result<Outs, AllocError> {
+    let mut given = Outs::new(alloc);
+    given.push(expression)?;
+    given.push(object)?;
+    Ok(given)
+}
+
+fn deep_answer(alloc: Global, expression: &str, groups: u32, other: &str) -> Result<Vec<u8>, Fail> {
+    let expression = text(alloc, expression)?;
+    let mut given = inputs(alloc, expression, deep(alloc, groups)?)?;
+    given.push(value(alloc, other)?)?;
+    answer(alloc, &given)
+}
+
 #[test]
 fn one_level_more(rt: HostRuntime) -> Result<(), Fail> {
-    let alloc = rt.alloc();
-    for (expression, groups, other, wanted) in LEVELS {
-        let mut given = Outs::new(alloc);
-        given.push(text(alloc, expression)?)?;
-        given.push(deep(alloc, groups)?)?;
-        given.push(value(alloc, other)?)?;
-        assert!(rt; answer(alloc, &given)?.as_slice() == wanted.as_bytes());
+    for (expression, groups, other, wanted) in &LEVELS {
+        let found = deep_answer(rt.alloc(), expression, *groups, other)?;
+        assert!(rt; found.as_slice() == wanted.as_bytes());
     }
     Ok(())
 }
 
 // The numbers from 0 on, so many.
 fn numbers(alloc: Global, items: u64) -> Result<Rc<Object>, Fail> {
-    let origin = Vec::from_slice(alloc, &[0])?;
-    let delta = Vec::from_slice(alloc, &[1])?;
-    let array = Array::regular(ElemType::Int, Shape::new(alloc), items, origin, delta)?;
-    Ok(Rc::new(alloc, Object::array(array, Parts::new(alloc))?)?)
+    alone(alloc, regular(alloc, ElemType::Int, items, 0, 1)?)
 }
 
-// 256 attributes whose names have three bytes, each the same text of 1,048,448 bytes.
+// A text of 1,048,448 bytes.
+fn large_text(alloc: Global) -> Result<Rc<Object>, Fail> {
+    let bytes = Bytes::copy_of(alloc, &vec![in alloc; b'x'; 1_048_448]?)?;
+    Ok(Rc::new(alloc, Object::text(bytes, Parts::new(alloc))?)?)
+}
+
+fn numbered(alloc: Global, number: u64, object: Rc<Object>) -> Result<Part, AllocError> {
+    let mut name = Vec::new(alloc);
+    push_count(&mut name, number)?;
+    Ok(Part {
+        name: Some(Bytes::copy_of(alloc, &name)?),
+        position: 0,
+        object,
+    })
+}
+
+// 256 attributes whose names have three bytes, each the same large text.
 fn large_attributes(alloc: Global) -> Result<Parts, Fail> {
-    let mut bytes = Vec::new(alloc);
-    bytes.resize(1_048_448, b'x')?;
-    let bytes = Bytes::copy_of(alloc, &bytes)?;
-    let shared = Rc::new(alloc, Object::text(bytes, Parts::new(alloc))?)?;
+    let shared = large_text(alloc)?;
     let mut parts = Parts::new(alloc);
     for name in 100..356 {
-        let name = format!(in alloc; "{name}")?;
-        parts.push(part(alloc, &name, 0, shared.clone()?)?)?;
+        parts.push(numbered(alloc, name, shared.clone()?)?)?;
     }
+    Ok(parts)
+}
+
+fn of_data(alloc: Global, data: Rc<Object>) -> Result<Parts, Fail> {
+    let mut parts = Parts::new(alloc);
+    parts.push(part(alloc, "data", 0, data)?)?;
     Ok(parts)
 }
 
 // A field whose stated size is 268,419,972 bytes and that of the numbers in its data, which is 15,484 bytes, or 3,871 ints,
 // below the limit.
 fn large_field(alloc: Global, items: u64) -> Result<Rc<Object>, Fail> {
-    let mut parts = Parts::new(alloc);
-    parts.push(part(alloc, "data", 0, numbers(alloc, items)?)?)?;
+    let parts = of_data(alloc, numbers(alloc, items)?)?;
     let object = Object::field(parts, large_attributes(alloc)?)?;
     Ok(Rc::new(alloc, object)?)
 }
 
-// `[$0, $0, ..]` of so many parts, the last of which may be another.
-fn vector(alloc: Global, parts: u32, last: &str) -> Result<Value, Fail> {
+fn expression_of(alloc: Global, parts: u32, last: &str) -> Result<String, AllocError> {
     let mut expression = String::new(alloc);
     expression.push_str("[")?;
     for _ in 1..parts {
@@ -94,25 +117,41 @@ fn vector(alloc: Global, parts: u32, last: &str) -> Result<Value, Fail> {
     }
     expression.push_str(last)?;
     expression.push_str("]")?;
+    Ok(expression)
+}
+
+// `[$0, $0, ..]` of so many parts, the last of which may be another.
+fn vector(alloc: Global, parts: u32, last: &str) -> Result<Value, Fail> {
+    let expression = expression_of(alloc, parts, last)?;
     text(alloc, &expression)
 }
 
+// What Compute answers of such a vector over an object.
+fn vector_code(
+    alloc: Global,
+    parts: u32,
+    last: &str,
+    object: &Rc<Object>,
+) -> Result<&'static str, Fail> {
+    let expression = vector(alloc, parts, last)?;
+    let given = inputs(alloc, expression, Some(object.clone()?))?;
+    code(alloc, &given)
+}
+
 // 49 items of 79 ints fit exactly.
+const PARTS: &[(u32, &str, &str)] = &[
+    (79, "$0", "an object"),
+    (80, "$0", "TooLarge"),
+    (80, "1 / ($0 - 48)", "DivisionByZero"),
+    (80, "2147483600 + $0", "Overflow"),
+    (80, "[$0, $0]", "ItemMismatch"),
+];
+
 #[test]
 fn one_part_more(rt: HostRuntime) -> Result<(), Fail> {
-    let alloc = rt.alloc();
-    let field = large_field(alloc, 49)?;
-    for (parts, last, wanted) in [
-        (79, "$0", "an object"),
-        (80, "$0", "TooLarge"),
-        (80, "1 / ($0 - 48)", "DivisionByZero"),
-        (80, "2147483600 + $0", "Overflow"),
-        (80, "[$0, $0]", "ItemMismatch"),
-    ] {
-        let mut given = Outs::new(alloc);
-        given.push(vector(alloc, parts, last)?)?;
-        given.push(Some(field.clone()?))?;
-        assert!(rt; code(alloc, &given)? == wanted);
+    let field = large_field(rt.alloc(), 49)?;
+    for (parts, last, wanted) in PARTS {
+        assert!(rt; vector_code(rt.alloc(), *parts, last, &field)? == *wanted);
     }
     Ok(())
 }
@@ -121,9 +160,8 @@ fn one_part_more(rt: HostRuntime) -> Result<(), Fail> {
 #[test]
 fn other_items_before_too_large(rt: HostRuntime) -> Result<(), Fail> {
     let alloc = rt.alloc();
-    let mut given = Outs::new(alloc);
-    given.push(vector(alloc, 80, "$1")?)?;
-    given.push(Some(large_field(alloc, 1)?))?;
+    let expression = vector(alloc, 80, "$1")?;
+    let mut given = inputs(alloc, expression, Some(large_field(alloc, 1)?))?;
     given.push(Some(numbers(alloc, 49)?))?;
     assert!(rt; code(alloc, &given)? == "ItemMismatch");
     Ok(())
@@ -133,32 +171,26 @@ fn other_items_before_too_large(rt: HostRuntime) -> Result<(), Fail> {
 #[test]
 fn a_member_that_is_too_large(rt: HostRuntime) -> Result<(), Fail> {
     let alloc = rt.alloc();
-    let field = large_field(alloc, 49)?;
-    let other = named(alloc, "text")?;
-    for (members, wanted) in [
-        ([field.clone()?, other.clone()?], "TooLarge"),
-        ([other, field], "BadArgument"),
-    ] {
-        let mut given = Outs::new(alloc);
-        given.push(vector(alloc, 80, "$0")?)?;
-        given.push(Some(group(alloc, &members)?))?;
-        assert!(rt; code(alloc, &given)? == wanted);
-    }
+    let (field, other) = (large_field(alloc, 49)?, named(alloc, "text")?);
+    let field_first = group(alloc, &[&field, &other])?;
+    assert!(rt; vector_code(alloc, 80, "$0", &field_first)? == "TooLarge");
+    let text_first = group(alloc, &[&other, &field])?;
+    assert!(rt; vector_code(alloc, 80, "$0", &text_first)? == "BadArgument");
     Ok(())
 }
 
-// 1,024 items of 65,536 ints are 16 ints more than an object holds; of those the first has a fault.
+// 1,024 items of 65,536 ints, which are 16 ints more than an object holds.
+fn too_many_values(alloc: Global) -> Result<Rc<Object>, Fail> {
+    let shape = Shape::from_vec(Vec::from_slice(alloc, &[256, 256])?);
+    let item = vec![in alloc; 7; 65_536]?;
+    alone(alloc, Array::constant(ElemType::Int, shape, 1024, item)?)
+}
+
+// The first of the items has a fault.
 #[test]
 fn a_fault_before_too_many_values(rt: HostRuntime) -> Result<(), Fail> {
-    let alloc = rt.alloc();
-    let shape = Shape::from_vec(Vec::from_slice(alloc, &[256, 256])?);
-    let mut item = Vec::new(alloc);
-    item.resize(65_536, 7)?;
-    let array = Array::constant(ElemType::Int, shape, 1024, item)?;
-    let object = Object::array(array, Parts::new(alloc))?;
-    let mut given = Outs::new(alloc);
-    given.push(text(alloc, "$0 / 0")?)?;
-    given.push(Some(Rc::new(alloc, object)?))?;
-    assert!(rt; code(alloc, &given)? == "DivisionByZero");
+    let object = too_many_values(rt.alloc())?;
+    let given = inputs(rt.alloc(), text(rt.alloc(), "$0 / 0")?, Some(object))?;
+    assert!(rt; code(rt.alloc(), &given)? == "DivisionByZero");
     Ok(())
 }

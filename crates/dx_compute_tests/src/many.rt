@@ -1,35 +1,32 @@
 // Some thousands of items.
 use crate::calls::{answer, text};
+use crate::stock::{alone, regular};
 use dx_base::push_number;
-use dx_objects::{Array, ElemType, Object, Outs, Parts, Shape};
+use dx_objects::{Array, ElemType, Outs, Shape};
 use std::alloc::{AllocError, Global};
-use std::rc::Rc;
 use std::test::Fail;
 
 const ITEMS: u32 = 3000;
 
-// The numbers from 0 on, as a regular array and as a plain one.
-fn given(alloc: Global, expression: &str) -> Result<Outs, Fail> {
+fn counted(alloc: Global) -> Result<Vec<i64>, AllocError> {
     let mut values = Vec::new(alloc);
     for item in 0..ITEMS {
         values.push(i64::from(item))?;
     }
-    let plain = Array::plain(ElemType::Int, Shape::new(alloc), values)?;
-    let origin = Vec::from_slice(alloc, &[0])?;
-    let delta = Vec::from_slice(alloc, &[1])?;
-    let regular = Array::regular(
-        ElemType::UInt,
-        Shape::new(alloc),
-        u64::from(ITEMS),
-        origin,
-        delta,
-    )?;
+    Ok(values)
+}
+
+fn plain(alloc: Global) -> Result<Array, Fail> {
+    Ok(Array::plain(ElemType::Int, Shape::new(alloc), counted(alloc)?)?)
+}
+
+// The numbers from 0 on, as a plain array and as a regular one.
+fn given(alloc: Global, expression: &str) -> Result<Outs, Fail> {
     let mut given = Outs::new(alloc);
     given.push(text(alloc, expression)?)?;
-    for array in [plain, regular] {
-        let object = Object::array(array, Parts::new(alloc))?;
-        given.push(Some(Rc::new(alloc, object)?))?;
-    }
+    given.push(Some(alone(alloc, plain(alloc)?)?))?;
+    let numbers = regular(alloc, ElemType::UInt, u64::from(ITEMS), 0, 1)?;
+    given.push(Some(alone(alloc, numbers)?))?;
     Ok(given)
 }
 

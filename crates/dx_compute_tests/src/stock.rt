@@ -1,7 +1,7 @@
 // The inputs of the rows, by their names.
 use dx_base::Bytes;
-use dx_objects::{Array, ElemType, Object, Part, Parts, Shape, Value};
-use std::alloc::Global;
+use dx_objects::{Array, ElemType, Object, ObjectError, Part, Parts, Shape, Value};
+use std::alloc::{AllocError, Global};
 use std::rc::Rc;
 use std::test::Fail;
 
@@ -57,7 +57,8 @@ fn constant(alloc: Global, extents: &[u32], items: u64, value: &[i64]) -> Result
     Ok(Array::constant(ElemType::Int, shape, items, value)?)
 }
 
-fn regular(
+/// So many numbers, from the origin on.
+pub(crate) fn regular(
     alloc: Global,
     elem: ElemType,
     items: u64,
@@ -69,11 +70,15 @@ fn regular(
     Ok(Array::regular(elem, Shape::new(alloc), items, origin, delta)?)
 }
 
+fn pair(alloc: Global, one: &[i64], other: &[i64]) -> Result<(Vec<i64>, Vec<i64>), AllocError> {
+    let one = Vec::from_slice(alloc, one)?;
+    Ok((one, Vec::from_slice(alloc, other)?))
+}
+
 // The points of a grid of two dimensions, from (5, 7) on, with the deltas (1, 0) and (0, 10).
 fn points(alloc: Global, counts: [u32; 2]) -> Result<Array, Fail> {
     let counts = Vec::from_slice(alloc, &counts)?;
-    let origin = Vec::from_slice(alloc, &[5, 7])?;
-    let deltas = Vec::from_slice(alloc, &[1, 0, 0, 10])?;
+    let (origin, deltas) = pair(alloc, &[5, 7], &[1, 0, 0, 10])?;
     Ok(Array::grid_positions(counts, origin, deltas)?)
 }
 
@@ -83,27 +88,27 @@ fn cells(alloc: Global, counts: [u32; 2]) -> Result<Array, Fail> {
 }
 
 // Arrays that are no lists of values.
-fn rule(alloc: Global, name: &str) -> Result<Option<Array>, Fail> {
-    Ok(Some(match name {
-        "sevens" => constant(alloc, &[], 3, &[7])?,
-        "constant" => constant(alloc, &[], 1, &[7])?,
-        "no sevens" => constant(alloc, &[], 0, &[7])?,
-        "constant vectors" => constant(alloc, &[2], 3, &[7, 8])?,
-        "downwards" => regular(alloc, ElemType::Int, 3, 10, -2)?,
-        "regular" => regular(alloc, ElemType::Short, 1, 10, -2)?,
-        "over the ints" => regular(alloc, ElemType::UInt, 3, 2_147_483_646, 1)?,
-        "points" => points(alloc, [2, 2])?,
-        "point" => points(alloc, [1, 1])?,
-        "cells" => cells(alloc, [3, 2])?,
-        "cell" => cells(alloc, [2, 2])?,
-        _ => return Ok(None),
-    }))
+fn rule(alloc: Global, name: &str) -> Result<Array, Fail> {
+    match name {
+        "sevens" => constant(alloc, &[], 3, &[7]),
+        "constant" => constant(alloc, &[], 1, &[7]),
+        "no sevens" => constant(alloc, &[], 0, &[7]),
+        "constant vectors" => constant(alloc, &[2], 3, &[7, 8]),
+        "downwards" => regular(alloc, ElemType::Int, 3, 10, -2),
+        "regular" => regular(alloc, ElemType::Short, 1, 10, -2),
+        "over the ints" => regular(alloc, ElemType::UInt, 3, 2_147_483_646, 1),
+        "points" => points(alloc, [2, 2]),
+        "point" => points(alloc, [1, 1]),
+        "cells" => cells(alloc, [3, 2]),
+        "cell" => cells(alloc, [2, 2]),
+        _ => Err(Fail::from("a row names no input")),
+    }
 }
 
-fn array(alloc: Global, name: &str) -> Result<Option<Array>, Fail> {
+fn array(alloc: Global, name: &str) -> Result<Array, Fail> {
     for row in PLAIN {
         if row.0 == name {
-            return Ok(Some(plain(alloc, row)?));
+            return plain(alloc, row);
         }
     }
     rule(alloc, name)
@@ -111,34 +116,44 @@ fn array(alloc: Global, name: &str) -> Result<Option<Array>, Fail> {
 
 // ---- parts
 
-// A part at a position, which has no name where the text is empty.
+fn name_of(alloc: Global, name: &str) -> Result<Option<Bytes>, AllocError> {
+    if name.is_empty() {
+        return Ok(None);
+    }
+    Ok(Some(Bytes::copy_of(alloc, name.as_bytes())?))
+}
+
+/// A part at a position, which has no name where the text is empty.
 pub(crate) fn part(
     alloc: Global,
     name: &str,
     position: i32,
     object: Rc<Object>,
 ) -> Result<Part, Fail> {
-    let name = if name.is_empty() {
-        None
-    } else {
-        Some(Bytes::copy_of(alloc, name.as_bytes())?)
-    };
     Ok(Part {
-        name,
+        name: name_of(alloc, name)?,
         position,
         object,
     })
 }
 
+/// An array without attributes.
+pub(crate) fn alone(alloc: Global, array: Array) -> Result<Rc<Object>, Fail> {
+    Ok(Rc::new(alloc, Object::array(array, Parts::new(alloc))?)?)
+}
+
 // Names and texts.
 type Attributes<'a> = &'a [(&'a str, &'a str)];
 
+fn text(alloc: Global, text: &str) -> Result<Rc<Object>, Fail> {
+    let bytes = Bytes::copy_of(alloc, text.as_bytes())?;
+    Ok(Rc::new(alloc, Object::text(bytes, Parts::new(alloc))?)?)
+}
+
 fn attributes(alloc: Global, rows: Attributes<'_>) -> Result<Parts, Fail> {
     let mut parts = Parts::new(alloc);
-    for (name, text) in rows {
-        let bytes = Bytes::copy_of(alloc, text.as_bytes())?;
-        let object = Object::text(bytes, Parts::new(alloc))?;
-        parts.push(part(alloc, name, 0, Rc::new(alloc, object)?)?)?;
+    for (name, bytes) in rows {
+        parts.push(part(alloc, name, 0, text(alloc, bytes)?)?)?;
     }
     Ok(parts)
 }
@@ -146,12 +161,12 @@ fn attributes(alloc: Global, rows: Attributes<'_>) -> Result<Parts, Fail> {
 // An array or a text, with attributes.
 fn leaf(alloc: Global, name: &str, rows: Attributes<'_>) -> Result<Rc<Object>, Fail> {
     let attributes = attributes(alloc, rows)?;
-    let object = match array(alloc, name)? {
-        Some(array) => Object::array(array, attributes)?,
-        None if name == "text" => Object::text(Bytes::copy_of(alloc, b"text")?, attributes)?,
-        None => return Err(Fail::from("a row names no input")),
+    let object = if name == "text" {
+        Object::text(Bytes::copy_of(alloc, b"text")?, attributes)
+    } else {
+        Object::array(array(alloc, name)?, attributes)
     };
-    Ok(Rc::new(alloc, object)?)
+    Ok(Rc::new(alloc, object?)?)
 }
 
 // ---- fields
@@ -343,18 +358,21 @@ const NESTED: &[Group<'static>] = &[
     ),
 ];
 
+fn grouping_of(grouping: Grouping, parts: Parts, attributes: Parts) -> Result<Object, ObjectError> {
+    match grouping {
+        Grouping::Plain => Object::group(parts, attributes),
+        Grouping::Composite => Object::composite(parts, attributes),
+        Grouping::Series => Object::series(parts, attributes),
+    }
+}
+
 fn grouped(
     alloc: Global,
     grouping: Grouping,
     parts: Parts,
     rows: Attributes<'_>,
 ) -> Result<Rc<Object>, Fail> {
-    let attributes = attributes(alloc, rows)?;
-    let object = match grouping {
-        Grouping::Plain => Object::group(parts, attributes)?,
-        Grouping::Composite => Object::composite(parts, attributes)?,
-        Grouping::Series => Object::series(parts, attributes)?,
-    };
+    let object = grouping_of(grouping, parts, attributes(alloc, rows)?)?;
     Ok(Rc::new(alloc, object)?)
 }
 
