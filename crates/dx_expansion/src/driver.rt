@@ -1,5 +1,5 @@
 //! The texts of the top level: a statement, and before it the definitions that it reads.
-ghost use Rattle.std.specs.Prelude.{◌≡◌, ◌<◌, ◌++◌, length, All, Some, None, IfOk, OnOk, replicate};
+ghost use Rattle.std.specs.Prelude.{◌≡◌, ◌<◌, ◌++◌, length, All, Some, None, IfOk, IfSome, OnOk, replicate};
 ghost use Rattle.dx_graph.specs.Sites.{IsLawfulSpot};
 ghost use Rattle.dx_ast.specs.Lawful.{IsName, IsLawful, IsLawfulExpr, IsLawfulCall};
 ghost use Rattle.dx_ast.specs.Plain.{plain_expr, plain_call, plain_stmt};
@@ -194,6 +194,23 @@ fn new_world<'a>(alloc: Global, d: &'a Dictionary, f: &Frames) -> World<'a>
         frames: *f,
         memo: Sparse::new(alloc, d.len()),
     }
+}
+
+/// The expansion of a statement that can have no effect, whatever its names mean: a graph without effects. None where it may
+/// have one.
+pub fn expand_silent<'a>(
+    alloc: Global,
+    d: &'a Dictionary,
+    s: &'a Stmt,
+    f: &Frames,
+) -> Option<Graph>
+    ensures { IfSome result (λ g. unfolded (graph_of g) ≡ effects (dictionary_of d.now) f.now (plain_stmt s.now)) }
+{
+    let w: World<'a> = new_world(alloc, d, f);
+    if !is_silent(&w, s) {
+        return None;
+    }
+    Some(Graph::new(alloc))
 }
 
 /// The first static fault of a statement, as `check` answers it; where there is none its expansion, as `expand` does. The

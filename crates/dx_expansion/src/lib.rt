@@ -7,4 +7,4 @@ mod own;
 mod silent;
 mod text;
 
-pub use driver::{check_and_expand, expand};
+pub use driver::{check_and_expand, expand, expand_silent};

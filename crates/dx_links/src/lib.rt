@@ -4,6 +4,7 @@
 mod changes;
 mod gap;
 mod held;
+mod in_place;
 mod key;
 mod laws;
 mod links;

@@ -8,11 +8,15 @@ ghost use Rattle.dx_links.specs.LinkMap.{held_at, after, tag_at, key_cmp};
 use crate::changes::Changes;
 use crate::gap::{close, make};
 use crate::held::Held;
+use crate::in_place::make_each;
 use crate::key::Key;
 use dx_tags::ValueTag;
 use std::alloc::{AllocError, Global};
 use std::cmp::Ordering;
 use std::marker::Model;
+
+// More changes than these are made in one pass over all links.
+const FEW: usize = 8;
 
 /// What is kept between executions, which contracts see as a finite map from keys, in their order, with the room for more
 /// keys.
@@ -96,12 +100,16 @@ impl Links {
         self.links[i].1.set_tag(tag);
     }
 
-    /// Makes the changes in their order, the last of one key counting. This takes no memory, and time of the number of
-    /// links and of that of the changes times its logarithm.
+    /// Makes the changes in their order, the last of one key counting. This takes no memory. A few changes are made one by
+    /// one, where the links are; more of them in time of the number of links and of that of the changes times its logarithm.
     pub fn commit(&mut self, changes: Changes)
         requires room { length changes ≤ self.old.room }
         ensures { self.new.links ≡ after self.old.links changes }
     {
+        if changes.len() <= FEW {
+            make_each(&mut self.links, changes.into_sorted());
+            return;
+        }
         make(&mut self.links, &mut self.aside, changes.into_sorted());
         close(&mut self.links, &mut self.aside);
     }
@@ -122,7 +130,7 @@ impl Links {
 }
 
 // The place of a key, or the place before which it would stand.
-fn place_of(links: &[(Key, Held)], key: &Key) -> Result<usize, usize>
+pub(crate) fn place_of(links: &[(Key, Held)], key: &Key) -> Result<usize, usize>
     ensures place { IsBinarySearchResult (λ link. key_cmp link.0 key.now) links.now result }
     ensures range { IsSearchInRange result (length links.now) }
 {
