@@ -18,10 +18,10 @@ ghost use Rattle.dx_making.specs.declared.end.End.TheVariants.{ReadFault, WriteF
 use crate::end::End;
 use crate::failing::{Failing, how_it_ends};
 use dx_ast::{Frames, Stmt};
+use dx_checked::CheckedDictionary;
 use dx_engine::State;
-use dx_expansion::check_and_expand;
 use dx_io::{Exports, Files, Sink};
-use dx_macros::{CheckFail, Dictionary};
+use dx_macros::CheckFail;
 use dx_objects::Library;
 use std::alloc::Global;
 
@@ -37,7 +37,7 @@ use std::alloc::Global;
 /// `ReadFault`, `WriteFault`, `ExportFault`: only where that device's count of faults rose. `Memory`: only where memory ran out.
 pub fn make<F: Files, X: Exports, O: Sink, L: Library>(
     alloc: Global,
-    d: &Dictionary,
+    d: &CheckedDictionary,
     frames: &Frames,
     s: &Stmt,
     state: &mut State,
@@ -60,7 +60,7 @@ pub fn make<F: Files, X: Exports, O: Sink, L: Library>(
     ensures written { HasPut (X.puts exports.old) (X.puts exports.new) state.old.written.files state.new.written.files }
     ensures makes { FromState L.answer (F.content files.old) state.old (λ x. MakesSo x state.old (coursed x (dictionary_of d.now) frames.now (plain_stmt s.now) (kept_of state.old)) (record { told = told (L.done lib.old) (F.asked files.old); written = O.written out.old; puts = X.puts exports.old }) result state.new (record { told = told (L.done lib.new) (F.asked files.new); written = O.written out.new; puts = X.puts exports.new })) }
 {
-    match check_and_expand(alloc, d, s, frames) {
+    match d.expansion(alloc, s, frames) {
         Ok(graph) => how_it_ends(state.execute(alloc, &graph, files, exports, out, lib)),
         Err(CheckFail::Fault(site, fault)) => Ok(Some(Failing::Faulty(site, fault))),
         Err(CheckFail::Memory) => Err(End::Memory),

@@ -20,9 +20,9 @@ ghost use Rattle.dx_sessions.specs.Executes.{ExecutesSo};
 use crate::ended::{Ended, how};
 use crate::session::Session;
 use dx_ast::{Frames, Stmt};
+use dx_checked::CheckedDictionary;
 use dx_engine::State;
 use dx_io::{Exports, Files, Sink, SinkFail, write_all};
-use dx_macros::Dictionary;
 use dx_making::{End, Failing, make};
 use dx_objects::Library;
 use dx_telling::{Listings, push_behind};
@@ -31,7 +31,7 @@ use std::alloc::Global;
 /// Makes an execution of a statement, and tells what is told behind it.
 pub(crate) fn execute<F: Files, X: Exports, O: Sink, L: Library>(
     alloc: Global,
-    d: &Dictionary,
+    d: &CheckedDictionary,
     frames: &Frames,
     s: &Stmt,
     listings: Listings,

@@ -7,8 +7,8 @@ ghost use Rattle.dx_shown.specs.Session.{initial};
 ghost use Rattle.dx_sessions.specs.Sequence.{IsSequence};
 
 use dx_ast::Stmt;
+use dx_checked::CheckedDictionary;
 use dx_engine::State;
-use dx_macros::Dictionary;
 use dx_sequencer::Sequencer;
 use dx_telling::Listings;
 use std::alloc::Global;
@@ -17,7 +17,7 @@ use std::alloc::Global;
 /// keep; and which listings are told behind each execution.
 #[derive(Drop)]
 pub struct Session {
-    pub(crate) dictionary: Dictionary,
+    pub(crate) dictionary: CheckedDictionary,
     pub(crate) sequencer: Sequencer,
     pub(crate) sequence: Option<Stmt>,
     pub(crate) state: State,
@@ -38,7 +38,7 @@ impl Session {
         ensures listings { result.listings ≡ listings }
     {
         Session {
-            dictionary: Dictionary::new(alloc),
+            dictionary: CheckedDictionary::new(alloc),
             sequencer: Sequencer::new(),
             sequence: None,
             state: State::new(alloc, budget),

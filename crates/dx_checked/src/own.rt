@@ -1,0 +1,128 @@
+//! The calls of a text by itself: how many there are, where none has a fault and whatever the names mean.
+ghost use Rattle.std.specs.Prelude.{◌≡◌, ◌≤◌, ◌+◌, IfSome};
+ghost use Rattle.dx_ast.specs.Limits.{max_walk_calls};
+ghost use Rattle.dx_ast.specs.Plain.{plain_expr, plain_call, plain_args, plain_stmt, plain_stmts};
+ghost use Rattle.dx_definitions.specs.Index.{text_of};
+ghost use Rattle.dx_macros.specs.Dictionary.{callee};
+ghost use Rattle.dx_macros.specs.DictionaryView.{dictionary_of};
+ghost use Rattle.dx_signatures.specs.CalleeView.{plain_callee};
+ghost use Rattle.dx_checked.specs.Own.{Reaches, ExprFits, CallFits, ArgsFit, CalleeFits, StatementFits, BodyFits};
+ghost use Rattle.dx_checked.specs.Known.{DefinitionFits};
+
+use dx_ast::{Arg, Assign, Call, Expr, Stmt};
+use dx_macros::{Callee, Dictionary, MAX_STEPS, called};
+use dx_signatures::fault_of_call;
+use std::alloc::Global;
+
+// Each of the following takes the number of calls before, and answers that with the calls here. It answers None where one of
+// them has a fault, where there are more than a walk may have, and where memory ran out.
+
+#[cycle(own)]
+fn expr_calls(
+    alloc: Global,
+    d: &Dictionary,
+    left: u8,
+    e: &Expr,
+    targets: usize,
+    calls: u32,
+) -> Option<u32>
+    requires { calls ≤ max_walk_calls }
+    ensures { IfSome result (λ n. Reaches calls n (ExprFits (dictionary_of d.now).macros left targets (plain_expr e.now))) }
+{
+    match e {
+        Expr::Call(c) => call_calls(alloc, d, left, c.get(), targets, calls),
+        Expr::Constant(_) => Some(calls),
+        Expr::Name(_) => Some(calls),
+        Expr::Frame(_) => Some(calls),
+    }
+}
+
+#[cycle(own)]
+fn call_calls(
+    alloc: Global,
+    d: &Dictionary,
+    left: u8,
+    c: &Call,
+    targets: usize,
+    calls: u32,
+) -> Option<u32>
+    requires { calls ≤ max_walk_calls }
+    ensures { IfSome result (λ n. Reaches calls n (CallFits (dictionary_of d.now).macros left targets (plain_call c.now))) }
+{
+    let callee = called(d, c.name.bytes());
+    let args = c.args.as_slice();
+    match fault_of_call(alloc, calls, callee, left, args, targets) {
+        Ok(None) => {
+            let calls = args_calls(alloc, d, left, args, calls + 1)?;
+            callee_calls(alloc, d, left, c.name.bytes(), calls)
+        }
+        _ => None,
+    }
+}
+
+#[cycle(own)]
+fn args_calls(alloc: Global, d: &Dictionary, left: u8, args: &[Arg], before: u32) -> Option<u32>
+    requires { before ≤ max_walk_calls }
+    ensures { IfSome result (λ n. Reaches before n (ArgsFit (dictionary_of d.now).macros left (plain_args args.now))) }
+{
+    let mut calls = before;
+    for arg in args {
+        calls = expr_calls(alloc, d, left, &arg.value, 0, calls)?;
+    }
+    Some(calls)
+}
+
+// What is called by a name, beside the call itself and its arguments.
+#[cycle(own)]
+fn callee_calls(alloc: Global, d: &Dictionary, left: u8, name: &[u8], calls: u32) -> Option<u32>
+    requires { calls ≤ max_walk_calls }
+    ensures { IfSome result (λ n. Reaches calls n (CalleeFits (dictionary_of d.now).macros left (callee (dictionary_of d.now).macros name.now))) }
+{
+    match called(d, name) {
+        Callee::Unknown => Some(calls),
+        Callee::Function(_) => Some(calls),
+        Callee::Macro(m) => {
+            if left == 0 {
+                return Some(calls);
+            }
+            body_calls(alloc, d, left - 1, m.body.as_slice(), calls)
+        }
+    }
+}
+
+#[cycle(own)]
+fn body_calls(alloc: Global, d: &Dictionary, left: u8, body: &[Stmt], before: u32) -> Option<u32>
+    requires { before ≤ max_walk_calls }
+    ensures { IfSome result (λ n. Reaches before n (BodyFits (dictionary_of d.now).macros left (plain_stmts body.now))) }
+{
+    let mut calls = before;
+    for s in body {
+        calls = statement_calls(alloc, d, left, s, calls)?;
+    }
+    Some(calls)
+}
+
+#[cycle(own)]
+fn statement_calls(alloc: Global, d: &Dictionary, left: u8, s: &Stmt, calls: u32) -> Option<u32>
+    requires { calls ≤ max_walk_calls }
+    ensures { IfSome result (λ n. Reaches calls n (StatementFits (dictionary_of d.now).macros left (plain_stmt s.now))) }
+{
+    match s {
+        Stmt::Call(c) => call_calls(alloc, d, left, c, 0, calls),
+        Stmt::Assign(a) => expr_calls(alloc, d, left, &a.value, a.targets.len(), calls),
+        _ => None,
+    }
+}
+
+/// The calls of an assignment at the top level, beside those of what its names mean.
+pub(crate) fn definition_calls(
+    alloc: Global,
+    d: &Dictionary,
+    a: &Assign,
+    calls: u32,
+) -> Option<u32>
+    requires { calls ≤ max_walk_calls }
+    ensures { IfSome result (λ n. Reaches calls n (DefinitionFits (dictionary_of d.now).macros (text_of a.now))) }
+{
+    expr_calls(alloc, d, MAX_STEPS, &a.value, a.targets.len(), calls)
+}
