@@ -210,3 +210,35 @@ const SITES: &[Row<'static>] = &[
 fn sites(rt: HostRuntime) -> Result<(), Fail> {
     all_hold(rt.alloc(), SITES)
 }
+
+// Assignments over definitions that had no fault so far.
+const OVER_DEFINITIONS: &[Row<'static>] = &[
+    Row {
+        what: "a macro that is replaced is a fault of all that is assigned over its calls",
+        session: &[
+            "macro m(a) -> (r) { r = Compute(\"$0 + 1\", a); } x = m(5); y = Compute(\"$0\", x); ",
+            "macro m(a) -> (r) { r = Foo(a); } z = Compute(\"$0\", y); ",
+            "macro m(a) -> (r) { r = Compute(\"$0 * 2\", a); } z = Compute(\"$0\", y); Print(z, \"d\");",
+        ],
+        printed: &["error x/m:1/Foo:1: UnknownFunction", NUMBER, "10"],
+        status: 1,
+        ..PLAIN
+    },
+    Row {
+        what: "the calls of the definitions count with those of the assignment",
+        session: &[
+            "macro a(x) -> (r) { r = Compute(\"$0\", Compute(\"$0\", Compute(\"$0\", Compute(\"$0\", x)))); } ",
+            "macro b(x) -> (r) { r = a(a(a(a(a(a(a(a(x)))))))); } macro c(x) -> (r) { r = b(b(b(b(b(b(b(b(x)))))))); } ",
+            "macro d(x) -> (r) { r = c(c(c(c(c(c(c(c(x)))))))); } macro e(x) -> (r) { r = d(d(d(d(x)))); } ",
+            "x = e(e(e(1))); y = e(e(x)); y = e(e(e(y)));",
+        ],
+        printed: &["error y/e:2/d:4/c:1/b:8/a:5/Compute:1: Calls"],
+        status: 1,
+        ..PLAIN
+    },
+];
+
+#[test]
+fn over_definitions(rt: HostRuntime) -> Result<(), Fail> {
+    all_hold(rt.alloc(), OVER_DEFINITIONS)
+}
