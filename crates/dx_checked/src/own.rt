@@ -3,7 +3,7 @@ ghost use Rattle.std.specs.Prelude.{◌≡◌, ◌≤◌, ◌+◌, IfSome};
 ghost use Rattle.dx_ast.specs.Limits.{max_walk_calls};
 ghost use Rattle.dx_ast.specs.Plain.{plain_expr, plain_call, plain_args, plain_stmt, plain_stmts};
 ghost use Rattle.dx_definitions.specs.Index.{text_of};
-ghost use Rattle.dx_macros.specs.Dictionary.{callee};
+ghost use Rattle.dx_macros.specs.Dictionary as names;
 ghost use Rattle.dx_macros.specs.DictionaryView.{dictionary_of};
 ghost use Rattle.dx_signatures.specs.CalleeView.{plain_callee};
 ghost use Rattle.dx_checked.specs.Own.{Reaches, ExprFits, CallFits, ArgsFit, CalleeFits, StatementFits, BodyFits};
@@ -54,7 +54,7 @@ fn call_calls(
     match fault_of_call(alloc, calls, callee, left, args, targets) {
         Ok(None) => {
             let calls = args_calls(alloc, d, left, args, calls + 1)?;
-            callee_calls(alloc, d, left, c.name.bytes(), calls)
+            callee_calls(alloc, d, left, c.name.bytes(), callee, calls)
         }
         _ => None,
     }
@@ -72,13 +72,21 @@ fn args_calls(alloc: Global, d: &Dictionary, left: u8, args: &[Arg], before: u32
     Some(calls)
 }
 
-// What is called by a name, beside the call itself and its arguments.
+// What is called by this name, beside the call itself and its arguments.
 #[cycle(own)]
-fn callee_calls(alloc: Global, d: &Dictionary, left: u8, name: &[u8], calls: u32) -> Option<u32>
-    requires { calls ≤ max_walk_calls }
-    ensures { IfSome result (λ n. Reaches calls n (CalleeFits (dictionary_of d.now).macros left (callee (dictionary_of d.now).macros name.now))) }
+fn callee_calls(
+    alloc: Global,
+    d: &Dictionary,
+    left: u8,
+    name: &[u8],
+    callee: Callee<'_>,
+    calls: u32,
+) -> Option<u32>
+    requires named { plain_callee callee ≡ names.callee (dictionary_of d.now).macros name.now }
+    requires bound { calls ≤ max_walk_calls }
+    ensures { IfSome result (λ n. Reaches calls n (CalleeFits (dictionary_of d.now).macros left (names.callee (dictionary_of d.now).macros name.now))) }
 {
-    match called(d, name) {
+    match callee {
         Callee::Unknown => Some(calls),
         Callee::Function(_) => Some(calls),
         Callee::Macro(m) => {
@@ -115,12 +123,7 @@ fn statement_calls(alloc: Global, d: &Dictionary, left: u8, s: &Stmt, calls: u32
 }
 
 /// The calls of an assignment at the top level, beside those of what its names mean.
-pub(crate) fn definition_calls(
-    alloc: Global,
-    d: &Dictionary,
-    a: &Assign,
-    calls: u32,
-) -> Option<u32>
+pub(crate) fn definition_calls(alloc: Global, d: &Dictionary, a: &Assign, calls: u32) -> Option<u32>
     requires { calls ≤ max_walk_calls }
     ensures { IfSome result (λ n. Reaches calls n (DefinitionFits (dictionary_of d.now).macros (text_of a.now))) }
 {

@@ -198,12 +198,7 @@ fn new_world<'a>(alloc: Global, d: &'a Dictionary, f: &Frames) -> World<'a>
 
 /// The expansion of a statement that can have no effect, whatever its names mean: a graph without effects. None where it may
 /// have one.
-pub fn expand_silent<'a>(
-    alloc: Global,
-    d: &'a Dictionary,
-    s: &'a Stmt,
-    f: &Frames,
-) -> Option<Graph>
+pub fn expand_silent<'a>(alloc: Global, d: &'a Dictionary, s: &'a Stmt, f: &Frames) -> Option<Graph>
     ensures { IfSome result (λ g. unfolded (graph_of g) ≡ effects (dictionary_of d.now) f.now (plain_stmt s.now)) }
 {
     let w: World<'a> = new_world(alloc, d, f);

@@ -5,6 +5,7 @@ use Rattle.dx_macros.proofs.Doing.{stmt_call, stmt_assign}
 use Rattle.dx_macros.specs.Dictionary.{callee}
 use Rattle.dx_macros.specs.DictionaryView.{dictionary_of}
 use Rattle.dx_signatures.specs.Callees.{Callee}
+use Rattle.dx_signatures.specs.CalleeView.{plain_callee}
 use Rattle.dx_signatures.specs.Faults.{arg_names, fault_of_call}
 use Rattle.dx_expansion.proofs.LawfulParts.{known_macro}
 use Rattle.dx_expansion.proofs.Measures.{in_args, in_body, in_call, expr_call, expr_name}
@@ -27,9 +28,9 @@ args_calls-loop-arg-preserved t c =
     record {
       bound = r.2;
       so_far = λ n rest. (
-        let more = parts.args_more macros c.args.left c.args.args.now i c.arg-item.result r.0 n c.loop-arg-test.true c.arg-item.is r.3 (subst (λ (k : ℕ). ArgsFit macros c.args.left (plain_args (drop k c.args.args.now)) n) next rest) in
-        let all = c.loop-arg.invariant.so_far (r.0 + n) more in
-        (all.0, (let one = all.1 in let two = r.1 in omega (arith, one, two)), all.2));
+          let more = parts.args_more macros c.args.left c.args.args.now i c.arg-item.result r.0 n c.loop-arg-test.true c.arg-item.is r.3 (subst (λ (k : ℕ). ArgsFit macros c.args.left (plain_args (drop k c.args.args.now)) n) next rest) in
+          let all = c.loop-arg.invariant.so_far (r.0 + n) more in
+          (all.0, (let one = all.1 in let two = r.1 in omega (arith, one, two)), all.2));
     }
 
 pub args_calls-returns : goal.args_calls-returns
@@ -52,9 +53,9 @@ body_calls-loop-s-preserved t c =
     record {
       bound = r.2;
       so_far = λ n rest. (
-        let more = parts.stmts_more macros c.args.left c.args.body.now i c.s-item.result r.0 n c.loop-s-test.true c.s-item.is r.3 (subst (λ (k : ℕ). BodyFits macros c.args.left (plain_stmts (drop k c.args.body.now)) n) next rest) in
-        let all = c.loop-s.invariant.so_far (r.0 + n) more in
-        (all.0, (let one = all.1 in let two = r.1 in omega (arith, one, two)), all.2));
+          let more = parts.stmts_more macros c.args.left c.args.body.now i c.s-item.result r.0 n c.loop-s-test.true c.s-item.is r.3 (subst (λ (k : ℕ). BodyFits macros c.args.left (plain_stmts (drop k c.args.body.now)) n) next rest) in
+          let all = c.loop-s.invariant.so_far (r.0 + n) more in
+          (all.0, (let one = all.1 in let two = r.1 in omega (arith, one, two)), all.2));
     }
 
 pub body_calls-returns : goal.body_calls-returns
@@ -89,15 +90,15 @@ call_calls-returns-in_ok-calls-in-Ok-None t c =
 pub callee_calls-body_calls-requires : goal.callee_calls-body_calls-requires
 callee_calls-body_calls-requires t c =
     let d = c.args.d.now in
-    let known = known_macro d c.args.name.now (plain_macro c.in-Macro.m.now) (sym c.in-Macro.ensures) in
+    let known = known_macro d c.args.name.now (plain_macro c.in-Macro.m.now) (sym c.requires.named ∙ ap plain_callee c.in-Macro.is) in
     let small = in_macro d c.args.name.now c.in-Macro.m.now c.as_slice.result.now known c.as_slice.ensures in
     let less = one_less c.args.left (c.args.left - 1) _ d (omega (arith, c.if-left-eq0.false)) small in
-    (omega (arith, c.decreases, less), c.requires)
+    (omega (arith, c.decreases, less), c.requires.bound)
 
 pub callee_calls-returns-in-Function : goal.callee_calls-returns-in-Function
 callee_calls-returns-in-Function t c =
     let macros = (dictionary_of c.args.d.now).macros in
-    (0, omega arith, c.requires, subst (λ (x : Callee). CalleeFits macros c.args.left x 0) c.in-Function.ensures (parts.function_fits macros c.args.left c.in-Function.field-0))
+    (0, omega arith, c.requires.bound, subst (λ (x : Callee). CalleeFits macros c.args.left x 0) (sym (ap plain_callee c.in-Function.is) ∙ c.requires.named) (parts.function_fits macros c.args.left c.in-Function.field-0))
 
 pub callee_calls-returns-else-left-eq0 : goal.callee_calls-returns-else-left-eq0
 callee_calls-returns-else-left-eq0 t c =
@@ -107,7 +108,7 @@ callee_calls-returns-else-left-eq0 t c =
       h.0,
       h.1,
       h.2,
-      subst (λ (x : Callee). CalleeFits macros c.args.left x h.0) c.in-Macro.ensures (parts.macro_fits macros c.args.left (c.args.left - 1) h.0 c.in-Macro.m.now c.as_slice.result.now (omega (arith, c.if-left-eq0.false)) c.as_slice.ensures h.3),
+      subst (λ (x : Callee). CalleeFits macros c.args.left x h.0) (sym (ap plain_callee c.in-Macro.is) ∙ c.requires.named) (parts.macro_fits macros c.args.left (c.args.left - 1) h.0 c.in-Macro.m.now c.as_slice.result.now (omega (arith, c.if-left-eq0.false)) c.as_slice.ensures h.3),
     ))
     c.body_calls.ensures
 
