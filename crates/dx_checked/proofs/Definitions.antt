@@ -1,14 +1,13 @@
 -- Definitions that are known, and what follows for an assignment over them.
-use Rattle.std.proofs.Common.{◌≡◌, ◌∙◌, ◌++◌, ℕ, zero, suc, ◌<◌, ◌≤◌, ◌+◌, List, [], ◌∷◌, length, Option, Some, None, Bool, true, false, refl, sym, ap, subst, arith}
+use Rattle.std.proofs.Common.{◌≡◌, ◌∙◌, ◌++◌, ℕ, zero, suc, ◌<◌, ◌≤◌, ◌+◌, List, [], ◌∷◌, length, Option, Some, None, Bool, true, false, refl, ap, subst, arith}
 use Rattle.std.specs.Prelude.{slice_index_or, slice_set, replicate, is_some, IfSome}
 use Rattle.dx_ast.specs.Classes.{Text}
-use Rattle.dx_ast.specs.Syntax.{Assigns}
 use Rattle.dx_base.specs.NameLists.{has}
 use Rattle.dx_definitions.specs.TopTexts.{TopText, definition}
 use Rattle.dx_macros.specs.Dictionary.{Macros, Dictionary, with_definition}
 use Rattle.dx_macros.specs.Site.{first_target}
 use Rattle.dx_macros.specs.Walk.{Walk, Walked, Goes, pick, Reader, walk_text, read_definition, reader_at, walk_begins, walk_of, fault_in}
-use Rattle.dx_checked.specs.Own.{Ahead, counted, GoesOn, Fits, NamesFit, Reaches}
+use Rattle.dx_checked.specs.Own.{counted, GoesOn, Fits, NamesFit, Reaches}
 use Rattle.dx_checked.specs.Known.{DefinitionFits, FirstFit, total, IsKnown}
 use Rattle.dx_checked.specs.declared.known.Known.{Known}
 use Rattle.dx_checked.proofs.Parts.{nothing}

@@ -1,5 +1,5 @@
 -- How much of a look at a text is left: each look within it has less.
-use Rattle.std.proofs.Common.{◌≡◌, ℕ, zero, suc, ◌+◌, ◌*◌, ◌<◌, ◌≤◌, List, [], ◌∷◌, length, Some, sym, ap, ◌∙◌, arith}
+use Rattle.std.proofs.Common.{◌≡◌, ℕ, ◌+◌, ◌*◌, ◌<◌, ◌≤◌, List, [], Some, sym, ap, ◌∙◌, arith}
 use Rattle.dx_ast.specs.declared.statements.Stmt.{Stmt}
 use Rattle.dx_ast.specs.declared.statements.MacroDef.{MacroDef, out-MacroDef}
 use Rattle.dx_ast.specs.Classes.{Text as Name}

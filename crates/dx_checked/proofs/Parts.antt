@@ -16,12 +16,12 @@ use Rattle.dx_base.specs.NameLists.{has}
 use Rattle.dx_macros.specs.Dictionary.{Macros, callee}
 use Rattle.dx_macros.specs.Names.{calls_in, calls_after, names_after}
 use Rattle.dx_macros.specs.Site.{Step, next_step}
-use Rattle.dx_macros.specs.Walk.{Walk, Walked, Goes, Faulty, and_then, walked_by, Reader, beside, pick, read_all, enter_callee, walk_call, walk_args, walk_expr, walk_statement, walk_body}
+use Rattle.dx_macros.specs.Walk.{Walk, Walked, Goes, and_then, walked_by, Reader, beside, pick, read_all, enter_callee, walk_args, walk_expr, walk_statement, walk_body}
 use Rattle.dx_signatures.specs.Callees.{Callee, Unknown, CallsMacro, CallsFunction, param_names}
 use Rattle.dx_signatures.specs.Faults.{arg_names, fault_of_call, fault_of_callee}
 use Rattle.dx_signatures.specs.declared.fault.StaticFault.{StaticFault}
 use Rattle.dx_signatures.specs.declared.fault.StaticFault.TheVariants as fault
-use Rattle.dx_checked.specs.Own.{Ahead, counted, GoesOn, Fits, NamesFit, under, ExprFits, CallFits, ArgsFit, CalleeFits, StatementFits, BodyFits}
+use Rattle.dx_checked.specs.Own.{Ahead, Fits, NamesFit, under, ExprFits, CallFits, ArgsFit, CalleeFits, StatementFits, BodyFits}
 
 pub some_map : {P Q : ℕ → Type 0} (o : Option ℕ) → ((n : ℕ) → P n → Q n) → IfSome o P → IfSome o Q
 some_map None f h = h

@@ -9,7 +9,6 @@ ghost use Rattle.dx_getting.specs.Told.{told};
 ghost use Rattle.dx_engine.specs.Keeping.{StateFits, kept_of, IsSoundState};
 ghost use Rattle.dx_engine.specs.Beginning.{FromState};
 ghost use Rattle.dx_engine.specs.Ending.{HasPut};
-ghost use Rattle.dx_engine.specs.Executing.{Devices};
 ghost use Rattle.dx_shown.specs.Made.{coursed};
 ghost use Rattle.dx_making.specs.Failing.{is_faulty};
 ghost use Rattle.dx_making.specs.Making.{MakesSo};

@@ -1,5 +1,5 @@
 -- A fault of a later call is one of the whole.
-use Rattle.std.proofs.Common.{◌≡◌, ◌+◌, ◌-◌, ◌^◌, ◌≤◌, min, ℕ, Result, Ok, Err, subst, arith}
+use Rattle.std.proofs.Common.{◌+◌, ◌-◌, ◌^◌, ◌≤◌, min, ℕ, Result, Ok, Err, subst, arith}
 use Rattle.std.proofs.Math.Nat.{min-le_left, min-le_right, le-min}
 use Rattle.dx_io.specs.Devices.{Cause, Rose}
 use Rattle.dx_making.specs.declared.end.End.{End}

@@ -1,5 +1,5 @@
 -- What is done one behind the other.
-use Rattle.std.proofs.Common.{◌≡◌, ℕ, List, [], ◌∷◌, ◌++◌, Bool, true, false, ◌||◌, Result, Ok, Err, refl, sym, ap, ap₂, subst, ◌∙◌}
+use Rattle.std.proofs.Common.{◌≡◌, List, [], ◌∷◌, Bool, false, ◌||◌, refl, sym, ap, ap₂, subst, ◌∙◌}
 use Rattle.dx_performing.specs.Course.{Fixed}
 use Rattle.dx_performing.specs.Kept.{Kept, current}
 use Rattle.dx_engine.specs.Keeping.{IsSoundState}
@@ -8,9 +8,8 @@ use Rattle.dx_ast.specs.Syntax.{Stmt, Assigns, Calls, Defines, Includes, Sets, S
 use Rattle.dx_sequencer.specs.Sequencer as seq
 use Rattle.dx_shown.specs.Made.{Coursed, coursed}
 use Rattle.dx_shown.specs.Session.{Done, Shown, State, and_then, silently, statement}
-use Rattle.dx_shown.specs.Listed.{any_error}
 use Rattle.dx_telling.specs.declared.listings.Listings.{Listings}
-use Rattle.dx_sessions.specs.Does.{IsWhole, IsFront, IsCutShort, IsCutAt, IsDone}
+use Rattle.dx_sessions.specs.Does.{IsFront, IsCutAt, IsDone}
 use Rattle.dx_sessions.specs.Left.{LeavesCurrent, LeavesSequencer}
 use Rattle.dx_sessions.specs.Places.{here, in_statement}
 use Rattle.dx_sessions.proofs.Statements.{IsDefining}

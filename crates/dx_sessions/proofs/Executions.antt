@@ -5,11 +5,10 @@ use Rattle.dx_io.proofs.Growing.{grows_by_nothing, grows_on, grows_on_into, grow
 use Rattle.dx_ast.specs.declared.statements.Stmt.{Stmt as CodeStmt}
 use Rattle.dx_ast.specs.Plain.{plain_stmt}
 use Rattle.dx_ast.specs.Syntax.{Stmt}
-use Rattle.dx_ending.specs.Putting.{ArePut}
 use Rattle.dx_macros.specs.declared.dictionary.Dictionary.{Dictionary}
 use Rattle.dx_macros.specs.DictionaryView.{dictionary_of}
 use Rattle.dx_links.specs.LinkMap.{LinkMap}
-use Rattle.dx_machine.specs.Machine.{Task, tasks_of}
+use Rattle.dx_machine.specs.Machine.{tasks_of}
 use Rattle.dx_macros.specs.Dictionary.{Dictionary as Definitions}
 use Rattle.dx_macros.specs.Expansion.{effects}
 use Rattle.dx_macros.specs.Tree.{CallTree}
@@ -31,21 +30,20 @@ use Rattle.dx_engine.specs.declared.state.State.{State}
 use Rattle.dx_shown.specs.Made.{Coursed, coursed, coursed_unless}
 use Rattle.dx_sequencer.specs.Sequencer as seq
 use Rattle.dx_sequencer.specs.Sequencer.{frames_of}
-use Rattle.dx_shown.specs.Session.{Shown, Executes, executed, sequence_executed, with_kept, State as SessionState}
-use Rattle.dx_shown.specs.Listed.{all_exports, all_tasks, any_error}
+use Rattle.dx_shown.specs.Session.{Executes, executed, sequence_executed, with_kept, State as SessionState}
 use Rattle.dx_making.specs.Failing.{FailsAs}
-use Rattle.dx_making.specs.Making.{IsMade, IsCutEarly, IsCutLate, MakesSo}
+use Rattle.dx_making.specs.Making.{IsMade, IsCutLate, MakesSo}
 use Rattle.dx_making.specs.declared.end.End.{End}
 use Rattle.dx_making.specs.declared.end.End.TheVariants.{ReadFault, WriteFault, ExportFault, Memory}
 use Rattle.dx_making.specs.declared.failing.Failing.{Failing}
 use Rattle.dx_making.specs.declared.failing.Failing.TheVariants.{Faulty, Refused}
-use Rattle.dx_telling.specs.Shown.{behind_of, shown_texts}
+use Rattle.dx_telling.specs.Shown.{behind_of}
 use Rattle.dx_telling.specs.declared.listings.Listings.{Listings}
-use Rattle.dx_sessions.specs.Does.{OverSound, IsWhole, IsFront, IsCutShort, IsCutAt, IsDone, OthersStay, ShowsSo}
+use Rattle.dx_sessions.specs.Does.{OverSound, IsFront, IsCutAt, IsDone, OthersStay, ShowsSo}
 use Rattle.dx_sessions.specs.Places.{here}
 use Rattle.dx_sessions.specs.Ended.{is_error}
 use Rattle.dx_sessions.specs.Executes.{IsExecuted, IsCutIn, ExecutesSo}
-use Rattle.dx_sessions.specs.Left.{IsUnput, IsAtPut, IsBehind, IsLeftIn, before_puts, at_a_put, behind_puts}
+use Rattle.dx_sessions.specs.Left.{IsBehind, IsLeftIn, before_puts, at_a_put, behind_puts}
 use Rattle.dx_sessions.specs.SessionView.{state_of}
 use Rattle.dx_sessions.specs.declared.ended.Ended.{Ended}
 use Rattle.dx_sessions.specs.declared.session.Session.{Session}

@@ -1,16 +1,15 @@
 -- What is shown one behind the other, on the devices.
-use Rattle.std.proofs.Common.{◌≡◌, ℕ, zero, suc, ◌≤◌, length, List, [], ◌∷◌, ◌++◌, Option, Some, None, Bool, true, false, ◌||◌, refl, sym, ap, subst, ◌∙◌, append_assoc, append-nil, arith}
-use Rattle.dx_io.specs.Devices.{Grows, GrowsInto}
-use Rattle.dx_io.proofs.Growing.{grows_by_nothing, grows_on, grows_on_into}
+use Rattle.std.proofs.Common.{◌≡◌, ◌≤◌, length, List, [], ◌∷◌, ◌++◌, Bool, true, false, ◌||◌, refl, sym, ap, subst, ◌∙◌, append_assoc, arith}
+use Rattle.dx_io.specs.Devices.{Grows}
+use Rattle.dx_io.proofs.Growing.{grows_by_nothing, grows_on}
 use Rattle.dx_machine.specs.Machine.{Task, runs_in, reads_in, tasks_of}
 use Rattle.dx_getting.specs.Told.{Told, TellsRuns, Adds, AddsSome}
-use Rattle.dx_getting.proofs.TellLaws.{runs-append, reads-append, tells_then, grows_more, adds_none, some_later}
-use Rattle.dx_performing.specs.Execution.{Export}
+use Rattle.dx_getting.proofs.TellLaws.{runs-append, reads-append, tells_then, grows_more, adds_none}
 use Rattle.dx_engine.specs.Executing.{Devices}
 use Rattle.dx_shown.specs.Made.{Coursed}
 use Rattle.dx_shown.specs.Session.{Shown, Executes, PlayTooLong, FrameRange}
 use Rattle.dx_shown.specs.Listed.{of_executions, all_exports, all_tasks, is_error, any_error}
-use Rattle.dx_telling.specs.Shown.{shown_texts, text_of}
+use Rattle.dx_telling.specs.Shown.{shown_texts}
 use Rattle.dx_telling.specs.declared.listings.Listings.{Listings}
 use Rattle.dx_telling.proofs.Texts.{texts_of_append}
 use Rattle.dx_sessions.specs.Does.{IsWhole, IsFront, IsCutShort}

@@ -1,9 +1,8 @@
 -- Of what was cut short a front is there.
-use Rattle.std.proofs.Common.{◌≡◌, ℕ, List, [], ◌++◌, Option, refl, sym, ap, subst, ◌∙◌, append_assoc}
+use Rattle.std.proofs.Common.{◌≡◌, ℕ, List, ◌++◌, Option, sym, ap, subst, ◌∙◌, append_assoc}
 use Rattle.dx_io.specs.Devices.{Grows, GrowsInto}
 use Rattle.dx_io.proofs.Growing.{grows_on_into}
 use Rattle.dx_machine.specs.Machine.{tasks_of}
-use Rattle.dx_getting.specs.Told.{AddsSome}
 use Rattle.dx_getting.proofs.TellLaws.{some_later}
 use Rattle.dx_engine.specs.Executing.{Devices}
 use Rattle.dx_shown.specs.Made.{Coursed}

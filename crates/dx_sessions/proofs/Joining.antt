@@ -1,5 +1,5 @@
 -- An assignment with a call: its execution, and that it joins the definitions.
-use Rattle.std.proofs.Common.{◌≡◌, List, [], ◌++◌, Bool, true, false, is_some, refl, sym, ap, subst, ◌∙◌, append-nil}
+use Rattle.std.proofs.Common.{◌≡◌, List, [], Bool, true, false, is_some, sym, ap, subst, ◌∙◌, append-nil}
 use Rattle.std.specs.Prelude.{if◌then◌else◌}
 use Rattle.dx_ast.specs.Classes.{Text}
 use Rattle.dx_ast.specs.Syntax.{Expr, Assigns}
@@ -9,8 +9,8 @@ use Rattle.dx_performing.specs.Kept.{Kept}
 use Rattle.dx_engine.specs.Keeping.{IsSoundState}
 use Rattle.dx_engine.specs.Executing.{Devices}
 use Rattle.dx_engine.specs.declared.state.State.{State}
-use Rattle.dx_shown.specs.Made.{Coursed, coursed}
-use Rattle.dx_shown.specs.Session.{Done, Shown, State as SessionState, and_then, silently, executed, joined, with_assignment}
+use Rattle.dx_shown.specs.Made.{Coursed}
+use Rattle.dx_shown.specs.Session.{Done, Shown, State as SessionState, and_then, silently, joined, with_assignment}
 use Rattle.dx_shown.specs.Listed.{any_error}
 use Rattle.dx_telling.specs.declared.listings.Listings.{Listings}
 use Rattle.dx_sessions.specs.Does.{IsWhole, IsCutAt, IsDone}

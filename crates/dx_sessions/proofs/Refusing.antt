@@ -1,5 +1,5 @@
 -- Plays and frame settings that are refused, which have a line alone; and those that aren't.
-use Rattle.std.proofs.Common.{◌≡◌, ℕ, ◌≤◌, ℤ, List, [], ◌∷◌, ◌++◌, Option, Bool, true, false, ◌||◌, Result, Ok, Err, refl, sym, ap, subst, ◌∙◌, append-nil}
+use Rattle.std.proofs.Common.{◌≡◌, ℕ, ◌≤◌, ℤ, List, [], ◌∷◌, Option, Bool, true, false, Result, Ok, Err, refl, sym, ap, subst, ◌∙◌, append-nil}
 use Rattle.std.specs.Prelude.{if◌then◌else◌}
 use Rattle.std.specs.Bool.{MatchBool}
 use Rattle.dx_io.specs.declared.fails.SinkFail.{SinkFail}
@@ -19,17 +19,16 @@ use Rattle.dx_engine.specs.Keeping.{IsSoundState}
 use Rattle.dx_engine.specs.Executing.{Devices}
 use Rattle.dx_shown.specs.Made.{Coursed, coursed}
 use Rattle.dx_shown.specs.Session.{Done, Making, Shown, Executes, PlayTooLong, FrameRange, State, refused, silently, with_sequencer, set, played, stepped_often}
-use Rattle.dx_shown.specs.Listed.{all_exports, all_tasks, any_error}
+use Rattle.dx_shown.specs.Listed.{any_error}
 use Rattle.dx_making.specs.declared.end.End.{End}
-use Rattle.dx_telling.specs.Shown.{frame_range, text_of, shown_texts}
+use Rattle.dx_telling.specs.Shown.{frame_range, shown_texts}
 use Rattle.dx_telling.specs.declared.listings.Listings.{Listings}
 use Rattle.dx_engine.specs.declared.state.State.{State as EngineState}
 use Rattle.dx_sessions.specs.Does.{IsWhole, IsFront, IsCutAt, IsDone, DoesSo, SetsSo}
 use Rattle.dx_sessions.specs.Places.{IsAmongSteps, here, in_play}
 use Rattle.dx_sessions.specs.SessionView.{state_of}
 use Rattle.dx_sessions.specs.declared.session.Session.{Session}
-use Rattle.dx_sessions.proofs.Folding.{none_whole}
-use Rattle.dx_sessions.proofs.Doing.{silently_done, stays_at_line}
+use Rattle.dx_sessions.proofs.Doing.{stays_at_line}
 
 abbrev pub IsRefusal : Shown Coursed → Type 0
 IsRefusal (Executes c) = ⊥

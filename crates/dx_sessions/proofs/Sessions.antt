@@ -1,5 +1,5 @@
 -- The statements of a session one after the other.
-use Rattle.std.proofs.Common.{◌≡◌, ◌<◌, ℕ, List, [], ◌∷◌, ◌++◌, length, Bool, false, ◌||◌, Result, Ok, Err, refl, sym, ap, ap₂, subst, ◌∙◌, append_assoc, append-nil, arith}
+use Rattle.std.proofs.Common.{◌≡◌, List, [], ◌∷◌, ◌++◌, length, Bool, false, ◌||◌, refl, sym, ap, ap₂, subst, ◌∙◌, append_assoc, append-nil, arith}
 use Rattle.dx_ast.specs.declared.statements.Stmt.{Stmt as CodeStmt}
 use Rattle.dx_ast.specs.Lawful.{IsLawful, AreLawful}
 use Rattle.dx_ast.specs.Plain.{plain_stmt, plain_stmts}
@@ -11,7 +11,7 @@ use Rattle.dx_shown.specs.Made.{Coursed}
 use Rattle.dx_shown.specs.Session.{Done, Making, Shown, State, and_then, silently, statement, statements}
 use Rattle.dx_shown.specs.Listed.{any_error}
 use Rattle.dx_telling.specs.declared.listings.Listings.{Listings}
-use Rattle.dx_sessions.specs.Does.{IsWhole, IsCutShort, IsDone, PerformsSo}
+use Rattle.dx_sessions.specs.Does.{IsWhole, IsCutShort, IsDone}
 use Rattle.dx_sessions.specs.SessionView.{state_of}
 use Rattle.dx_sessions.specs.declared.session.Session.{Session}
 use Rattle.dx_sessions.proofs.Folding.{none_whole, whole_on, errors_append, cut_later, cut_with_more}

@@ -1,7 +1,6 @@
 -- What stays, and what was put, over calls one behind the other.
 use Rattle.std.proofs.Common.{◌≡◌, ℕ, ◌<◌, ◌≤◌, List, [], ◌∷◌, ◌++◌, Option, refl, sym, ap, subst, ◌∙◌, inr}
 use Rattle.dx_io.proofs.Growing.{grows_by_nothing, grows_on}
-use Rattle.dx_ending.specs.Putting.{ArePut}
 use Rattle.dx_performing.specs.Execution.{Export, after_exports}
 use Rattle.dx_performing.specs.Kept.{Kept}
 use Rattle.dx_tags.specs.Files.{FileMap, file_put}
@@ -16,7 +15,7 @@ use Rattle.dx_sessions.specs.Does.{OthersStay}
 use Rattle.dx_sessions.specs.SessionView.{state_of}
 use Rattle.dx_sessions.specs.declared.session.Session.{Session}
 use Rattle.dx_sequencer.specs.Sequencer as seq
-use Rattle.dx_sequencer.specs.Sequencer.{IsPlay, at_play, max_steps, play_steps}
+use Rattle.dx_sequencer.specs.Sequencer.{IsPlay, at_play, max_steps}
 use Rattle.dx_sequencer.proofs.Playing.{steps_are}
 use Rattle.dx_shown.specs.Session.{State}
 use Rattle.dx_sessions.specs.Left.{LeavesPlay, Stays, after_steps}

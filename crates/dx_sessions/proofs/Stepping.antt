@@ -1,14 +1,12 @@
 -- So many steps one after the other.
-use Rattle.std.proofs.Common.{◌≡◌, ℕ, zero, suc, ◌+◌, ◌<◌, ◌-◌, List, [], ◌++◌, Bool, ◌||◌, Result, Ok, Err, refl, sym, ap, subst, ◌∙◌, append_assoc, append-nil, arith}
+use Rattle.std.proofs.Common.{◌≡◌, ℕ, zero, suc, ◌+◌, ◌<◌, ◌-◌, List, [], ◌++◌, Bool, ◌||◌, refl, sym, ap, subst, ◌∙◌, append_assoc, append-nil, arith}
 use Rattle.dx_performing.specs.Course.{Fixed}
 use Rattle.dx_performing.specs.Kept.{Kept}
 use Rattle.dx_engine.specs.Executing.{Devices}
 use Rattle.dx_shown.specs.Made.{Coursed, coursed}
-use Rattle.dx_shown.specs.Session.{Done, Making, Shown, State, and_then, silently, stepped, stepped_often}
-use Rattle.dx_shown.specs.Listed.{any_error}
-use Rattle.dx_making.specs.declared.end.End.{End}
+use Rattle.dx_shown.specs.Session.{Done, Making, Shown, State, and_then, stepped, stepped_often}
 use Rattle.dx_telling.specs.declared.listings.Listings.{Listings}
-use Rattle.dx_sessions.specs.Does.{IsWhole, IsCutAt, IsDone}
+use Rattle.dx_sessions.specs.Does.{IsCutAt, IsDone}
 use Rattle.dx_sessions.specs.Places.{IsAmongSteps, here, moved}
 use Rattle.dx_sessions.specs.SessionView.{state_of}
 use Rattle.dx_sessions.specs.declared.session.Session.{Session}

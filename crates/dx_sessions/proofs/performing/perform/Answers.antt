@@ -1,24 +1,20 @@
-use Rattle.std.proofs.Common.{rules, refl, false, ◌≡◌, ◌∷◌, Some, Ok, Err, Result, Bool, List, length, sym, ap, subst, ◌∙◌, arith}
+use Rattle.std.proofs.Common.{rules, refl, false, ◌≡◌, ◌∷◌, Err, Result, Bool, List, length, sym, ap, subst, ◌∙◌, arith}
 use Rattle.std.proofs.lemmas.Result.{err_from_is_err_and}
 use Rattle.std.specs.Vec.Iter.{into_iter_items}
 use Rattle.dx_ast.specs.declared.statements.Stmt.{Stmt}
 use Rattle.dx_ast.specs.Plain.{plain_stmt, plain_stmts}
-use Rattle.dx_io.specs.Devices.{Cause, FileMap}
+use Rattle.dx_io.specs.Devices.{Cause}
 use Rattle.dx_looking.specs.Setting.{fixed}
-use Rattle.dx_performing.specs.Course.{Fixed}
 use Rattle.dx_performing.specs.Kept.{Kept, new as none_kept}
-use Rattle.dx_engine.specs.Keeping.{IsSoundState}
-use Rattle.dx_engine.specs.Executing.{Devices}
 use Rattle.dx_shown.specs.Made.{Coursed, coursed}
 use Rattle.dx_shown.specs.Session.{Done, State, initial, statement, statements}
 use Rattle.dx_telling.specs.declared.listings.Listings.{Listings}
-use Rattle.dx_sessions.specs.Does.{IsCutShort, IsDone, DoesSo, OverSound, devices}
+use Rattle.dx_sessions.specs.Does.{IsCutShort, IsDone, devices}
 use Rattle.dx_sessions.specs.SessionView.{state_of}
-use Rattle.dx_sessions.specs.declared.session.Session.{Session}
 use Rattle.dx_making.specs.declared.end.End.{End}
 use Rattle.dx_making.specs.declared.end.End.TheVariants.{ReadFault, WriteFault, ExportFault}
 use Rattle.dx_sessions.proofs.Causes.{cause_after}
-use Rattle.dx_sessions.proofs.Sessions.{SoFar, begins, goes_on, is_cut, is_done, lawful_head, lawful_tail, next_statement, no_statement, nothing_left}
+use Rattle.dx_sessions.proofs.Sessions.{SoFar, begins, goes_on, is_cut, is_done, lawful_tail, next_statement, no_statement, nothing_left}
 use Rattle.dx_sessions.proofs.performing.perform.Goals as goal
 
 pub loop-statement-init : goal.loop-statement-init

@@ -7,9 +7,8 @@ use Rattle.dx_macros.specs.Dictionary.{Dictionary}
 use Rattle.dx_macros.specs.declared.dictionary.Dictionary.{Dictionary as CodeDictionary}
 use Rattle.dx_macros.specs.DictionaryView.{dictionary_of}
 use Rattle.dx_macros.specs.Walk.{first_fault}
-use Rattle.dx_performing.specs.Kept.{Kept}
-use Rattle.dx_shown.specs.Made.{Coursed, coursed}
-use Rattle.dx_shown.specs.Session.{State, executed, joined, with_dictionary}
+use Rattle.dx_shown.specs.Made.{coursed}
+use Rattle.dx_shown.specs.Session.{executed, joined, with_dictionary}
 use Rattle.dx_sessions.specs.Does.{IsCutAt, IsDone, devices, joining}
 use Rattle.dx_sessions.specs.Places.{here}
 use Rattle.dx_sessions.specs.Ended.{is_error}

@@ -1,13 +1,10 @@
-use Rattle.std.proofs.Common.{◌≡◌, refl, ap, sym, subst, option_map, Option, Ok, Err}
+use Rattle.std.proofs.Common.{refl, ap, subst, option_map, Ok, Err}
 use Rattle.dx_ast.specs.declared.sequencing.Frames.{Frames}
 use Rattle.dx_ast.specs.Plain.{plain_stmt}
-use Rattle.dx_ast.specs.Syntax.{Stmt}
 use Rattle.dx_macros.specs.DictionaryView.{dictionary_of}
 use Rattle.dx_engine.specs.Keeping.{kept_of}
 use Rattle.dx_shown.specs.Made.{coursed}
-use Rattle.dx_shown.specs.Session.{sequence_executed}
-use Rattle.dx_sessions.specs.Does.{IsCutAt, devices}
-use Rattle.dx_sessions.specs.Places.{here}
+use Rattle.dx_sessions.specs.Does.{devices}
 use Rattle.dx_sessions.specs.Ended.{is_error}
 use Rattle.dx_sessions.specs.Executes.{ExecutesSo}
 use Rattle.dx_sessions.specs.SessionView.{state_of}

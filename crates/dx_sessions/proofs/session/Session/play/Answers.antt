@@ -1,4 +1,4 @@
-use Rattle.std.proofs.Common.{◌≡◌, ◌∙◌, refl, ap, sym, subst, append-nil}
+use Rattle.std.proofs.Common.{◌∙◌, refl, ap, sym, subst, append-nil}
 use Rattle.dx_io.specs.Devices.{Grows, GrowsInto}
 use Rattle.dx_sequencer.specs.Sequencer as seq
 use Rattle.dx_shown.specs.Session.{with_sequencer}

@@ -1,4 +1,4 @@
-use Rattle.std.proofs.Common.{rules, arith, w32, FitsSigned, ◌≡◌, ◌∙◌, ℤ, Option, List, ℕ, true, refl, ap, subst}
+use Rattle.std.proofs.Common.{rules, w32, FitsSigned, ◌≡◌, ◌∙◌, ℤ, true, refl, ap, subst}
 use Rattle.std.proofs.lemmas.Int.{to_z-of_z}
 use Rattle.dx_io.specs.Devices.{Grows}
 use Rattle.dx_ast.specs.declared.sequencing.Frames.{Frames}

@@ -1,4 +1,4 @@
-use Rattle.std.proofs.Common.{◌≡◌, refl, sym, ap, subst}
+use Rattle.std.proofs.Common.{refl, sym, ap, subst}
 use Rattle.std.proofs.lemmas.Result.{err_from_is_err_and}
 use Rattle.dx_ast.specs.declared.statements.Stmt.TheVariants as code
 use Rattle.dx_ast.specs.Syntax.{Stmt}

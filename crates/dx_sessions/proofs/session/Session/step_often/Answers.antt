@@ -1,4 +1,4 @@
-use Rattle.std.proofs.Common.{◌≡◌, ◌∙◌, add-one, arith, refl, ap, sym, subst}
+use Rattle.std.proofs.Common.{◌∙◌, add-one, arith, refl, ap, subst}
 use Rattle.std.proofs.lemmas.Result.{err_from_is_err_and}
 use Rattle.dx_shown.specs.Made.{coursed}
 use Rattle.dx_shown.specs.Session.{stepped}

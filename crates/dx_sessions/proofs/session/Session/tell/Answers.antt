@@ -1,4 +1,4 @@
-use Rattle.std.proofs.Common.{◌≡◌, Bool, false, refl, sym, subst}
+use Rattle.std.proofs.Common.{false, refl, sym, subst}
 use Rattle.dx_engine.specs.Keeping.{StateFits, IsSoundState}
 use Rattle.dx_engine.specs.declared.state.State.{State}
 use Rattle.dx_performing.specs.Kept.{Kept}
