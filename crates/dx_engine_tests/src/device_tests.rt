@@ -144,10 +144,14 @@ fn goes_on(alloc: Global, cut: Cut, state: &mut State) -> Result<bool, AllocErro
     Ok(linked && seen && whole)
 }
 
+fn is_so(alloc: Global, cut: Cut) -> Result<bool, AllocError> {
+    let mut state = State::new(alloc, 68);
+    goes_on(alloc, cut, &mut state)
+}
+
 fn first_miss(alloc: Global, cuts: &[Cut]) -> Result<Option<&'static str>, AllocError> {
     for cut in cuts {
-        let mut state = State::new(alloc, 68);
-        if !goes_on(alloc, *cut, &mut state)? {
+        if !is_so(alloc, *cut)? {
             return Ok(Some(cut.1));
         }
     }
@@ -178,14 +182,22 @@ fn is_seen_in_the_end(
     is_seen(alloc, statement, NONE, state, expected)
 }
 
+/// Whether the execution is seen whole in the end, behind one that links a number.
+fn is_whole_in_the_end(alloc: Global, state: &mut State) -> Result<bool, AllocError>
+    requires { StateFits state.old }
+    ensures { StateFits state.new }
+{
+    let linked = is_seen_in_the_end(alloc, BEFORE, state, LINKED)?;
+    let seen = is_seen_in_the_end(alloc, "m();", state, WHOLE)?;
+    Ok(linked && seen)
+}
+
 // Each allocation can be made to fail in turn (`rt try --test --fail-alloc N`). Where memory runs out in an execution, the links
 // are those before it, nothing stays cached, and the same execution goes on from there.
 #[test]
 fn executions_behind_those_without_memory(rt: HostRuntime) -> Result<(), Fail> {
-    let alloc = rt.alloc();
-    let mut state = State::new(alloc, 68);
-    let linked = is_seen_in_the_end(alloc, BEFORE, &mut state, LINKED)?;
-    let seen = is_seen_in_the_end(alloc, "m();", &mut state, WHOLE)?;
-    assert!(rt; linked && seen);
+    let mut state = State::new(rt.alloc(), 68);
+    let whole = is_whole_in_the_end(rt.alloc(), &mut state)?;
+    assert!(rt; whole);
     Ok(())
 }

@@ -25,19 +25,17 @@ fn execute_often(
     Ok(())
 }
 
-/// Whether this is seen the last time of so many, where nothing is kept before.
-fn is_seen_last(
+/// What is seen the last time of so many, where nothing is kept before.
+fn last_of(
     alloc: Global,
     budget: u64,
     before: &str,
     statements: &[&str],
     count: u32,
-    expected: &str,
-) -> Result<bool, AllocError> {
-    let mut shown = Vec::new(alloc);
+    shown: &mut Vec<u8>,
+) -> Result<(), AllocError> {
     let mut state = State::new(alloc, budget);
-    execute_often(alloc, before, statements, count, &mut state, &mut shown)?;
-    Ok(shown.as_slice() == expected.as_bytes())
+    execute_often(alloc, before, statements, count, &mut state, shown)
 }
 
 /// The macro and the definition of the workload, and a macro that also tells the link before it is set.
@@ -86,15 +84,17 @@ fn three_thousand_executions(rt: HostRuntime) -> Result<(), Fail> {
         "SetGlobal(cell(GetGlobal(0, \"s\"), cell(p, 37)), \"s\");",
         "m();",
     ];
-    let linked = is_seen_last(rt.alloc(), 136, CELLS, &cells, 1500, LAST)?;
-    assert!(rt; linked);
+    let mut shown = Vec::new(rt.alloc());
+    last_of(rt.alloc(), 136, CELLS, &cells, 1500, &mut shown)?;
+    assert!(rt; shown.as_slice() == LAST.as_bytes());
     Ok(())
 }
 
 #[test]
 fn two_results_in_turn(rt: HostRuntime) -> Result<(), Fail> {
     let two = ["Echo(Import(\"i\"));", "Echo(Compute(\"1 + 1\"));"];
-    let imported = is_seen_last(rt.alloc(), 68, "", &two, 1500, IMPORTED)?;
-    assert!(rt; imported);
+    let mut shown = Vec::new(rt.alloc());
+    last_of(rt.alloc(), 68, "", &two, 1500, &mut shown)?;
+    assert!(rt; shown.as_slice() == IMPORTED.as_bytes());
     Ok(())
 }

@@ -45,16 +45,20 @@ pub fn execute_each(
     Ok(())
 }
 
+fn execute_row(alloc: Global, row: Row, shown: &mut Vec<u8>) -> Result<(), AllocError> {
+    let mut state = State::new(alloc, row.0);
+    execute_each(alloc, row.1, row.2, &mut state, shown)
+}
+
 /// Whether a row is what is seen of its statements where nothing is kept before.
 fn is_so(alloc: Global, row: Row) -> Result<bool, AllocError> {
     let mut shown = Vec::new(alloc);
-    let mut state = State::new(alloc, row.0);
-    execute_each(alloc, row.1, row.2, &mut state, &mut shown)?;
+    execute_row(alloc, row, &mut shown)?;
     Ok(shown.as_slice() == row.3.as_bytes())
 }
 
 /// What is expected of the first row that isn't so.
-pub fn first_miss(alloc: Global, rows: &[Row]) -> Result<Option<&'static str>, AllocError> {
+fn first_miss(alloc: Global, rows: &[Row]) -> Result<Option<&'static str>, AllocError> {
     for row in rows {
         if !is_so(alloc, *row)? {
             return Ok(Some(row.3));
