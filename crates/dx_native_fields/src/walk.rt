@@ -1,7 +1,7 @@
 //! The walk by depth first.
 ghost use Rattle.std.specs.Prelude.{◌≡◌, length, slice_get, Some, IfOk, OnOk};
 ghost use Rattle.dx_native_fields.specs.Good.{good_fields};
-ghost use Rattle.dx_native_fields.specs.Marked.{lines_of, Tells, TellsAll, AreMarked};
+ghost use Rattle.dx_native_fields.specs.Marked.{lines_of, lines_of_body, Tells, TellsAll, AreMarked};
 ghost use Rattle.dx_native_grammar.specs.Meaning.{tree_at, named_at, parts_at, clause_at};
 ghost use Rattle.dx_native_walk.specs.Answer.{IsKnown};
 
@@ -13,16 +13,22 @@ use dx_native_walk::{BuildFail, Memo, build};
 use dx_objects::Object;
 use std::alloc::{AllocError, Global};
 
+fn body_lines(body: &Body) -> &[Line]
+    ensures { result.now ≡ lines_of_body body.now }
+{
+    match body {
+        Body::Array(_) | Body::Text(_) => &[],
+        Body::Parts(_, lines) => lines.as_slice(),
+    }
+}
+
 // The lines of a clause that name its parts.
 fn lines(clauses: &OutlineTable, i: usize) -> &[Line]
     ensures { result.now ≡ lines_of (slice_get clauses.now i) }
 {
     match clauses.get(i) {
         None => &[],
-        Some(clause) => match &clause.content.body {
-            Body::Array(_) | Body::Text(_) => &[],
-            Body::Parts(_, lines) => lines.as_slice(),
-        },
+        Some(clause) => body_lines(&clause.content.body),
     }
 }
 

@@ -7,6 +7,7 @@ ghost use Rattle.dx_base.specs.ObjectNumbers.{steps_by_ints};
 ghost use Rattle.dx_native_lex.specs.declared.fault.NativeError.{NativeError as Fault};
 ghost use Rattle.dx_native_grammar.specs.Meaning as spec;
 ghost use Rattle.dx_native_grammar.specs.Native.{IsNative};
+ghost use Rattle.dx_native_clauses.specs.Outline.{clause_arrays};
 ghost use Rattle.dx_native_sound.specs.Sound.{Every, IsSound};
 ghost use Rattle.dx_native_fields.specs.Good.{good_fields};
 ghost use Rattle.dx_native_read.specs.Answer.{Means, Answers, native_of};
@@ -15,13 +16,13 @@ ghost use Rattle.dx_objects.specs.Kinds.{array_of};
 ghost use Rattle.dx_native_read.specs.Found.{IsFound, read_tree, checked_object};
 
 use dx_base::{Bytes, NativeKind};
-use dx_native_clauses::{ClauseTable, FileClauses, Lifted, OutlineTable, read_clauses};
+use dx_native_clauses::{ClauseTable, FileClauses, OutlineTable, read_clauses};
 use dx_native_fields::has_good_fields;
 use dx_native_levels::object_levels;
 use dx_native_lex::{NativeError, NativeFail};
 use dx_native_references::references_fault;
 use dx_native_walk::{BuildFail, Memo, clause_object, nothing_built};
-use dx_objects::Object;
+use dx_objects::{Array, Object};
 use std::alloc::{AllocError, Global};
 
 /// An object of a file, the place of its clause, the file's clauses, and the objects that were built for it.
@@ -79,12 +80,7 @@ fn within_limits(object: Object) -> Object
 }
 
 /// The object of clause number i, or why it is none. The offset is that of the clause's name.
-fn object_at(
-    alloc: Global,
-    clauses: ClauseTable,
-    i: usize,
-    at: u64,
-) -> Result<Contents, NativeFail>
+fn object_at(alloc: Global, clauses: ClauseTable, i: usize, at: u64) -> Result<Contents, NativeFail>
     requires sound { Every IsSound clauses }
     requires references { spec.clauses_fault clauses clauses ≡ None }
     ensures means { Means (spec.object_or (spec.tree_at clauses 64 i) at) (read_tree result) }
@@ -111,13 +107,32 @@ fn object_within(
     ensures ints { IfOk result (λ contents. steps_by_ints contents.object ≡ true) }
     ensures found { IfOk result (λ contents. IsFound contents) }
 {
-    let Lifted { outlines, arrays } = clauses.lifted(alloc)?;
+    let lifted = clauses.lifted(alloc)?;
+    object_from(alloc, lifted.outlines, lifted.arrays, i, at)
+}
+
+/// The same, where the arrays of the clauses stand apart.
+fn object_from(
+    alloc: Global,
+    clauses: OutlineTable,
+    arrays: Vec<Option<Array>>,
+    i: usize,
+    at: u64,
+) -> Result<Contents, NativeFail>
+    requires arrays { arrays.items ≡ clause_arrays clauses }
+    requires sound { Every IsSound clauses }
+    requires references { spec.clauses_fault clauses clauses ≡ None }
+    requires levels { spec.tree_at clauses 64 i ≡ None → ⊥ }
+    ensures means { Means (spec.object_or (spec.tree_at clauses 64 i) at) (read_tree result) }
+    ensures ints { IfOk result (λ contents. steps_by_ints contents.object ≡ true) }
+    ensures found { IfOk result (λ contents. IsFound contents) }
+{
     let mut memo = nothing_built(alloc, arrays)?;
-    match clause_object(alloc, &outlines, &mut memo, i) {
+    match clause_object(alloc, &clauses, &mut memo, i) {
         Ok(object) => Ok(Contents {
             object: within_limits(object),
             place: i,
-            clauses: outlines,
+            clauses,
             memo,
         }),
         Err(fail) => Err(native_fail(fail, at)),

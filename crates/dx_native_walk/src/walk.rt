@@ -234,7 +234,10 @@ pub fn build(
     if calls == 0 {
         return Err(BuildFail::Deep);
     }
-    let object = Rc::new(alloc, object_of(alloc, clauses, memo, i, clause, calls - 1)?)?;
+    let object = Rc::new(
+        alloc,
+        object_of(alloc, clauses, memo, i, clause, calls - 1)?,
+    )?;
     memo.set(i, object.clone()?);
     Ok(object)
 }
