@@ -13,8 +13,8 @@ use std::marker::Model;
 /// Clauses whose names differ.
 #[derive(Drop)]
 pub struct ClauseTable {
-    items: Items<Clause>,
-    names: NameSet,
+    pub(crate) items: Items<Clause>,
+    pub(crate) names: NameSet,
 }
 
 impl Model for ClauseTable {
@@ -87,11 +87,5 @@ impl ClauseTable {
         ensures { result.now ≡ self.now }
     {
         self.items.as_slice()
-    }
-
-    pub fn into_items(self) -> Items<Clause>
-        ensures { result ≡ self }
-    {
-        self.items
     }
 }

@@ -18,9 +18,21 @@ use Rattle.dx_native_grammar.specs.declared.clause.ListClass.TheVariants as list
 use Rattle.dx_native_grammar.specs.declared.clause.Part.{Part}
 use Rattle.dx_native_meaning.proofs.Levels.{low, deep}
 use Rattle.dx_native_meaning.proofs.Somes.{some_is, part_parts, listed_parts}
+use Rattle.dx_native_clauses.specs.Outline.{outline_body, IsOutlineAt}
 use Rattle.dx_native_walk.proofs.Lists.{parts_opened}
 use Rattle.dx_native_fields.specs.Good.{good_fields, all_good}
 use Rattle.dx_native_fields.specs.Marked.{lines_of, lines_of_body, Tells, TellsAll, GoodAt, AreMarked}
+
+-- ---- the lines of a clause
+
+lines_outline : (b : Body) → lines_of_body (outline_body b) ≡ lines_of_body b
+lines_outline (body.Array a) = refl
+lines_outline (body.Text b) = refl
+lines_outline (body.Parts k ls) = refl
+
+-- the outline of a clause has the clause's lines
+pub lines_at : (cs : List Clause) (i : ℕ) (c : Clause) → IsOutlineAt cs i c → lines_of_body c.content.body ≡ lines_of (slice_get cs i)
+lines_at cs i c o = ap (λ (c : Clause). lines_of_body c.content.body) o.2 ∙ lines_outline o.0.content.body ∙ sym (ap lines_of o.1)
 
 -- ---- parts one after the other
 

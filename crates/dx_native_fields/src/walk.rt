@@ -1,28 +1,34 @@
 //! The walk by depth first.
 ghost use Rattle.std.specs.Prelude.{◌≡◌, length, slice_get, Some, IfOk, OnOk};
 ghost use Rattle.dx_native_fields.specs.Good.{good_fields};
-ghost use Rattle.dx_native_fields.specs.Marked.{lines_of, Tells, TellsAll, AreMarked};
+ghost use Rattle.dx_native_fields.specs.Marked.{lines_of, lines_of_body, Tells, TellsAll, AreMarked};
 ghost use Rattle.dx_native_grammar.specs.Meaning.{tree_at, named_at, parts_at, clause_at};
 ghost use Rattle.dx_native_walk.specs.Answer.{IsKnown};
 
 use crate::marks::Marks;
 use dx_fields::check_field;
-use dx_native_clauses::{Body, ClauseTable, Part as Line};
+use dx_native_clauses::{Body, OutlineTable, Part as Line};
 use dx_native_lex::Named;
 use dx_native_walk::{BuildFail, Memo, build};
 use dx_objects::Object;
 use std::alloc::{AllocError, Global};
 
+fn body_lines(body: &Body) -> &[Line]
+    ensures { result.now ≡ lines_of_body body.now }
+{
+    match body {
+        Body::Array(_) | Body::Text(_) => &[],
+        Body::Parts(_, lines) => lines.as_slice(),
+    }
+}
+
 // The lines of a clause that name its parts.
-fn lines(clauses: &ClauseTable, i: usize) -> &[Line]
+fn lines(clauses: &OutlineTable, i: usize) -> &[Line]
     ensures { result.now ≡ lines_of (slice_get clauses.now i) }
 {
-    match clauses.as_slice().get(i) {
+    match clauses.get(i) {
         None => &[],
-        Some(clause) => match &clause.content.body {
-            Body::Array(_) | Body::Text(_) => &[],
-            Body::Parts(_, lines) => lines.as_slice(),
-        },
+        Some(clause) => body_lines(&clause.content.body),
     }
 }
 
@@ -34,7 +40,7 @@ fn memory(_fail: BuildFail) -> AllocError {
 #[cycle(walk)]
 fn named_good(
     alloc: Global,
-    clauses: &ClauseTable,
+    clauses: &OutlineTable,
     memo: &mut Memo,
     marks: &mut Marks,
     name: &Named,
@@ -55,7 +61,7 @@ fn named_good(
 #[cycle(walk)]
 fn parts_good(
     alloc: Global,
-    clauses: &ClauseTable,
+    clauses: &OutlineTable,
     memo: &mut Memo,
     marks: &mut Marks,
     lines: &[Line],
@@ -79,7 +85,7 @@ fn parts_good(
 #[cycle(walk)]
 fn object_good(
     alloc: Global,
-    clauses: &ClauseTable,
+    clauses: &OutlineTable,
     memo: &mut Memo,
     marks: &mut Marks,
     object: &Object,
@@ -103,7 +109,7 @@ fn object_good(
 #[cycle(walk)]
 fn clause_good(
     alloc: Global,
-    clauses: &ClauseTable,
+    clauses: &OutlineTable,
     memo: &mut Memo,
     marks: &mut Marks,
     i: usize,
@@ -115,7 +121,7 @@ fn clause_good(
     ensures known { OnOk result (IsKnown clauses.now memo.new) }
     ensures marked { OnOk result (AreMarked clauses.now marks.new) }
 {
-    if calls == 0 || i >= clauses.as_slice().len() {
+    if calls == 0 || i >= clauses.len() {
         return Ok(true);
     }
     let object = build(alloc, clauses, memo, i, calls).map_err(memory)?;
@@ -134,7 +140,7 @@ fn clause_good(
 /// built already is kept in `memo`, and taken from there.
 pub fn has_good_fields(
     alloc: Global,
-    clauses: &ClauseTable,
+    clauses: &OutlineTable,
     memo: &mut Memo,
     i: usize,
     object: &Object,
@@ -143,6 +149,6 @@ pub fn has_good_fields(
     requires means { tree_at clauses.now 64 i ≡ Some object.now }
     ensures { IfOk result (λ good. good ≡ good_fields object.now) }
 {
-    let mut marks = Marks::new(alloc, clauses.as_slice().len())?;
+    let mut marks = Marks::new(alloc, clauses.len())?;
     object_good(alloc, clauses, memo, &mut marks, object, i, 63)
 }

@@ -3,3 +3,4 @@ pub mod Naming
 pub mod Whole
 pub mod Stepping
 pub mod Answered
+pub mod Arrays

@@ -7,34 +7,31 @@ ghost use Rattle.dx_base.specs.ObjectNumbers.{steps_by_ints};
 ghost use Rattle.dx_native_lex.specs.declared.fault.NativeError.{NativeError as Fault};
 ghost use Rattle.dx_native_grammar.specs.Meaning as spec;
 ghost use Rattle.dx_native_grammar.specs.Native.{IsNative};
+ghost use Rattle.dx_native_clauses.specs.Outline.{clause_arrays};
 ghost use Rattle.dx_native_sound.specs.Sound.{Every, IsSound};
 ghost use Rattle.dx_native_fields.specs.Good.{good_fields};
 ghost use Rattle.dx_native_read.specs.Answer.{Means, Answers, native_of};
-ghost use Rattle.dx_native_read.specs.Found.{IsFound, found_object, read_tree, checked_object};
+ghost use Rattle.dx_native_walk.specs.Answer.{IsKnown};
+ghost use Rattle.dx_objects.specs.Kinds.{array_of};
+ghost use Rattle.dx_native_read.specs.Found.{IsFound, read_tree, checked_object};
 
 use dx_base::{Bytes, NativeKind};
-use dx_native_clauses::{ClauseTable, FileClauses, read_clauses};
+use dx_native_clauses::{ClauseTable, FileClauses, OutlineTable, read_clauses};
 use dx_native_fields::has_good_fields;
 use dx_native_levels::object_levels;
 use dx_native_lex::{NativeError, NativeFail};
 use dx_native_references::references_fault;
 use dx_native_walk::{BuildFail, Memo, clause_object, nothing_built};
-use dx_objects::Object;
+use dx_objects::{Array, Object};
 use std::alloc::{AllocError, Global};
 
-/// An object of a file, the place of its clause, and the objects that were built for it.
-#[derive(Drop)]
-pub(crate) struct Found {
-    object: Object,
-    place: usize,
-    memo: Memo,
-}
-
-/// An object of a file with the file's clauses.
+/// An object of a file, the place of its clause, the file's clauses, and the objects that were built for it.
 #[derive(Drop)]
 pub(crate) struct Contents {
-    clauses: ClauseTable,
-    found: Found,
+    object: Object,
+    place: usize,
+    clauses: OutlineTable,
+    memo: Memo,
 }
 
 /// An object of a file, and whether it is no field with a fault, nor any object that its parts reach, attributes aside.
@@ -83,14 +80,14 @@ fn within_limits(object: Object) -> Object
 }
 
 /// The object of clause number i, or why it is none. The offset is that of the clause's name.
-fn object_at(alloc: Global, clauses: &ClauseTable, i: usize, at: u64) -> Result<Found, NativeFail>
-    requires sound { Every IsSound clauses.now }
-    requires references { spec.clauses_fault clauses.now clauses.now ≡ None }
-    ensures means { Means (spec.object_or (spec.tree_at clauses.now 64 i) at) (found_object result) }
-    ensures ints { IfOk result (λ found. steps_by_ints found.object ≡ true) }
-    ensures found { IfOk result (λ found. IsFound clauses.now found) }
+fn object_at(alloc: Global, clauses: ClauseTable, i: usize, at: u64) -> Result<Contents, NativeFail>
+    requires sound { Every IsSound clauses }
+    requires references { spec.clauses_fault clauses clauses ≡ None }
+    ensures means { Means (spec.object_or (spec.tree_at clauses 64 i) at) (read_tree result) }
+    ensures ints { IfOk result (λ contents. steps_by_ints contents.object ≡ true) }
+    ensures found { IfOk result (λ contents. IsFound contents) }
 {
-    match object_levels(alloc, clauses, i)? {
+    match object_levels(alloc, &clauses, i)? {
         None => Err(refused(NativeKind::TooDeep, at)),
         Some(_) => object_within(alloc, clauses, i, at),
     }
@@ -99,22 +96,43 @@ fn object_at(alloc: Global, clauses: &ClauseTable, i: usize, at: u64) -> Result<
 /// The object of clause number i, which has at most 64 levels, or why it is none.
 fn object_within(
     alloc: Global,
-    clauses: &ClauseTable,
+    clauses: ClauseTable,
     i: usize,
     at: u64,
-) -> Result<Found, NativeFail>
-    requires sound { Every IsSound clauses.now }
-    requires references { spec.clauses_fault clauses.now clauses.now ≡ None }
-    requires levels { spec.tree_at clauses.now 64 i ≡ None → ⊥ }
-    ensures means { Means (spec.object_or (spec.tree_at clauses.now 64 i) at) (found_object result) }
-    ensures ints { IfOk result (λ found. steps_by_ints found.object ≡ true) }
-    ensures found { IfOk result (λ found. IsFound clauses.now found) }
+) -> Result<Contents, NativeFail>
+    requires sound { Every IsSound clauses }
+    requires references { spec.clauses_fault clauses clauses ≡ None }
+    requires levels { spec.tree_at clauses 64 i ≡ None → ⊥ }
+    ensures means { Means (spec.object_or (spec.tree_at clauses 64 i) at) (read_tree result) }
+    ensures ints { IfOk result (λ contents. steps_by_ints contents.object ≡ true) }
+    ensures found { IfOk result (λ contents. IsFound contents) }
 {
-    let mut memo = nothing_built(alloc, clauses)?;
-    match clause_object(alloc, clauses, &mut memo, i) {
-        Ok(object) => Ok(Found {
+    let lifted = clauses.lifted(alloc)?;
+    object_from(alloc, lifted.outlines, lifted.arrays, i, at)
+}
+
+/// The same, where the arrays of the clauses stand apart.
+fn object_from(
+    alloc: Global,
+    clauses: OutlineTable,
+    arrays: Vec<Option<Array>>,
+    i: usize,
+    at: u64,
+) -> Result<Contents, NativeFail>
+    requires arrays { arrays.items ≡ clause_arrays clauses }
+    requires sound { Every IsSound clauses }
+    requires references { spec.clauses_fault clauses clauses ≡ None }
+    requires levels { spec.tree_at clauses 64 i ≡ None → ⊥ }
+    ensures means { Means (spec.object_or (spec.tree_at clauses 64 i) at) (read_tree result) }
+    ensures ints { IfOk result (λ contents. steps_by_ints contents.object ≡ true) }
+    ensures found { IfOk result (λ contents. IsFound contents) }
+{
+    let mut memo = nothing_built(alloc, arrays)?;
+    match clause_object(alloc, &clauses, &mut memo, i) {
+        Ok(object) => Ok(Contents {
             object: within_limits(object),
             place: i,
+            clauses,
             memo,
         }),
         Err(fail) => Err(native_fail(fail, at)),
@@ -136,21 +154,24 @@ fn native_fail(fail: BuildFail, at: u64) -> NativeFail
 #[tactic(auto, unfolding(dx_native_grammar::specs::Meaning::meant))]
 fn object_of_file(
     alloc: Global,
-    file: &FileClauses,
+    file: FileClauses,
     which: Option<&Bytes>,
     len: u64,
-) -> Result<Found, NativeFail>
-    requires sound { Every IsSound file.now.clauses }
-    ensures means { Means (spec.meant file.now (option_map (λ b. b.now) which.entry) len) (found_object result) }
-    ensures ints { IfOk result (λ found. steps_by_ints found.object ≡ true) }
-    ensures found { IfOk result (λ found. IsFound file.now.clauses found) }
+) -> Result<Contents, NativeFail>
+    requires sound { Every IsSound file.clauses }
+    ensures means { Means (spec.meant file (option_map (λ b. b.now) which.entry) len) (read_tree result) }
+    ensures ints { IfOk result (λ contents. steps_by_ints contents.object ≡ true) }
+    ensures found { IfOk result (λ contents. IsFound contents) }
 {
-    if let Some(fault) = references_fault(file) {
+    if let Some(fault) = references_fault(&file) {
         return Err(NativeFail::Refused(fault));
     }
-    match wanted(file, which) {
+    match wanted(&file, which) {
         None => Err(refused(NativeKind::NoVariable, len)),
-        Some(i) => object_at(alloc, &file.clauses, i, name_place(&file.clauses, i)),
+        Some(i) => {
+            let at = name_place(&file.clauses, i);
+            object_at(alloc, file.clauses, i, at)
+        }
     }
 }
 
@@ -209,49 +230,68 @@ pub fn read_checked(
 }
 
 fn object_of(contents: Contents) -> Object
-    ensures { result ≡ contents.found.object }
+    ensures { result ≡ contents.object }
 {
-    let Contents { clauses: _, found } = contents;
-    found.object
+    let Contents {
+        object,
+        place: _,
+        clauses: _,
+        memo: _,
+    } = contents;
+    object
 }
 
 fn with_check(alloc: Global, contents: Contents) -> Result<Checked, AllocError>
-    requires { IsFound contents.clauses contents.found }
-    ensures object { IfOk result (λ checked. checked.object ≡ contents.found.object) }
-    ensures good { IfOk result (λ checked. checked.good_fields ≡ good_fields contents.found.object) }
+    requires { IsFound contents }
+    ensures object { IfOk result (λ checked. checked.object ≡ contents.object) }
+    ensures good { IfOk result (λ checked. checked.good_fields ≡ good_fields contents.object) }
 {
-    let Contents { clauses, found } = contents;
-    let Found {
+    let Contents {
         object,
         place,
+        clauses,
         mut memo,
-    } = found;
-    let good_fields = has_good_fields(alloc, &clauses, &mut memo, place, &object)?;
+    } = contents;
+    let good_fields = are_fields_good(alloc, &clauses, &mut memo, place, &object)?;
     Ok(Checked {
         object,
         good_fields,
     })
 }
 
+/// Whether the fields of this object, which clause number i means, are good. An array has none.
+fn are_fields_good(
+    alloc: Global,
+    clauses: &OutlineTable,
+    memo: &mut Memo,
+    i: usize,
+    object: &Object,
+) -> Result<bool, AllocError>
+    requires known { array_of object.now ≡ None → IsKnown clauses.now memo.old }
+    requires means { spec.tree_at clauses.now 64 i ≡ Some object.now }
+    ensures { IfOk result (λ good. good ≡ good_fields object.now) }
+{
+    match object.as_array() {
+        Some(_) => Ok(true),
+        None => has_good_fields(alloc, clauses, memo, i, object),
+    }
+}
+
 /// The clauses of a file, and the object that is asked for.
 fn read(alloc: Global, bytes: &[u8], which: Option<&Bytes>) -> Result<Contents, NativeFail>
     ensures answers { Answers bytes.now (option_map (λ b. b.now) which.entry) (read_tree result) }
     ensures only { (r : Result Tree Fault) → IsNative bytes.now (option_map (λ b. b.now) which.entry) r → Means r (read_tree result) }
-    ensures ints { IfOk result (λ contents. steps_by_ints contents.found.object ≡ true) }
-    ensures found { IfOk result (λ contents. IsFound contents.clauses contents.found) }
+    ensures ints { IfOk result (λ contents. steps_by_ints contents.object ≡ true) }
+    ensures found { IfOk result (λ contents. IsFound contents) }
 {
     contents_of(alloc, bytes, which)
 }
 
 fn contents_of(alloc: Global, bytes: &[u8], which: Option<&Bytes>) -> Result<Contents, NativeFail>
     ensures answers { Answers bytes.now (option_map (λ b. b.now) which.entry) (read_tree result) }
-    ensures ints { IfOk result (λ contents. steps_by_ints contents.found.object ≡ true) }
-    ensures found { IfOk result (λ contents. IsFound contents.clauses contents.found) }
+    ensures ints { IfOk result (λ contents. steps_by_ints contents.object ≡ true) }
+    ensures found { IfOk result (λ contents. IsFound contents) }
 {
     let file = read_clauses(alloc, bytes)?;
-    let found = object_of_file(alloc, &file, which, bytes.len() as u64)?;
-    Ok(Contents {
-        clauses: file.clauses,
-        found,
-    })
+    object_of_file(alloc, file, which, bytes.len() as u64)
 }

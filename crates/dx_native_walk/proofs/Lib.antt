@@ -1,3 +1,5 @@
 pub mod Lists
 pub mod Steps
+pub mod Keeping
+pub mod Bodies
 pub mod MadeAgain

@@ -1,57 +1,20 @@
--- Steps of the walk: what is kept, levels, and objects that are made or not.
-use Rattle.std.proofs.Common.{◌≡◌, ◌==◌, true, false, ℕ, ◌<◌, List, length, get_or, Option, Some, None, Result, Ok, Err, sym, ap, subst, ◌∙◌, length-set, inl, inr, ◌⊎◌, ◌≢◌, arith}
-use Rattle.std.specs.Prelude.{slice_get, slice_set, not, Bool, cond}
-use Rattle.std.proofs.lemmas.List.{get_or-set_same, get_or-set_other}
-use Rattle.std.proofs.lemmas.Bool.Decides.{eqb_tells}
-use Rattle.std.proofs.lemmas.Option.{slice_get_within}
+-- Steps of the walk: objects that are made or not.
+use Rattle.std.proofs.Common.{◌≡◌, true, false, ℕ, List, Option, Some, None, Result, Ok, Err, sym, ap, subst, ◌∙◌}
+use Rattle.std.specs.Prelude.{not, Bool, cond}
 use Rattle.std.specs.declared.rc.Rc.{Rc}
 use Rattle.std.specs.declared.alloc.Global.{Global}
 use Rattle.dx_base.specs.Object.{Tree, PartList, array, text, field, group, composite, series, no_parts, part}
 use Rattle.dx_base.specs.ObjectLimits.{unplaced, has_good_names, has_array_components, has_field_members, fits}
 use Rattle.dx_objects.specs.Makes.{refusal}
 use Rattle.dx_objects.specs.declared.makers.ObjectError.{ObjectError}
-use Rattle.dx_native_grammar.specs.Meaning.{parts_at, attributes_at, listed_tree, listed_at, body_at, clause_at, tree_at}
+use Rattle.dx_native_grammar.specs.Meaning.{parts_at, listed_tree, listed_at, body_at}
 use Rattle.dx_native_grammar.specs.declared.clause.Body.{Body}
 use Rattle.dx_native_grammar.specs.declared.clause.Body.TheVariants as body
-use Rattle.dx_native_grammar.specs.declared.clause.Clause.{Clause}
 use Rattle.dx_native_grammar.specs.declared.clause.ListClass.{ListClass}
 use Rattle.dx_native_grammar.specs.declared.clause.ListClass.TheVariants as listing
-use Rattle.dx_native_grammar.specs.declared.clause.Part.{Part}
-use Rattle.dx_native_meaning.proofs.Levels.{low, deep}
-use Rattle.dx_native_walk.proofs.Lists.{attributes_unplaced}
-use Rattle.dx_native_walk.specs.Answer.{IsOne, IsWhole, AreWhole, KnownAt, IsKnown, IsBroken, AreBroken, FailsAt, PartsFail, Builds, BuildsObject, Makes_of, Fits}
+use Rattle.dx_native_walk.specs.Answer.{IsOne, IsWhole, AreWhole, IsBroken, AreBroken, FailsAt, PartsFail, Builds, BuildsObject, Makes_of}
 use Rattle.dx_native_walk.specs.declared.fail.BuildFail.{BuildFail}
 use Rattle.dx_native_walk.specs.declared.fail.BuildFail.TheVariants as fail
-
--- ---- what is built already
-
-pub hit : (cs : List Clause) (i calls : ℕ) (t : Tree) → KnownAt cs i (Some t) → (r : Result (Rc Tree Global) BuildFail) → Fits t calls r → Builds (tree_at cs calls i) r
-hit cs i calls t h (Ok o) f = low cs h.0 calls i t h.1 f.1 ∙ ap (λ t. Some t) (sym f.0)
-hit cs i calls t h (Err fail.Deep) f = deep cs h.0 calls i t h.1 f
-hit cs i calls t h (Err fail.Broken) f = absurd f
-hit cs i calls t h (Err fail.Memory) f = tt
-
-known_at : (cs : List Clause) (memo : List (Option Tree)) (i k : ℕ) (t : Tree) → IsKnown cs memo → i < length memo → tree_at cs k i ≡ Some t → (j : ℕ)
-    → ((◌≡◌ {A = ℕ} j i) ⊎ (j ≢ i)) → KnownAt cs j (get_or (slice_set memo i (Some t)) j None)
-known_at cs memo i k t h l e j (inl same) =
-    subst (λ (j : ℕ). KnownAt cs j (get_or (slice_set memo i (Some t)) j None)) (sym same)
-    (subst (λ (o : Option Tree). KnownAt cs i o) (sym (get_or-set_same memo i (Some t) None l)) (k, e))
-known_at cs memo i k t h l e j (inr other) = subst (λ (o : Option Tree). KnownAt cs j o) (sym (get_or-set_other memo i j (Some t) None other)) (h.each j)
-
-told : (j i : ℕ) → (((j == i) ≡ true) × (j ≡ i)) ⊎ (((j == i) ≡ false) × (j ≢ i)) → ((◌≡◌ {A = ℕ} j i) ⊎ (j ≢ i))
-told j i (inl p) = inl p.1
-told j i (inr p) = inr p.1
-
-pub known_set : (cs : List Clause) (memo : List (Option Tree)) (i k : ℕ) (t : Tree) → IsKnown cs memo → i < length memo → tree_at cs k i ≡ Some t → IsKnown cs (slice_set memo i (Some t))
-known_set cs memo i k t h l e = record {
-  many = length-set memo i (Some t) ∙ h.many;
-  each = λ j. known_at cs memo i k t h l e j (told j i (eqb_tells j i));
-}
-
--- ---- one level
-
-pub within : (cs : List Clause) (memo : List (Option Tree)) (i : ℕ) (c : Clause) → IsKnown cs memo → slice_get cs i ≡ Some c → i < length memo
-within cs memo i c h e = omega (arith, h.many, slice_get_within cs i c e)
 
 pub object_exit : (m o : Option Tree) (r : Result (Rc Tree Global) BuildFail) (e y : BuildFail) → r ≡ Err y → y ≡ e → FailsAt m e → o ≡ m → Builds o r
 object_exit m o r e y p q h same =
@@ -142,16 +105,3 @@ pub built_exit : (m : Option Tree) (r : Result Tree BuildFail) (e y : BuildFail)
 built_exit m r e y p q h =
     let failed : BuildFail → Result Tree BuildFail = λ e. Err e in
     subst (λ (r : Result Tree BuildFail). BuildsObject m r) (sym (p ∙ ap failed q)) h
-
--- the object of a clause, whose attributes are these
-pub object_builds : (k : ℕ) (f : List ℕ → Option Tree) (c : Clause) (xs : PartList) (r : Result Tree BuildFail) → attributes_at k f c.content.attributes ≡ Some xs
-    → BuildsObject (body_at f c.content.body (Some (unplaced xs))) r → BuildsObject (clause_at k f (Some c)) r
-object_builds k f c xs r e h =
-    let none : attributes_at k f c.content.attributes ≡ Some (unplaced xs) = e ∙ ap (λ (xs : PartList). Some xs) (sym (attributes_unplaced k f c.content.attributes xs e)) in
-    subst (λ (o : Option PartList). BuildsObject (body_at f c.content.body o) r) (sym none) h
-
-pub parts_fail : (f : List ℕ → Option Tree) (b : Body) (k : ListClass) (ls lines : List Part) (xs : PartList) (r : Result Tree BuildFail) (e y : BuildFail) → b ≡ body.Parts k ls → lines ≡ ls
-    → r ≡ Err y → y ≡ e → PartsFail (parts_at f lines) e → BuildsObject (body_at f b (Some xs)) r
-parts_fail f b k ls lines xs r e y is same p q h =
-    built_exit (body_at f b (Some xs)) r e y p q
-    (subst (λ (b : Body). FailsAt (body_at f b (Some xs)) e) (sym is) (fails_listed k (parts_at f ls) xs e (subst (λ (l : List Part). PartsFail (parts_at f l) e) same h)))

@@ -1,11 +1,14 @@
 -- What the walk answers and keeps.
-use Rattle.std.specs.Prelude.{◌≡◌, ℕ, List, Option, Some, None, Result, Ok, Err, slice_index_or, length, ◌≤◌, ◌<◌, IsTrue}
+use Rattle.std.specs.Prelude.{◌≡◌, ◌≢◌, ℕ, List, Option, Some, None, Result, Ok, Err, slice_get, slice_index_or, length, ◌≤◌, ◌<◌, IsTrue}
 use Rattle.std.specs.declared.rc.Rc.{Rc}
 use Rattle.std.specs.declared.alloc.Global.{Global}
+use Rattle.dx_base.specs.Array.{ArrayData}
 use Rattle.dx_base.specs.Object.{Tree, PartList, array, text, field, group, composite, series, no_parts, part, levels}
 use Rattle.dx_base.specs.ObjectLimits.{has_good_names, has_array_components, has_field_members, fits}
 use Rattle.dx_native_grammar.specs.declared.clause.Clause.{Clause}
-use Rattle.dx_native_grammar.specs.Meaning.{tree_at}
+use Rattle.dx_native_grammar.specs.Meaning.{tree_at, body_at}
+use Rattle.dx_native_clauses.specs.Outline.{array_at}
+use Rattle.dx_native_walk.specs.Memo.{Kept}
 use Rattle.dx_native_walk.specs.declared.fail.BuildFail.{BuildFail}
 use Rattle.dx_native_walk.specs.declared.fail.BuildFail.TheVariants as fail
 
@@ -34,13 +37,26 @@ abbrev mutual
 
 -- ---- what is kept is what the clauses mean
 
-abbrev pub KnownAt : List Clause → ℕ → Option Tree → Type 0
-KnownAt cs i None = Unit {0}
-KnownAt cs i (Some t) = (k : ℕ) × (tree_at cs k i ≡ Some t)
+-- the object that is built of clause number i is what the clause means; as long as none is built, the clause's array waits
+abbrev pub KeptAt : List Clause → ℕ → Option Tree → Option ArrayData → Type 0
+KeptAt cs i None waiting = waiting ≡ array_at (slice_get cs i)
+KeptAt cs i (Some t) waiting = ((k : ℕ) × (tree_at cs k i ≡ Some t)) × (waiting ≡ None)
 
-pub record IsKnown (cs : List Clause) (memo : List (Option Tree)) : Type 0 where
-  pub many : length memo ≡ length cs
-  pub each : (i : ℕ) → KnownAt cs i (slice_index_or memo i None)
+pub record IsKnown (cs : List Clause) (kept : Kept) : Type 0 where
+  pub trees : length kept.trees ≡ length cs
+  pub arrays : length kept.arrays ≡ length cs
+  pub each : (i : ℕ) → KeptAt cs i (slice_index_or kept.trees i None) (slice_index_or kept.arrays i None)
+
+-- but for one clause
+pub record IsKnownBut (cs : List Clause) (one : ℕ) (kept : Kept) : Type 0 where
+  pub trees : length kept.trees ≡ length cs
+  pub arrays : length kept.arrays ≡ length cs
+  pub each : (i : ℕ) → (i ≢ one) → KeptAt cs i (slice_index_or kept.trees i None) (slice_index_or kept.arrays i None)
+
+-- what a clause means with these attributes
+abbrev pub content_at : (List ℕ → Option Tree) → Option Clause → Option PartList → Option Tree
+content_at meant None xs = None
+content_at meant (Some c) xs = body_at meant c.content.body xs
 
 -- ---- answers
 

@@ -1,58 +1,81 @@
-//! The objects that are built already, by the places of their clauses.
+//! What is kept by the places of clauses: the objects that are built already, and the arrays that wait for theirs.
 
-ghost use Rattle.std.specs.Prelude.{◌≡◌, length, slice_index_or, slice_set, ◌<◌, Some, None, IfOk, replicate};
-ghost use Rattle.dx_native_walk.specs.Memo.{tree_in};
+ghost use Rattle.std.specs.Prelude.{◌≡◌, length, slice_index_or, ◌<◌, Some, None, IfOk, replicate};
+ghost use Rattle.dx_native_walk.specs.Memo.{tree_in, with_tree, without_array, kept_array};
 
-use dx_objects::Object;
+use crate::copies::array_copy;
+use dx_objects::{Array, Object};
 use std::alloc::{AllocError, Global};
 use std::marker::Model;
 use std::rc::Rc;
 
-/// Objects of clauses that are built already. Contracts see a list with an object, or none, for each clause.
+/// Objects of clauses that are built already, and arrays of clauses that wait for their objects. Contracts see a list
+/// with an object, or none, for each clause, and a list with an array, or none.
 #[derive(Drop)]
 pub struct Memo {
-    items: Vec<Option<Rc<Object>>>,
+    objects: Vec<Option<Rc<Object>>>,
+    arrays: Vec<Option<Array>>,
 }
 
 impl Model for Memo {
-    ghost use Rattle.std.specs.Prelude.{List, Option};
-    ghost use Rattle.std.specs.Coded.{coded_list, coded_option};
-    ghost use Rattle.dx_base.specs.Object.{Tree};
-    ghost use Rattle.dx_base.specs.ObjectCode.{coded_tree};
+    ghost use Rattle.dx_native_walk.specs.Memo.{Kept, coded_kept, trees_in};
 
-    ghost Value = { List (Option Tree) };
+    ghost Value = { Kept };
 
-    ghost coded = { coded_list (coded_option coded_tree) };
+    ghost coded = { coded_kept };
 
-    ghost use Rattle.dx_native_walk.specs.Memo.{trees_in};
+    ghost view = { λ m. record { trees = trees_in m.objects.items; arrays = m.arrays.items } };
+}
 
-    ghost view = { λ a. trees_in a.items.items };
+/// Room for so many objects, none of which is built.
+fn no_objects(alloc: Global, n: usize) -> Result<Vec<Option<Rc<Object>>>, AllocError>
+    ensures { IfOk result (λ objects. objects.items ≡ replicate n None) }
+{
+    let mut objects = Vec::new(alloc);
+    for _i in 0..n {
+        objects.push(None)?;
+    }
+    Ok(objects)
 }
 
 impl Memo {
-    /// Room for so many objects, none of which is built.
-    pub(crate) fn new(alloc: Global, n: usize) -> Result<Memo, AllocError>
-        ensures { IfOk result (λ m. m ≡ replicate n None) }
+    /// These arrays wait for their objects, none of which is built.
+    pub(crate) fn new(alloc: Global, arrays: Vec<Option<Array>>) -> Result<Memo, AllocError>
+        ensures { IfOk result (λ m. m ≡ record { trees = replicate (length arrays.items) None; arrays = arrays.items }) }
     {
-        let mut items = Vec::new(alloc);
-        for _i in 0..n {
-            items.push(None)?;
-        }
-        Ok(Memo { items })
+        let objects = no_objects(alloc, arrays.len())?;
+        Ok(Memo { objects, arrays })
     }
 
     /// The object of this place.
-    pub(crate) fn get(&self, i: usize) -> &Option<Rc<Object>>
-        requires { i < length self.now }
-        ensures { slice_index_or self.now i None ≡ tree_in result.now }
+    pub(crate) fn kept(&self, i: usize) -> &Option<Rc<Object>>
+        requires { i < length self.now.trees }
+        ensures { slice_index_or self.now.trees i None ≡ tree_in result.now }
     {
-        &self.items[i]
+        &self.objects[i]
     }
 
     pub(crate) fn set(&mut self, i: usize, object: Rc<Object>)
-        requires { i < length self.old }
-        ensures { self.new ≡ slice_set self.old i (Some object.value) }
+        requires trees { i < length self.old.trees }
+        requires arrays { i < length self.old.arrays }
+        ensures { self.new ≡ with_tree self.old i object.value }
     {
-        self.items[i] = Some(object);
+        self.objects[i] = Some(object);
+        self.arrays[i] = None;
+    }
+
+    /// The array of this place: it moves out where it waits, and is copied where an object has it.
+    pub(crate) fn take_array(&mut self, alloc: Global, i: usize) -> Result<Array, AllocError>
+        requires trees { i < length self.old.trees }
+        requires arrays { i < length self.old.arrays }
+        requires array { kept_array self.old i ≡ None → ⊥ }
+        ensures array { IfOk result (λ a. kept_array self.old i ≡ Some a) }
+        ensures others { self.new ≡ without_array self.old i }
+    {
+        let waiting = self.arrays[i].take();
+        match &self.objects[i] {
+            None => Ok(waiting.unwrap()),
+            Some(object) => array_copy(alloc, object.as_array().unwrap()),
+        }
     }
 }

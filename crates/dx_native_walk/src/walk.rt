@@ -1,27 +1,24 @@
 //! The walk.
 
-ghost use Rattle.std.specs.Prelude.{◌≡◌, ◌<◌, ◌≤◌, length, OnOk, slice_get, Some, None, IfOk, MatchOption};
+ghost use Rattle.std.specs.Prelude.{◌≡◌, List, OnOk, slice_get, Some, None, IfOk};
 ghost use Rattle.dx_base.specs.Object as object_spec;
 ghost use Rattle.dx_base.specs.ObjectLimits.{unplaced};
-ghost use Rattle.dx_native_grammar.specs.Meaning.{tree_at, named_at, parts_at, attributes_at, given_at, body_at, clause_at, listed_tree};
-ghost use Rattle.dx_native_walk.specs.Answer.{IsKnown, Builds, BuildsParts, BuildsObject, Makes_of, Fits};
+ghost use Rattle.dx_native_grammar.specs.declared.clause.Clause.{Clause as Lines};
+ghost use Rattle.dx_native_grammar.specs.Meaning.{tree_at, named_at, parts_at, attributes_at, given_at, clause_at, listed_tree};
+ghost use Rattle.dx_native_clauses.specs.Outline.{IsOutlineAt, clause_arrays};
+ghost use Rattle.dx_native_walk.specs.Answer.{IsKnown, IsKnownBut, Builds, BuildsParts, BuildsObject, Makes_of, Fits, content_at};
+ghost use Rattle.dx_objects.specs.Kinds.{array_of};
 ghost use Rattle.dx_objects.specs.Makes.{Makes};
 
-use crate::copies::{array_copy, int_object, name_copy};
+use crate::copies::{int_object, name_copy};
 use crate::fail::BuildFail;
 use crate::memo::Memo;
 use dx_base::Bytes;
-use dx_native_clauses::{Attribute, Body, Clause, ClauseTable, Given, ListClass, Part as Line};
+use dx_native_clauses::{Attribute, Body, Clause, Given, ListClass, OutlineTable, Part as Line};
 use dx_native_lex::Named;
 use dx_objects::{Array, Object, ObjectError, Part, Parts};
 use std::alloc::{AllocError, Global};
 use std::rc::Rc;
-
-fn clause_of(clauses: &ClauseTable, i: usize) -> Option<&Clause>
-    ensures { MatchOption result (slice_get clauses.now i ≡ None) (λ c. slice_get clauses.now i ≡ Some c.now) }
-{
-    clauses.as_slice().get(i)
-}
 
 /// The object that is built already, if it has no more levels than these.
 fn built(object: &Rc<Object>, calls: u64) -> Result<Rc<Object>, BuildFail>
@@ -33,10 +30,10 @@ fn built(object: &Rc<Object>, calls: u64) -> Result<Rc<Object>, BuildFail>
     Ok(object.clone()?)
 }
 
-fn array_object(alloc: Global, array: &Array, attributes: Parts) -> Result<Object, BuildFail>
-    ensures { Makes_of (object_spec.array array.now (unplaced attributes)) result }
+fn array_object(array: Array, attributes: Parts) -> Result<Object, BuildFail>
+    ensures { Makes_of (object_spec.array array (unplaced attributes)) result }
 {
-    match Object::array(array_copy(alloc, array)?, attributes) {
+    match Object::array(array, attributes) {
         Ok(object) => Ok(object),
         Err(_) => Err(BuildFail::Broken),
     }
@@ -74,7 +71,7 @@ fn listed_object(class: ListClass, parts: Parts, attributes: Parts) -> Result<Ob
 #[cycle(build)]
 fn named(
     alloc: Global,
-    clauses: &ClauseTable,
+    clauses: &OutlineTable,
     memo: &mut Memo,
     name: &Named,
     calls: u64,
@@ -92,7 +89,7 @@ fn named(
 #[cycle(build)]
 fn parts(
     alloc: Global,
-    clauses: &ClauseTable,
+    clauses: &OutlineTable,
     memo: &mut Memo,
     lines: &[Line],
     calls: u64,
@@ -117,7 +114,7 @@ fn parts(
 #[cycle(build)]
 fn given(
     alloc: Global,
-    clauses: &ClauseTable,
+    clauses: &OutlineTable,
     memo: &mut Memo,
     value: &Given,
     calls: u64,
@@ -142,7 +139,7 @@ fn given(
 #[cycle(build)]
 fn attributes(
     alloc: Global,
-    clauses: &ClauseTable,
+    clauses: &OutlineTable,
     memo: &mut Memo,
     lines: &[Attribute],
     calls: u64,
@@ -164,22 +161,28 @@ fn attributes(
     Ok(parts)
 }
 
-/// The object of a body with these attributes.
+/// The object of clause number i with these attributes. Its array is kept no more.
 #[cycle(build)]
 fn body_object(
     alloc: Global,
-    clauses: &ClauseTable,
+    clauses: &OutlineTable,
     memo: &mut Memo,
-    body: &Body,
+    i: usize,
+    clause: &Clause,
     attributes: Parts,
     calls: u64,
 ) -> Result<Object, BuildFail>
-    requires { IsKnown clauses.now memo.old }
-    ensures built { BuildsObject (body_at (named_at clauses.now (tree_at clauses.now calls)) body.now (Some (unplaced attributes))) result }
-    ensures known { OnOk result (IsKnown clauses.now memo.new) }
+    requires known { IsKnown clauses.now memo.old }
+    requires outline { IsOutlineAt clauses.now i clause.now }
+    ensures built { BuildsObject (content_at (named_at clauses.now (tree_at clauses.now calls)) (slice_get clauses.now i) (Some (unplaced attributes))) result }
+    ensures others { OnOk result (IsKnownBut clauses.now i memo.new) }
+    ensures known { IfOk result (λ t. array_of t ≡ None → IsKnown clauses.now memo.new) }
 {
-    match body {
-        Body::Array(array) => array_object(alloc, array, attributes),
+    match &clause.content.body {
+        Body::Array(_) => {
+            let array = memo.take_array(alloc, i)?;
+            array_object(array, attributes)
+        }
         Body::Text(text) => text_object(alloc, text, attributes),
         Body::Parts(class, lines) => {
             let parts = parts(alloc, clauses, memo, lines.as_slice(), calls)?;
@@ -188,29 +191,32 @@ fn body_object(
     }
 }
 
-/// The object of a clause, whose parts and attributes have at most so many levels.
+/// The object of clause number i, whose parts and attributes have at most so many levels. Its array is kept no more.
 #[cycle(build)]
 fn object_of(
     alloc: Global,
-    clauses: &ClauseTable,
+    clauses: &OutlineTable,
     memo: &mut Memo,
+    i: usize,
     clause: &Clause,
     calls: u64,
 ) -> Result<Object, BuildFail>
-    requires { IsKnown clauses.now memo.old }
-    ensures built { BuildsObject (clause_at calls (named_at clauses.now (tree_at clauses.now calls)) (Some clause.now)) result }
-    ensures known { OnOk result (IsKnown clauses.now memo.new) }
+    requires known { IsKnown clauses.now memo.old }
+    requires outline { IsOutlineAt clauses.now i clause.now }
+    ensures built { BuildsObject (clause_at calls (named_at clauses.now (tree_at clauses.now calls)) (slice_get clauses.now i)) result }
+    ensures others { OnOk result (IsKnownBut clauses.now i memo.new) }
+    ensures known { IfOk result (λ t. array_of t ≡ None → IsKnown clauses.now memo.new) }
 {
     let lines = clause.content.attributes.as_slice();
     let others = attributes(alloc, clauses, memo, lines, calls)?;
-    body_object(alloc, clauses, memo, &clause.content.body, others, calls)
+    body_object(alloc, clauses, memo, i, clause, others, calls)
 }
 
 /// The object of clause number i, of at most so many levels: the one that is kept, else it is built and kept.
 #[cycle(build)]
 pub fn build(
     alloc: Global,
-    clauses: &ClauseTable,
+    clauses: &OutlineTable,
     memo: &mut Memo,
     i: usize,
     calls: u64,
@@ -219,40 +225,44 @@ pub fn build(
     ensures built { Builds (tree_at clauses.now calls i) result }
     ensures known { OnOk result (IsKnown clauses.now memo.new) }
 {
-    let Some(clause) = clause_of(clauses, i) else {
+    let Some(clause) = clauses.get(i) else {
         return Err(BuildFail::Deep);
     };
-    if let Some(object) = memo.get(i) {
+    if let Some(object) = memo.kept(i) {
         return built(object, calls);
     }
     if calls == 0 {
         return Err(BuildFail::Deep);
     }
-    let object = Rc::new(alloc, object_of(alloc, clauses, memo, clause, calls - 1)?)?;
+    let object = Rc::new(
+        alloc,
+        object_of(alloc, clauses, memo, i, clause, calls - 1)?,
+    )?;
     memo.set(i, object.clone()?);
     Ok(object)
 }
 
-/// Room for the objects of these clauses, none of which is built.
-pub fn nothing_built(alloc: Global, clauses: &ClauseTable) -> Result<Memo, AllocError>
-    ensures { IfOk result (λ memo. IsKnown clauses.now memo) }
+/// The arrays of clauses wait for their objects, none of which is built.
+pub fn nothing_built(alloc: Global, arrays: Vec<Option<Array>>) -> Result<Memo, AllocError>
+    ensures { (cs : List Lines) → arrays.items ≡ clause_arrays cs → IfOk result (λ memo. IsKnown cs memo) }
 {
-    Memo::new(alloc, clauses.as_slice().len())
+    Memo::new(alloc, arrays)
 }
 
 /// The object of clause number i, of at most 64 levels. All that its parts and attributes name is kept; it itself isn't.
+/// The array of a clause moves into the object, so an array is built once.
 pub fn clause_object(
     alloc: Global,
-    clauses: &ClauseTable,
+    clauses: &OutlineTable,
     memo: &mut Memo,
     i: usize,
 ) -> Result<Object, BuildFail>
     requires { IsKnown clauses.now memo.old }
     ensures built { BuildsObject (tree_at clauses.now 64 i) result }
-    ensures known { OnOk result (IsKnown clauses.now memo.new) }
+    ensures known { IfOk result (λ t. array_of t ≡ None → IsKnown clauses.now memo.new) }
 {
-    match clause_of(clauses, i) {
+    match clauses.get(i) {
         None => Err(BuildFail::Deep),
-        Some(clause) => object_of(alloc, clauses, memo, clause, 63),
+        Some(clause) => object_of(alloc, clauses, memo, i, clause, 63),
     }
 }

@@ -1,4 +1,4 @@
-use Rattle.std.proofs.Common.{length, Bool, true, false, Some, Option, sym, ap, subst, ◌∙◌, arith, rules}
+use Rattle.std.proofs.Common.{Bool, true, false, Some, Option, sym, ap, subst, ◌∙◌, arith, rules}
 use Rattle.std.specs.Prelude.{slice_get}
 use Rattle.std.proofs.lemmas.Option.{slice_get_past}
 use Rattle.dx_native_grammar.specs.Meaning.{tree_at, named_at}
@@ -7,7 +7,7 @@ use Rattle.dx_native_fields.specs.Good.{good_fields}
 use Rattle.dx_native_fields.specs.Marked.{Tells, AreMarked}
 use Rattle.dx_native_fields.proofs.Looking.{one_before, not_good, object_tells, one_level, marked_by, nothing_meant}
 use Rattle.dx_native_fields.proofs.walk.+walk.Goals as goal
-use Rattle.dx_native_fields.proofs.walk.+walk.Goals.{clause_good-then-calls-eq0-via-then-calls-eq0, clause_good-then-calls-eq0-via-else-calls-eq0+then-i-as_slice}
+use Rattle.dx_native_fields.proofs.walk.+walk.Goals.{clause_good-then-calls-eq0-via-then-calls-eq0, clause_good-then-calls-eq0-via-else-calls-eq0+then-i-len}
 
 pub parts_good-returns-then-not-branch-clause-tells : goal.parts_good-returns-then-not-branch-clause-tells
 parts_good-returns-then-not-branch-clause-tells t c =
@@ -27,7 +27,7 @@ object_good-returns-in-Ok-clause-good t c =
 pub clause_good-returns-then-calls-eq0-clause-tells : goal.clause_good-returns-then-calls-eq0-clause-tells
 clause_good-returns-then-calls-eq0-clause-tells t c = elim c.then-calls-eq0.branch [
   | clause_good-then-calls-eq0-via-then-calls-eq0 w ↦ nothing_meant (tree_at c.args.clauses.now c.args.calls c.args.i) true (no_levels c.args.clauses.now c.args.i c.args.calls w.if-calls-eq0.true)
-  | clause_good-then-calls-eq0-via-else-calls-eq0+then-i-as_slice w ↦ nothing_meant (tree_at c.args.clauses.now c.args.calls c.args.i) true (no_clause c.args.clauses.now c.args.i c.args.calls (let many = ap length w.as_slice.ensures in let past = w.if-i-as_slice.true in slice_get_past c.args.clauses.now c.args.i (omega arith)))
+  | clause_good-then-calls-eq0-via-else-calls-eq0+then-i-len w ↦ nothing_meant (tree_at c.args.clauses.now c.args.calls c.args.i) true (no_clause c.args.clauses.now c.args.i c.args.calls (let many = w.len.ensures in let past = w.if-i-len.true in slice_get_past c.args.clauses.now c.args.i (omega arith)))
 ]
 
 pub clause_good-object_good-requires : goal.clause_good-object_good-requires
