@@ -1,5 +1,5 @@
 -- Whether what clauses mean has good fields, part by part.
-use Rattle.std.proofs.Common.{◌≡◌, ◌≢◌, ◌⊎◌, inl, inr, ℕ, zero, suc, ◌+◌, ◌-◌, ◌<◌, ◌≤◌, Bool, true, false, List, [], ◌∷◌, length, drop, get_or, Option, Some, None, Result, Ok, Err, refl, sym, ap, subst, ◌∙◌, arith, drop_of_length-le, length-set}
+use Rattle.std.proofs.Common.{◌≡◌, ◌≢◌, ◌⊎◌, inl, inr, ℕ, suc, ◌+◌, ◌-◌, ◌<◌, ◌≤◌, Bool, true, false, List, length, drop, get_or, Option, Some, None, Result, Ok, Err, refl, sym, ap, subst, ◌∙◌, arith, drop_of_length-le, length-set}
 use Rattle.std.specs.Prelude.{IfOk, ◌&&◌, slice_get, slice_set, slice_index_or, is_none, ◌==◌}
 use Rattle.std.proofs.lemmas.Bool.Decides.{eqb_tells}
 use Rattle.std.proofs.lemmas.Bool.{cases_lt}
@@ -9,7 +9,7 @@ use Rattle.dx_base.specs.Object.{Tree, PartList, array, text, field, group, comp
 use Rattle.dx_base.specs.ObjectLimits.{unplaced}
 use Rattle.dx_fields.specs.Faults.{field_fault}
 use Rattle.dx_fields.specs.declared.check.FieldFault.{FieldFault}
-use Rattle.dx_native_grammar.specs.Meaning.{parts_at, attributes_at, listed_tree, listed_at, body_at, clause_at, named_at, tree_at}
+use Rattle.dx_native_grammar.specs.Meaning.{parts_at, attributes_at, listed_tree, body_at, clause_at, named_at, tree_at}
 use Rattle.dx_native_grammar.specs.declared.clause.Body.{Body}
 use Rattle.dx_native_grammar.specs.declared.clause.Body.TheVariants as body
 use Rattle.dx_native_grammar.specs.declared.clause.Clause.{Clause}

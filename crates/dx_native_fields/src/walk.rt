@@ -1,5 +1,5 @@
 //! The walk by depth first.
-ghost use Rattle.std.specs.Prelude.{◌≡◌, length, slice_get, Some, IfOk, OnOk};
+ghost use Rattle.std.specs.Prelude.{◌≡◌, slice_get, Some, IfOk, OnOk};
 ghost use Rattle.dx_native_fields.specs.Good.{good_fields};
 ghost use Rattle.dx_native_fields.specs.Marked.{lines_of, lines_of_body, Tells, TellsAll, AreMarked};
 ghost use Rattle.dx_native_grammar.specs.Meaning.{tree_at, named_at, parts_at, clause_at};

@@ -1,5 +1,5 @@
 -- What a clause means, told by its outline.
-use Rattle.std.proofs.Common.{◌≡◌, ℕ, zero, suc, ◌-◌, ◌<◌, List, Option, Some, None, Result, Ok, Err, refl, sym, ap, subst, ◌∙◌, arith}
+use Rattle.std.proofs.Common.{◌≡◌, ℕ, suc, ◌-◌, ◌<◌, List, Option, Some, None, Result, Ok, Err, sym, ap, subst, ◌∙◌, arith}
 use Rattle.std.specs.Prelude.{slice_get, IfOk, OnOk}
 use Rattle.dx_base.specs.Array.{ArrayData}
 use Rattle.dx_base.specs.Object.{Tree, PartList, array, text}
@@ -16,7 +16,7 @@ use Rattle.dx_native_meaning.proofs.Somes.{some_is}
 use Rattle.dx_native_clauses.specs.Outline.{outline_body, array_in, array_at, IsOutlineAt}
 use Rattle.dx_native_walk.proofs.Lists.{attributes_unplaced}
 use Rattle.dx_native_walk.proofs.Steps.{made_builds, listed_builds, fails_listed, fails_body, built_exit}
-use Rattle.dx_native_walk.specs.Answer.{FailsAt, PartsFail, BuildsObject, Makes_of, content_at}
+use Rattle.dx_native_walk.specs.Answer.{PartsFail, BuildsObject, Makes_of, content_at}
 use Rattle.dx_native_walk.specs.declared.fail.BuildFail.{BuildFail}
 use Rattle.dx_native_walk.specs.declared.fail.BuildFail.TheVariants as fail
 

@@ -1,5 +1,5 @@
 -- What is kept while objects are built.
-use Rattle.std.proofs.Common.{◌≡◌, ◌==◌, true, false, ℕ, zero, suc, ◌<◌, List, [], ◌∷◌, length, get_or, map, replicate, Option, Some, None, Result, Ok, Err, refl, sym, ap, subst, ◌∙◌, length-set, inl, inr, ◌⊎◌, ◌≢◌, arith}
+use Rattle.std.proofs.Common.{◌≡◌, ◌==◌, true, false, ℕ, zero, suc, ◌<◌, List, [], ◌∷◌, length, get_or, replicate, Option, Some, None, Result, Ok, Err, refl, sym, ap, subst, ◌∙◌, length-set, inl, inr, ◌⊎◌, ◌≢◌, arith}
 use Rattle.std.specs.Prelude.{slice_get, slice_set, IfOk}
 use Rattle.std.proofs.lemmas.List.{get_or-set_same, get_or-set_other, length-map, length-replicate}
 use Rattle.std.proofs.lemmas.Bool.Decides.{eqb_tells}
@@ -10,14 +10,14 @@ use Rattle.std.specs.declared.alloc.Global.{Global}
 use Rattle.dx_base.specs.Array.{ArrayData}
 use Rattle.dx_base.specs.Object.{Tree, PartList}
 use Rattle.dx_objects.specs.Kinds.{array_of}
-use Rattle.dx_native_grammar.specs.Meaning.{parts_at, listed_at, listed_tree, body_at, clause_at, named_at, tree_at, attributes_at}
+use Rattle.dx_native_grammar.specs.Meaning.{parts_at, listed_tree, body_at, clause_at, named_at, tree_at, attributes_at}
 use Rattle.dx_native_grammar.specs.declared.clause.Body.{Body}
 use Rattle.dx_native_grammar.specs.declared.clause.Body.TheVariants as body
 use Rattle.dx_native_grammar.specs.declared.clause.Clause.{Clause}
 use Rattle.dx_native_grammar.specs.declared.clause.ListClass.{ListClass}
 use Rattle.dx_native_grammar.specs.declared.clause.ListClass.TheVariants as listing
 use Rattle.dx_native_meaning.proofs.Levels.{low, deep}
-use Rattle.dx_native_meaning.proofs.Somes.{some_is, listed_parts}
+use Rattle.dx_native_meaning.proofs.Somes.{listed_parts}
 use Rattle.dx_native_clauses.specs.Outline.{array_in, clause_array, clause_arrays, array_at}
 use Rattle.dx_native_walk.specs.Answer.{KeptAt, IsKnown, IsKnownBut, Builds, Fits}
 use Rattle.dx_native_walk.specs.Memo.{Kept, trees_in, with_tree, without_array, array_or, kept_array}

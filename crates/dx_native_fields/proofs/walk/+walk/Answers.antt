@@ -1,10 +1,9 @@
-use Rattle.std.proofs.Common.{Bool, true, false, Some, Option, sym, ap, subst, ◌∙◌, arith, rules}
+use Rattle.std.proofs.Common.{true, false, sym, subst, arith, rules}
 use Rattle.std.specs.Prelude.{slice_get}
 use Rattle.std.proofs.lemmas.Option.{slice_get_past}
 use Rattle.dx_native_grammar.specs.Meaning.{tree_at, named_at}
 use Rattle.dx_native_meaning.proofs.OneLevel.{no_levels, no_clause}
-use Rattle.dx_native_fields.specs.Good.{good_fields}
-use Rattle.dx_native_fields.specs.Marked.{Tells, AreMarked}
+use Rattle.dx_native_fields.specs.Marked.{AreMarked}
 use Rattle.dx_native_fields.proofs.Looking.{one_before, not_good, object_tells, one_level, marked_by, nothing_meant}
 use Rattle.dx_native_fields.proofs.walk.+walk.Goals as goal
 use Rattle.dx_native_fields.proofs.walk.+walk.Goals.{clause_good-then-calls-eq0-via-then-calls-eq0, clause_good-then-calls-eq0-via-else-calls-eq0+then-i-len}
