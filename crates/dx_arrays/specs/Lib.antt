@@ -5,3 +5,4 @@ pub mod Reach
 pub mod Corner
 pub mod Laws
 pub mod Block
+pub mod Kept

@@ -5,10 +5,11 @@ use Rattle.dx_base.specs.Array.{ArrayData, Class}
 use Rattle.dx_base.specs.ArrayLimits.{IsLawfulArray}
 use Rattle.dx_base.specs.declared.elem.ElemType.{ElemType}
 use Rattle.dx_arrays.specs.declared.array.Stored.{Stored}
-use Rattle.dx_arrays.specs.declared.array.Stored.TheVariants.{Plain, Constant, Regular, Positions, Connections}
+use Rattle.dx_arrays.specs.declared.array.Stored.TheVariants.{Plain, Ints, Constant, Regular, Positions, Connections}
 
 abbrev pub class_of : ℕ → Stored → Class
 class_of n (Plain vs) = spec.plain vs.items
+class_of n (Ints vs) = spec.plain vs.items
 class_of n (Constant v) = spec.constant n v.items
 class_of n (Regular o d) = spec.regular n o.items d.items
 class_of n (Positions cs o ds) = spec.grid_positions cs.items o.items ds.items

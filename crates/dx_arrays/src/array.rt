@@ -5,6 +5,7 @@ ghost use Rattle.dx_base.specs.ArrayLimits.{IsLawfulArray};
 ghost use Rattle.dx_base.specs.declared.elem.ElemType.TheVariants.{Int};
 ghost use Rattle.dx_arrays.specs.Makes.{Makes};
 ghost use Rattle.dx_arrays.specs.Classes.{kind_of, plain_of};
+ghost use Rattle.dx_arrays.specs.Kept.{values_in};
 ghost use Rattle.dx_arrays.specs.Block.{line_len};
 
 use crate::extents::{
@@ -54,9 +55,19 @@ pub enum ArrayClass {
     GridConnections,
 }
 
+/// The values of a plain array as they are kept, item by item, which contracts see as the list of them.
+#[derive(Clone, Copy, Debug)]
+pub enum Values<'a> {
+    /// Ints, in 4 bytes each.
+    Ints(&'a [i32]),
+    /// Values of any type.
+    Wide(&'a [i64]),
+}
+
 #[derive(Debug, Drop)]
 enum Stored {
     Plain(Vec<i64>),
+    Ints(Vec<i32>),
     Constant(Vec<i64>),
     Regular(Vec<i64>, Vec<i64>),
     Positions(Vec<u32>, Vec<i64>, Vec<i64>),
@@ -111,6 +122,29 @@ impl Array {
             items: count / width,
             extents,
             stored: Stored::Plain(values),
+        })
+    }
+
+    /// An array of these ints, item by item, which are kept in 4 bytes each.
+    pub fn ints(s: Shape, values: Vec<i32>) -> Result<Array, ArrayError>
+        ensures { Makes (record { elem = Int; extents = s; class = spec.plain values.items }) result }
+    {
+        let Some(extents) = Extents::of(s.as_slice()) else {
+            return Err(ArrayError::BadShape);
+        };
+        let width = extents.width();
+        let count = values.len() as u64;
+        if count > MAX_ITEMS * width || count > MAX_VALUES {
+            return Err(ArrayError::TooManyItems);
+        }
+        if count % width != 0 {
+            return Err(ArrayError::ItemCount);
+        }
+        Ok(Array {
+            elem: ElemType::Int,
+            items: count / width,
+            extents,
+            stored: Stored::Ints(values),
         })
     }
 
@@ -251,7 +285,7 @@ impl Array {
         ensures { result ≡ kind_of self.now.class }
     {
         match &self.stored {
-            Stored::Plain(_) => ArrayClass::Plain,
+            Stored::Plain(_) | Stored::Ints(_) => ArrayClass::Plain,
             Stored::Constant(_) => ArrayClass::Constant,
             Stored::Regular(_, _) => ArrayClass::Regular,
             Stored::Positions(_, _, _) => ArrayClass::GridPositions,
@@ -297,11 +331,12 @@ impl Array {
     }
 
     /// All values of a plain array, item by item, and none for other classes.
-    pub fn plain_values(&self) -> Option<&[i64]>
-        ensures { MatchOption result (plain_of self.now.class ≡ None) (λ values. plain_of self.now.class ≡ Some values.now) }
+    pub fn plain_values(&self) -> Option<Values<'_>>
+        ensures { MatchOption result (plain_of self.now.class ≡ None) (λ values. plain_of self.now.class ≡ Some (values_in values)) }
     {
         match &self.stored {
-            Stored::Plain(values) => Some(values),
+            Stored::Plain(values) => Some(Values::Wide(values)),
+            Stored::Ints(values) => Some(Values::Ints(values)),
             _ => None,
         }
     }
@@ -314,6 +349,9 @@ impl Array {
     {
         match &self.stored {
             Stored::Plain(values) => values[(item * self.extents.width() + place) as usize],
+            Stored::Ints(values) => {
+                i64::from(values[(item * self.extents.width() + place) as usize])
+            }
             Stored::Constant(value) => value[place as usize],
             Stored::Regular(origin, delta) => {
                 narrowed(along(origin[place as usize], item, delta[place as usize]))
@@ -331,7 +369,7 @@ impl Array {
         ensures lawful { IsLawfulArray self.now }
     {
         match &self.stored {
-            Stored::Plain(_) => 1,
+            Stored::Plain(_) | Stored::Ints(_) => 1,
             Stored::Constant(_) | Stored::Regular(_, _) => self.items,
             Stored::Positions(counts, _, _) => last_of(counts) as u64,
             Stored::Connections(counts) => last_of(counts).saturating_sub(1) as u64,
@@ -345,6 +383,7 @@ impl Array {
         let item = self.extents.width() * self.elem.byte_count();
         match &self.stored {
             Stored::Plain(values) => 64 + values.len() as u64 * self.elem.byte_count(),
+            Stored::Ints(values) => 64 + values.len() as u64 * self.elem.byte_count(),
             Stored::Constant(_) => 64 + item,
             Stored::Regular(_, _) => 64 + 2 * item,
             Stored::Positions(counts, _, _) => {

@@ -4,7 +4,7 @@ ghost use Rattle.std.specs.Vec.{vec_len, vec_capacity};
 ghost use Rattle.dx_base.specs.Array.{items, item as spec_item, width as spec_width};
 ghost use Rattle.dx_arrays.specs.Block.{values_from, AreOnLine, IsSmall};
 
-use crate::array::Array;
+use crate::array::{Array, Values};
 use std::alloc::AllocError;
 
 impl Array {
@@ -20,12 +20,16 @@ impl Array {
         ensures full { OnErr result (vec_capacity out.old < vec_len out.old + (to - from) * spec_width self.now) }
     {
         let width = self.width();
-        if let Some(values) = self.plain_values() {
-            return out.extend_from_slice(&values[(from * width) as usize..(to * width) as usize]);
+        let (first, end) = ((from * width) as usize, (to * width) as usize);
+        match self.plain_values() {
+            Some(Values::Wide(values)) => out.extend_from_slice(&values[first..end]),
+            Some(Values::Ints(values)) => push_ints(&values[first..end], out),
+            None => {
+                out.reserve(end - first)?;
+                self.push_lines(from, to, out);
+                Ok(())
+            }
         }
-        out.reserve(((to - from) * width) as usize)?;
-        self.push_lines(from, to, out);
-        Ok(())
     }
 
     // The values of these items, line by line.
@@ -100,6 +104,19 @@ impl Array {
             out.push_reserved(next);
         }
     }
+}
+
+// Puts these ints at the end of a list.
+fn push_ints(values: &[i32], out: &mut Vec<i64>) -> Result<(), AllocError>
+    ensures ok { OnOk result (out.new.items ≡ out.old.items ++ values.now) }
+    ensures err { OnErr result (out.new.items ≡ out.old.items) }
+    ensures full { OnErr result (vec_capacity out.old < vec_len out.old + length values.now) }
+{
+    out.reserve(values.len())?;
+    for value in values {
+        out.push_reserved(i64::from(*value));
+    }
+    Ok(())
 }
 
 // The value that goes on evenly from those which stand two items and one item before it.

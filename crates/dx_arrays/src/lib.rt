@@ -10,7 +10,7 @@ mod laws;
 mod number;
 mod range;
 
-pub use array::{Array, ArrayClass, ArrayError, Shape};
+pub use array::{Array, ArrayClass, ArrayError, Shape, Values};
 pub use dx_base::{ElemType, in_range};
 pub use extents::{
     MAX_DIMENSIONS, MAX_EXTENT, MAX_ITEMS, MAX_RANK, MAX_VALUES, cell_count, has_room, point_count,
