@@ -1,5 +1,5 @@
 -- Tests over all numbers below a bound, and over all values of items.
-use Rattle.std.proofs.Common.{◌≡◌, ℕ, zero, suc, ◌+◌, ◌-◌, ◌<◌, ◌≤◌, map, Bool, true, false, ◌&&◌, refl, sym, ap, ◌∙◌, subst, arith, zero-add, add-zero}
+use Rattle.std.proofs.Common.{◌≡◌, ℕ, zero, suc, ◌+◌, ◌-◌, ◌<◌, map, Bool, true, false, ◌&&◌, refl, sym, ap, ◌∙◌, subst, arith, zero-add, add-zero}
 use Rattle.std.specs.List.{list_all, range_with_len}
 use Rattle.std.proofs.lemmas.Bool.{and_parts}
 use Rattle.std.specs.Cmp.Derive.{both_true}

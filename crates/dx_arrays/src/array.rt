@@ -1,7 +1,9 @@
-ghost use Rattle.std.specs.Prelude.{◌≡◌, ◌<◌, ◌≤◌, ◌^◌, ◌∷◌, [], length, None, Some, MatchOption};
+ghost use Rattle.std.specs.Prelude.{◌≡◌, ◌<◌, ◌≤◌, ◌^◌, ◌∷◌, [], length, true, None, Some, MatchOption};
+ghost use Rattle.std.specs.List.{list_all};
 ghost use Rattle.dx_base.specs.Array as spec;
 ghost use Rattle.dx_base.specs.Array.{ArrayData};
 ghost use Rattle.dx_base.specs.ArrayLimits.{IsLawfulArray};
+ghost use Rattle.dx_base.specs.Elem.{in_range};
 ghost use Rattle.dx_base.specs.declared.elem.ElemType.TheVariants.{Int};
 ghost use Rattle.dx_arrays.specs.Makes.{Makes};
 ghost use Rattle.dx_arrays.specs.Classes.{kind_of, plain_of};
@@ -127,6 +129,7 @@ impl Array {
 
     /// An array of these ints, item by item, which are kept in 4 bytes each.
     pub fn ints(s: Shape, values: Vec<i32>) -> Result<Array, ArrayError>
+        requires ints { list_all (in_range Int) values.items ≡ true }
         ensures { Makes (record { elem = Int; extents = s; class = spec.plain values.items }) result }
     {
         let Some(extents) = Extents::of(s.as_slice()) else {

@@ -1,4 +1,4 @@
-use Rattle.std.proofs.Common.{◌≡◌, ◌<◌, ◌∙◌, ap, FitsSigned, w64, pos, arith, rules}
+use Rattle.std.proofs.Common.{◌≡◌, ◌<◌, ◌∙◌, ap, FitsSigned, w32, w64, pos, arith, rules}
 use mir.Syntax.{w128}
 use Rattle.std.proofs.lemmas.List.{get_or_read}
 use Rattle.std.proofs.lemmas.Int.{to_z-of_z}
@@ -15,6 +15,17 @@ returns-in-Plain c =
     let item : c.args.item < spec.items a = rw (← c.self.view_is) at c.requires.item in
     let place : c.args.place < spec.width a = rw (← c.self.view_is) at c.requires.place in
     to_z-of_z w64 c.index.result.now f ∙ rw (← c.self.view_is) (plain_value a c.in-Plain.values.items c.args.item c.args.place c.width.result c.index.result.now class c.width.ensures.width item place c.index.ensures)
+
+pub returns-in-Ints : goal.returns-in-Ints
+returns-in-Ints c =
+    let f : FitsSigned w64 c.from.result = search rules in
+    let g : FitsSigned w32 c.index-in-Ints.result.now = search rules in
+    let a : spec.ArrayData = data_of c.self.inside.elem c.self.inside.extents c.self.inside.items c.self.inside.stored in
+    let class : a.class ≡ spec.plain c.in-Ints.values.items = ap (class_of c.self.inside.items) c.in-Ints.is in
+    let item : c.args.item < spec.items a = rw (← c.self.view_is) at c.requires.item in
+    let place : c.args.place < spec.width a = rw (← c.self.view_is) at c.requires.place in
+    let at = plain_value a c.in-Ints.values.items c.args.item c.args.place c.width-in-Ints.result c.index-in-Ints.result.now class c.width-in-Ints.ensures.width item place c.index-in-Ints.ensures in
+    to_z-of_z w64 c.from.result f ∙ c.from.ensures ∙ to_z-of_z w32 c.index-in-Ints.result.now g ∙ rw (← c.self.view_is) at
 
 pub narrowed-requires : goal.narrowed-requires
 narrowed-requires c =
