@@ -1,5 +1,5 @@
 -- Whether all values of an array are of its type, by class: the test of a few values decides it.
-use Rattle.std.proofs.Common.{◌≡◌, ℕ, zero, suc, ◌+◌, ◌-◌, ◌*◌, ◌/◌, ◌%◌, ◌<◌, ◌≤◌, ℤ, pos, negsuc, ◌+ℤ◌, ◌*ℤ◌, ◌≤ℤ◌, List, [], ◌∷◌, ◌^◌, length, Bool, true, refl, sym, subst, ◌∙◌, arith}
+use Rattle.std.proofs.Common.{◌≡◌, ℕ, zero, suc, ◌+◌, ◌-◌, ◌*◌, ◌/◌, ◌%◌, ◌<◌, ◌≤◌, ℤ, pos, negsuc, ◌+ℤ◌, ◌*ℤ◌, ◌≤ℤ◌, List, [], ◌∷◌, ◌^◌, length, Bool, true, refl, subst, arith}
 use Rattle.std.specs.Prelude.{int_le, slice_index}
 use Rattle.std.specs.List.{All, list_all}
 use Rattle.std.proofs.lemmas.Int.{ints}
@@ -41,11 +41,6 @@ plain_in_type t es vs some whole =
     let row : k / w < n = (div-lt_iff_lt-mul {x = k} {y = n} some).1 (rw full l) in
     let at : in_range t (number vs (k / w * w + k % w)) ≡ true = values-at (in_range t) (λ i p. number vs (i * w + p)) n w (k / w) (k % w) h row (mod-lt k some) in
     subst (λ (j : ℕ). in_range t (number vs j) ≡ true) (div-add-mod' k w) at))
-
--- the same of a list that is known to be in its type, where its length and the width have other names
-pub known_in_type : (t : ElemType) (es : List ℕ) (vs : List ℤ) (n w : ℕ) → w ≡ product es → 0 < w → n ≡ length vs → n % w ≡ 0 → list_all (in_range t) vs ≡ true →
-    is_in_type (record { elem = t; extents = es; class = plain vs }) ≡ true
-known_in_type t es vs n w e some f whole h = sym (plain_in_type t es vs (rw e at some) (rw (f, e) at whole)) ∙ h
 
 pub constant_in_type : (t : ElemType) (es : List ℕ) (n : ℕ) (v : List ℤ) → list_all (in_range t) v ≡ is_in_type (record { elem = t; extents = es; class = constant n v })
 constant_in_type t es n v = bool_ext _ _ (λ h. both_true h refl) (λ h. (and_parts (list_all (in_range t) v) true h).0)

@@ -1,9 +1,7 @@
-ghost use Rattle.std.specs.Prelude.{◌≡◌, ◌<◌, ◌≤◌, ◌^◌, ◌∷◌, [], length, true, None, Some, MatchOption};
-ghost use Rattle.std.specs.List.{list_all};
+ghost use Rattle.std.specs.Prelude.{◌≡◌, ◌<◌, ◌≤◌, ◌^◌, ◌∷◌, [], length, None, Some, MatchOption};
 ghost use Rattle.dx_base.specs.Array as spec;
 ghost use Rattle.dx_base.specs.Array.{ArrayData};
 ghost use Rattle.dx_base.specs.ArrayLimits.{IsLawfulArray};
-ghost use Rattle.dx_base.specs.Elem.{in_range};
 ghost use Rattle.dx_base.specs.declared.elem.ElemType.TheVariants.{Int};
 ghost use Rattle.dx_arrays.specs.Makes.{Makes};
 ghost use Rattle.dx_arrays.specs.Classes.{kind_of, plain_of};
@@ -16,7 +14,7 @@ use crate::extents::{
 };
 use crate::grid::{corner, position};
 use crate::number::{along, narrowed};
-use crate::range::{constant_fits, plain_fits, positions_fit, regular_fits};
+use crate::range::{constant_fits, ints_fit, plain_fits, positions_fit, regular_fits};
 use dx_base::{ElemType, Items};
 use std::marker::Model;
 use thiserror::Error;
@@ -129,7 +127,6 @@ impl Array {
 
     /// An array of these ints, item by item, which are kept in 4 bytes each.
     pub fn ints(s: Shape, values: Vec<i32>) -> Result<Array, ArrayError>
-        requires ints { list_all (in_range Int) values.items ≡ true }
         ensures { Makes (record { elem = Int; extents = s; class = spec.plain values.items }) result }
     {
         let Some(extents) = Extents::of(s.as_slice()) else {
@@ -142,6 +139,10 @@ impl Array {
         }
         if count % width != 0 {
             return Err(ArrayError::ItemCount);
+        }
+        // Holds of every list, which the compiler sees and the logic reads one by one.
+        if !ints_fit(&extents, &values) {
+            return Err(ArrayError::RangeOfType);
         }
         Ok(Array {
             elem: ElemType::Int,

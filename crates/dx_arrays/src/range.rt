@@ -27,6 +27,14 @@ pub(crate) fn plain_fits(t: ElemType, extents: &Extents, values: &[i64]) -> bool
     are_in_range(t, values)
 }
 
+pub(crate) fn ints_fit(extents: &Extents, values: &[i32]) -> bool
+    requires { length values.now % spec.product extents.now ≡ 0 }
+    ensures { result ≡ is_in_type (record { elem = Int; extents = extents.now; class = spec.plain values.now }) }
+{
+    let _width = extents.width();
+    are_ints(values)
+}
+
 pub(crate) fn constant_fits(t: ElemType, extents: &Extents, items: u64, value: &[i64]) -> bool
     ensures { result ≡ is_in_type (record { elem = t; extents = extents.now; class = spec.constant items value.now }) }
 {
@@ -61,6 +69,14 @@ fn are_in_range(t: ElemType, values: &[i64]) -> bool
     ensures { result ≡ list_all (spec_in_range t) values.now }
 {
     values.iter().all(|v| in_range(t, *v))
+}
+
+fn are_ints(values: &[i32]) -> bool
+    ensures { result ≡ list_all (spec_in_range Int) values.now }
+{
+    values
+        .iter()
+        .all(|v| in_range(ElemType::Int, i64::from(*v)))
 }
 
 // Whether the first value of the line is of the type, and the last one too.

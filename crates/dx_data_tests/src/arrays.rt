@@ -3,7 +3,9 @@ ghost use Rattle.std.specs.Prelude.{◌≤◌};
 ghost use Rattle.dx_base.specs.Array.{items};
 
 use crate::arrays_made::{Given, array, made};
-use dx_arrays::{Array, ArrayClass, ArrayError, ElemType, cell_count, has_room, point_count};
+use dx_arrays::{
+    Array, ArrayClass, ArrayError, ElemType, Values, cell_count, has_room, point_count,
+};
 use std::alloc::Global;
 use std::test::Fail;
 
@@ -53,7 +55,8 @@ fn has_lists(array: &Array, lists: &Lists<'_>) -> bool {
 fn shows(array: &Array, row: &Row<'_>) -> bool {
     let (_, class, elem, lists, items, size, values) = row;
     let is_stored = match array.plain_values() {
-        Some(stored) => *class == ArrayClass::Plain && stored == *values,
+        Some(Values::Wide(stored)) => *class == ArrayClass::Plain && stored == *values,
+        Some(Values::Ints(stored)) => *class == ArrayClass::Plain && stored.len() == values.len(),
         None => *class != ArrayClass::Plain,
     };
     is_stored
@@ -74,6 +77,24 @@ const SHOWN: &[Row<'static>] = &[
         2,
         80,
         &[1, 2, 3, 4],
+    ),
+    (
+        Given::Ints(&[2], &[1, i32::MIN, 3, i32::MAX]),
+        ArrayClass::Plain,
+        INT,
+        (&[2], &[], &[], &[]),
+        2,
+        80,
+        &[1, -2147483648, 3, 2147483647],
+    ),
+    (
+        Given::Ints(&[], &[]),
+        ArrayClass::Plain,
+        INT,
+        (&[], &[], &[], &[]),
+        0,
+        64,
+        &[],
     ),
     (
         Given::Constant(SHORT, &[], 3, &[7]),
@@ -181,6 +202,7 @@ fn arrays_have_their_parameters_their_size_and_their_values(rt: HostRuntime) -> 
 // Arrays of each class, with several lines of items in those of grids.
 const READ: &[Given<'static>] = &[
     Given::Plain(INT, &[2], &[1, 2, 3, 4, 5, 6, 7, 8]),
+    Given::Ints(&[3], &[1, -2, 3, 4, 5, i32::MIN, 7, i32::MAX, 9]),
     Given::Constant(SHORT, &[2], 5, &[7, -7]),
     Given::Regular(INT, &[], 6, &[10], &[-2]),
     Given::Regular(INT, &[], 1, &[10], &[i64::MAX]),
@@ -298,6 +320,9 @@ const PLAIN: Refusals<'static> = &[
     ),
     (Given::Plain(BYTE, &[], &[-128, 127]), None),
     (Given::Plain(BYTE, &[], &[-129]), NOT_OF_THE_TYPE),
+    (Given::Ints(&[2], &[1, 2, 3]), WRONG_LENGTH),
+    (Given::Ints(&[0], &[1, 2, 3]), NO_SHAPE),
+    (Given::Ints(&[1, 1, 1], &[1]), NO_SHAPE),
 ];
 
 #[test]

@@ -7,6 +7,8 @@ use std::test::Fail;
 #[derive(Clone, Copy)]
 pub(crate) enum Given<'a> {
     Plain(ElemType, &'a [u32], &'a [i64]),
+    /// Ints, which are kept in 4 bytes each.
+    Ints(&'a [u32], &'a [i32]),
     Constant(ElemType, &'a [u32], u64, &'a [i64]),
     /// Its items, the origin and the delta.
     Regular(ElemType, &'a [u32], u64, &'a [i64], &'a [i64]),
@@ -58,6 +60,10 @@ pub(crate) fn made(
         Given::Plain(elem, extents, values) => {
             let (extents, values) = lists(alloc, extents, values)?;
             Ok(Array::plain(*elem, Shape::from_vec(extents), values))
+        }
+        Given::Ints(extents, values) => {
+            let extents = Shape::from_vec(Vec::from_slice(alloc, extents)?);
+            Ok(Array::ints(extents, Vec::from_slice(alloc, values)?))
         }
         Given::Constant(elem, extents, items, item) => {
             let (extents, item) = lists(alloc, extents, item)?;

@@ -2,7 +2,7 @@
 ghost use Rattle.std.specs.Prelude.{◌≡◌, ◌∷◌, [], IfOk};
 ghost use Rattle.dx_ast.specs.Lawful.{IsLawfulConst};
 
-use dx_arrays::{ArrayClass, ElemType};
+use dx_arrays::{Array, ArrayClass, ElemType, Values};
 use dx_ast::{Const, Ints};
 use dx_base::{Bytes, Shared};
 use dx_consts::object_of;
@@ -46,7 +46,21 @@ fn has_ints(object: &Object, extents: &[u32], items: u64, numbers: &[i64]) -> bo
         && array.elem() == ElemType::Int
         && array.extents() == extents
         && array.items() == items
-        && array.plain_values() == Some(numbers)
+        && are_kept(array, numbers)
+}
+
+// Whether the array keeps these numbers in 4 bytes each.
+fn are_kept(array: &Array, numbers: &[i64]) -> bool {
+    let Some(Values::Ints(kept)) = array.plain_values() else {
+        return false;
+    };
+    let mut rest = numbers.iter();
+    for value in kept {
+        if rest.next() != Some(&i64::from(*value)) {
+            return false;
+        }
+    }
+    rest.next().is_none()
 }
 
 fn is_ints(value: &Value, extents: &[u32], items: u64, numbers: &[i64], size: u64) -> bool {

@@ -3,14 +3,14 @@ ghost use Rattle.std.specs.Prelude.{◌≡◌, ◌<◌, ◌≤◌, true, None, S
 ghost use Rattle.dx_arrays.specs.Classes.{plain_of};
 ghost use Rattle.dx_fields.specs.Stray as spec;
 
-use dx_arrays::point_count;
+use dx_arrays::{Values, point_count};
 use dx_objects::{Array, ArrayClass};
 
 /// The number of the first value of an array that names none of so many items, the values counted item by item from 0.
 pub(crate) fn first_stray(array: &Array, items: u64) -> Option<u64>
     ensures { result ≡ spec.first_stray array.now items }
 {
-    if let Some(values) = array.plain_values() {
+    if let Some(Values::Wide(values)) = array.plain_values() {
         return first_stored_stray(array, values, items);
     }
     if joins_few(array, items) {
@@ -39,7 +39,7 @@ fn names_item(items: u64, value: i64) -> bool
     0 <= value && (value as i128) < items as i128
 }
 
-// Of a plain array, which stores these values.
+// Of a plain array, which stores these values in 8 bytes each.
 fn first_stored_stray(array: &Array, values: &[i64], items: u64) -> Option<u64>
     requires { plain_of array.now.class ≡ Some values.now }
     ensures { result ≡ spec.first_stray array.now items }

@@ -6,7 +6,7 @@ ghost use Rattle.dx_arrays.specs.Classes.{kind_of};
 ghost use Rattle.dx_arrays.specs.declared.array.ArrayClass.TheVariants.{Plain, Constant, Regular, GridPositions, GridConnections};
 ghost use Rattle.dx_native_walk.specs.Again.{Again};
 
-use dx_arrays::{Array, ArrayClass, ArrayError, ElemType, Shape};
+use dx_arrays::{Array, ArrayClass, ArrayError, ElemType, Shape, Values};
 use dx_base::{Bytes, Items};
 use dx_objects::{Object, Parts};
 use std::alloc::{AllocError, Global};
@@ -43,8 +43,10 @@ fn plain_again(alloc: Global, array: &Array) -> Result<Result<Array, ArrayError>
     let shape = array.extents();
     let extents = Items::from_vec(Vec::from_slice(alloc, shape)?);
     let stored = array.plain_values();
-    let values = Vec::from_slice(alloc, stored.unwrap())?;
-    Ok(Array::plain(elem, extents, values))
+    Ok(match stored.unwrap() {
+        Values::Ints(values) => Array::ints(extents, Vec::from_slice(alloc, values)?),
+        Values::Wide(values) => Array::plain(elem, extents, Vec::from_slice(alloc, values)?),
+    })
 }
 
 fn constant_again(alloc: Global, array: &Array) -> Result<Result<Array, ArrayError>, AllocError>

@@ -1,12 +1,14 @@
 // The lines of an array behind its first.
 ghost use Rattle.std.specs.Prelude.{◌≡◌, ◌≤◌, ◌*◌, ◌++◌, OnOk, map, length};
 ghost use Rattle.dx_base.specs.Array.{counts_of, origin_of, deltas_of};
+ghost use Rattle.dx_base.specs.Words.{numbers_behind};
+ghost use Rattle.dx_arrays.specs.Kept.{values_in};
 ghost use Rattle.dx_native_text.specs.Lines.{spelled};
 ghost use Rattle.dx_native_text.specs.Arrays.{class_lines, rows, item_line, delta_line};
 ghost use Rattle.dx_native_write.specs.Spelled.{item_text, origin_text, delta_text};
 
-use dx_arrays::{Array, ArrayClass};
-use dx_base::{push_numbers, push_numbers_behind};
+use dx_arrays::{Array, ArrayClass, Values};
+use dx_base::{push_number, push_numbers, push_numbers_behind};
 use std::alloc::AllocError;
 
 /// One line an item of a plain array, the one item of a constant array, the origin and the delta of a regular array, the
@@ -50,6 +52,21 @@ fn push_item_lines(
     out: &mut Vec<u8>,
     width: usize,
     items: usize,
+    values: Values<'_>,
+) -> Result<(), AllocError>
+    requires { items * width ≤ length (values_in values) }
+    ensures { OnOk result (out.new.items ≡ out.old.items ++ spelled (map item_line (rows width items (values_in values)))) }
+{
+    match values {
+        Values::Ints(values) => push_int_lines(out, width, items, values),
+        Values::Wide(values) => push_wide_lines(out, width, items, values),
+    }
+}
+
+fn push_wide_lines(
+    out: &mut Vec<u8>,
+    width: usize,
+    items: usize,
     values: &[i64],
 ) -> Result<(), AllocError>
     requires { items * width ≤ length values.now }
@@ -59,6 +76,24 @@ fn push_item_lines(
     for item in 0..items {
         let (row, others) = rest.split_at(width);
         push_item_line(out, row)?;
+        rest = others;
+    }
+    Ok(())
+}
+
+fn push_int_lines(
+    out: &mut Vec<u8>,
+    width: usize,
+    items: usize,
+    values: &[i32],
+) -> Result<(), AllocError>
+    requires { items * width ≤ length values.now }
+    ensures { OnOk result (out.new.items ≡ out.old.items ++ spelled (map item_line (rows width items values.now))) }
+{
+    let mut rest = values;
+    for item in 0..items {
+        let (row, others) = rest.split_at(width);
+        push_int_line(out, row)?;
         rest = others;
     }
     Ok(())
@@ -82,6 +117,27 @@ fn push_item_line(out: &mut Vec<u8>, values: &[i64]) -> Result<(), AllocError>
 {
     push_numbers(out, values)?;
     Ok(out.push(b'\n')?)
+}
+
+fn push_int_line(out: &mut Vec<u8>, values: &[i32]) -> Result<(), AllocError>
+    ensures { OnOk result (out.new.items ≡ out.old.items ++ item_text values.now) }
+{
+    if let [first, others @ ..] = values {
+        push_number(out, i64::from(*first))?;
+        push_ints_behind(out, others)?;
+    }
+    Ok(out.push(b'\n')?)
+}
+
+// Ints in decimal, each behind a space.
+fn push_ints_behind(out: &mut Vec<u8>, values: &[i32]) -> Result<(), AllocError>
+    ensures { OnOk result (out.new.items ≡ out.old.items ++ numbers_behind values.now) }
+{
+    for value in values {
+        out.push(b' ')?;
+        push_number(out, i64::from(*value))?;
+    }
+    Ok(())
 }
 
 fn push_origin_line(out: &mut Vec<u8>, origin: &[i64]) -> Result<(), AllocError>

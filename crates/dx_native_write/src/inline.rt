@@ -4,7 +4,7 @@ ghost use Rattle.dx_native_text.specs.Inline.{inline_of, as_text, as_number, int
 ghost use Rattle.dx_native_write.specs.Inlines.{text_in, number_in, int_in};
 ghost use Rattle.dx_objects.specs.Kinds.{array_of};
 
-use dx_arrays::{Array, ElemType};
+use dx_arrays::{Array, ElemType, Values};
 use dx_objects::Object;
 
 /// The bytes of a text without attributes.
@@ -47,7 +47,8 @@ fn int_of(array: &Array) -> Option<i64>
         return None;
     }
     match array.plain_values() {
-        Some([value]) => Some(*value),
+        Some(Values::Ints([value])) => Some(i64::from(*value)),
+        Some(Values::Wide([value])) => Some(*value),
         _ => None,
     }
 }

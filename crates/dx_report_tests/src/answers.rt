@@ -30,10 +30,20 @@ pub(crate) fn is_plain(array: &Array, extents: &[u32], wanted: &[i64]) -> bool {
     if !matches!(array.class(), ArrayClass::Plain) || !matches!(array.elem(), ElemType::Int) {
         return false;
     }
-    match array.plain_values() {
-        None => false,
-        Some(values) => array.extents() == extents && values == wanted,
+    array.extents() == extents && are_stored(array, wanted)
+}
+
+// Whether these are an array's values, item by item.
+fn are_stored(array: &Array, wanted: &[i64]) -> bool {
+    let mut rest = wanted.iter();
+    for item in 0..array.items() {
+        for place in 0..array.width() {
+            if rest.next() != Some(&array.value(item, place)) {
+                return false;
+            }
+        }
     }
+    rest.next().is_none()
 }
 
 fn are_ints(object: &Object, wanted: &[i64]) -> bool {

@@ -7,7 +7,7 @@ ghost use Rattle.dx_arrays.specs.Classes.{plain_of};
 ghost use Rattle.dx_slab.specs.Kept.{kept};
 ghost use Rattle.dx_slab.specs.Runs.{AreWithin, run_items, run_values};
 
-use dx_arrays::point_count;
+use dx_arrays::{Values, point_count};
 use dx_objects::Array;
 use std::alloc::{AllocError, Global};
 
@@ -48,8 +48,8 @@ pub(crate) fn values_of(alloc: Global, array: &Array, runs: Runs) -> Result<Vec<
     ensures { IfOk result (λ values. values.items ≡ run_values array.now runs runs.count) }
 {
     match array.plain_values() {
-        Some(stored) => copied_values(alloc, array, stored, runs),
-        None => told_values(alloc, array, runs),
+        Some(Values::Wide(stored)) => copied_values(alloc, array, stored, runs),
+        _ => told_values(alloc, array, runs),
     }
 }
 
@@ -102,7 +102,7 @@ fn push_each(row: &[i64], out: &mut Vec<i64>)
     }
 }
 
-// The values of these items of an array whose values are told by a few.
+// The values of these items of an array whose values are told by a few, or stored in 4 bytes each.
 fn told_values(alloc: Global, array: &Array, runs: Runs) -> Result<Vec<i64>, AllocError>
     requires { AreWithin runs (items array.now) }
     ensures { IfOk result (λ values. values.items ≡ run_values array.now runs runs.count) }

@@ -18,6 +18,7 @@ use crate::field::histogram_field;
 use crate::median::median;
 use crate::numbers::numbers_in;
 use crate::results::shared;
+use dx_arrays::Values;
 use dx_base::Code;
 use dx_objects::{Array, Object, Outs, RunFail, Value, number};
 use std::alloc::{AllocError, Global};
@@ -53,8 +54,8 @@ fn histogram_over(alloc: Global, array: &Array, inputs: &Outs) -> Result<Outs, R
 {
     let items = array.items();
     match array.plain_values() {
-        Some(values) => histogram_of(alloc, values, inputs),
-        None => {
+        Some(Values::Wide(values)) => histogram_of(alloc, values, inputs),
+        _ => {
             let mut values = Vec::new(alloc);
             array.push_items(0, items, &mut values)?;
             histogram_of(alloc, values.as_slice(), inputs)

@@ -5,10 +5,10 @@ ghost use Rattle.dx_arrays.specs.Block.{IsSmall, values_from};
 ghost use Rattle.dx_stats.specs.Numbers.{numbers};
 ghost use Rattle.dx_stats.specs.Sums.{AreHeld, IsNext, Adds, AreSums, most_numbers};
 
-use dx_arrays::Array;
+use dx_arrays::{Array, Values};
 use std::alloc::{AllocError, Global};
 
-/// How many items that aren't stored one by one are read at a time.
+/// How many items that aren't stored in 8 bytes are read at a time.
 const BLOCK_ITEMS: u64 = 4096;
 
 /// How many numbers there are, their sum, the sum of their squares, and the least and the greatest of them. Of as many
@@ -104,7 +104,7 @@ impl Sums {
     }
 }
 
-/// The sums of the numbers of an array: of those that are stored one by one where they stand, and of others block by block.
+/// The sums of the numbers of an array: of those that are stored in 8 bytes where they stand, and of others block by block.
 pub(crate) fn sums_of(alloc: Global, array: &Array) -> Result<Sums, AllocError>
     requires single { array.now.extents ≡ [] }
     requires some { 0 < items_of array.now }
@@ -113,8 +113,8 @@ pub(crate) fn sums_of(alloc: Global, array: &Array) -> Result<Sums, AllocError>
 {
     let items = array.items();
     match array.plain_values() {
-        Some(values) => Ok(Sums::none().with(values)),
-        None => block_sums(alloc, array, items),
+        Some(Values::Wide(values)) => Ok(Sums::none().with(values)),
+        _ => block_sums(alloc, array, items),
     }
 }
 
