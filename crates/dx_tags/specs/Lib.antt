@@ -1,4 +1,4 @@
 pub mod Closed
+pub mod Digest
 pub mod Files
-pub mod Sampled
 pub mod Whole

@@ -1,5 +1,6 @@
 // The bytes of a written file.
-ghost use Rattle.std.specs.Prelude.{◌≡◌, ◌-◌, IfOk, length, min, take, drop};
+ghost use Rattle.std.specs.Prelude.{◌≡◌, IfOk};
+ghost use Rattle.dx_tags.specs.Digest.{digest};
 
 use dx_base::Bytes;
 use std::alloc::{AllocError, Global};
@@ -7,22 +8,24 @@ use std::hash::{Hash, Hasher};
 use std::marker::Model;
 use std::rc::Rc;
 
-// How many bytes of either end a hash looks at.
-const SAMPLE: usize = 32;
-
 /// The bytes of a written file, which stand in many places at once and which contracts see as the list of bytes. Two are
-/// equal where their bytes are; a hash looks at their number and at a few at either end alone.
+/// equal where their bytes are. One number over all bytes is kept beside them: hashes take it, and bytes are compared only
+/// where it is the same.
 #[derive(Debug, Drop)]
 pub struct Content {
     bytes: Rc<Bytes>,
+    number: u64,
 }
 
 impl Model for Content {
-    ghost use Rattle.std.specs.Prelude.{List, ℕ};
+    ghost use Rattle.std.specs.Prelude.{◌≡◌, List, ℕ};
+    ghost use Rattle.dx_tags.specs.Digest.{digest};
 
     ghost Value = { List ℕ };
 
     ghost view = { λ c. c.bytes.value };
+
+    ghost invariant = { λ c. c.number ≡ digest c.bytes.value };
 }
 
 impl Content {
@@ -30,8 +33,10 @@ impl Content {
     pub fn new(alloc: Global, bytes: Bytes) -> Result<Content, AllocError>
         ensures { IfOk result (λ c. c ≡ bytes) }
     {
+        let number = number_over(bytes.bytes());
         Ok(Content {
             bytes: Rc::new(alloc, bytes)?,
+            number,
         })
     }
 
@@ -41,6 +46,7 @@ impl Content {
     {
         Ok(Content {
             bytes: self.bytes.clone()?,
+            number: self.number,
         })
     }
 
@@ -61,8 +67,9 @@ impl PartialEq for Content {
 
     ghost laws = { Prim.search (comparing, rules) };
 
+    #[tactic(auto, using(crate::proofs::Digests::different))]
     fn eq(&self, other: &Content) -> bool {
-        self.bytes() == other.bytes()
+        self.number == other.number && self.bytes() == other.bytes()
     }
 }
 
@@ -74,30 +81,28 @@ impl Eq for Content {
 }
 
 impl Hash for Content {
-    ghost use Rattle.dx_tags.specs.Sampled.{sampled, sampled_alike};
+    ghost use Rattle.dx_tags.specs.Digest.{digested, digested_alike};
 
-    ghost hash_input = { sampled };
+    ghost hash_input = { digested };
 
-    ghost respects_eq = { sampled_alike };
+    ghost respects_eq = { digested_alike };
 
     fn hash<H: Hasher>(&self, state: &mut H) {
-        let bytes = self.bytes();
-        bytes.len().hash(state);
-        first_of(bytes).hash(state);
-        last_of(bytes).hash(state);
+        self.bytes().len().hash(state);
+        self.number.hash(state);
     }
 }
 
-// The first bytes, as far as a hash looks.
-fn first_of(bytes: &[u8]) -> &[u8]
-    ensures { result.now ≡ take (min (length bytes.now) 32) bytes.now }
+// One number over all bytes.
+#[tactic(auto, unfolding(crate::specs::Digest::digest))]
+fn number_over(bytes: &[u8]) -> u64
+    ensures { result ≡ digest bytes.now }
 {
-    &bytes[..bytes.len().min(SAMPLE)]
-}
-
-// The last bytes, as far as a hash looks.
-fn last_of(bytes: &[u8]) -> &[u8]
-    ensures { result.now ≡ drop (length bytes.now - 32) bytes.now }
-{
-    &bytes[bytes.len().saturating_sub(SAMPLE)..]
+    let mut number: u64 = 0xcbf2_9ce4_8422_2325;
+    for b in bytes {
+        number = number
+            .wrapping_mul(0x100_0000_01b3)
+            .wrapping_add(u64::from(*b));
+    }
+    number
 }
