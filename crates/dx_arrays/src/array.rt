@@ -133,11 +133,11 @@ impl Array {
             return Err(ArrayError::BadShape);
         };
         let width = extents.width();
-        let count = values.len() as u64;
-        if count > MAX_ITEMS * width || count > MAX_VALUES {
+        let len = values.len() as u64;
+        if len > MAX_ITEMS * width || len > MAX_VALUES {
             return Err(ArrayError::TooManyItems);
         }
-        if count % width != 0 {
+        if len % width != 0 {
             return Err(ArrayError::ItemCount);
         }
         // Holds of every list, which the compiler sees and the logic reads one by one.
@@ -146,7 +146,7 @@ impl Array {
         }
         Ok(Array {
             elem: ElemType::Int,
-            items: count / width,
+            items: len / width,
             extents,
             stored: Stored::Ints(values),
         })
