@@ -1,9 +1,9 @@
-ghost use Rattle.std.specs.Prelude.{◌≡◌, ◌<◌, ◌≤◌, ◌^◌, ◌∷◌, [], length, None, Some, MatchOption};
+ghost use Rattle.std.specs.Prelude.{◌≡◌, ◌<◌, ◌≤◌, ◌^◌, ◌/◌, ◌∷◌, [], length, None, Some, MatchOption, MatchResult};
 ghost use Rattle.dx_base.specs.Array as spec;
 ghost use Rattle.dx_base.specs.Array.{ArrayData};
 ghost use Rattle.dx_base.specs.ArrayLimits.{IsLawfulArray};
 ghost use Rattle.dx_base.specs.declared.elem.ElemType.TheVariants.{Int};
-ghost use Rattle.dx_arrays.specs.Makes.{Makes};
+ghost use Rattle.dx_arrays.specs.Makes.{Makes, refused_count};
 ghost use Rattle.dx_arrays.specs.Classes.{kind_of, plain_of};
 ghost use Rattle.dx_arrays.specs.Kept.{values_in};
 ghost use Rattle.dx_arrays.specs.Block.{line_len};
@@ -106,21 +106,14 @@ impl Array {
         let Some(extents) = Extents::of(s.as_slice()) else {
             return Err(ArrayError::BadShape);
         };
-        let width = extents.width();
-        let count = values.len() as u64;
-        if count > MAX_ITEMS * width || count > MAX_VALUES {
-            return Err(ArrayError::TooManyItems);
-        }
-        if count % width != 0 {
-            return Err(ArrayError::ItemCount);
-        }
+        let items = item_count(values.len() as u64, extents.width())?;
         if !plain_fits(t, &extents, &values) {
             return Err(ArrayError::RangeOfType);
         }
         Ok(Array {
             elem: t,
-            items: count / width,
             extents,
+            items,
             stored: Stored::Plain(values),
         })
     }
@@ -132,22 +125,15 @@ impl Array {
         let Some(extents) = Extents::of(s.as_slice()) else {
             return Err(ArrayError::BadShape);
         };
-        let width = extents.width();
-        let len = values.len() as u64;
-        if len > MAX_ITEMS * width || len > MAX_VALUES {
-            return Err(ArrayError::TooManyItems);
-        }
-        if len % width != 0 {
-            return Err(ArrayError::ItemCount);
-        }
-        // Holds of every list, which the compiler sees and the logic reads one by one.
+        let items = item_count(values.len() as u64, extents.width())?;
+        // This holds of every list: the compiler sees it from the type and leaves the test out.
         if !ints_fit(&extents, &values) {
             return Err(ArrayError::RangeOfType);
         }
         Ok(Array {
             elem: ElemType::Int,
-            items: len / width,
             extents,
+            items,
             stored: Stored::Ints(values),
         })
     }
@@ -397,4 +383,19 @@ impl Array {
             Stored::Connections(counts) => 64 + 4 * counts.len() as u64,
         }
     }
+}
+
+// How many items of this width so many values are, if an array may have them.
+fn item_count(values: u64, width: u64) -> Result<u64, ArrayError>
+    requires some { 0 < width }
+    requires few { width ≤ 65536 }
+    ensures { MatchResult result (λ items. (items ≡ values / width) × (refused_count values width ≡ None)) (λ e. refused_count values width ≡ Some e) }
+{
+    if values > MAX_ITEMS * width || values > MAX_VALUES {
+        return Err(ArrayError::TooManyItems);
+    }
+    if values % width != 0 {
+        return Err(ArrayError::ItemCount);
+    }
+    Ok(values / width)
 }
