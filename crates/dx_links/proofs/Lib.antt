@@ -1,5 +1,5 @@
-pub mod Cuts
-pub mod GapLaws
 pub mod LinkLaws
 pub mod MapLaws
+pub mod Reading
 pub mod Reordering
+pub mod SlotLaws

@@ -2,4 +2,4 @@ pub mod Denotes
 pub mod Getting
 pub mod Holding
 pub mod LinkMap
-pub mod Places
+pub mod Slots

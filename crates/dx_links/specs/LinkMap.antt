@@ -55,6 +55,13 @@ coded_linked =
     (λ p. record { links = p.0; room = p.1 })
     (λ _. refl)
 
+abbrev pub coded_change : Coded Change
+coded_change =
+    code_by (Key × Option Holding) (coded× coded_key (coded_option coded_holding))
+    (λ c. (c.key, c.held))
+    (λ p. record { key = p.0; held = p.1 })
+    (λ _. refl)
+
 -- ---- what is read and changed
 
 -- what a key holds

@@ -2,12 +2,12 @@
 #![tactic(auto)]
 
 mod changes;
-mod gap;
 mod held;
-mod in_place;
 mod key;
 mod laws;
 mod links;
+mod places;
+mod putting;
 
 pub use changes::Changes;
 pub use held::{Change, Held};
