@@ -1,9 +1,7 @@
 //! Runs of numbers that few digits spell, behind a minus or not: read in one pass over their bytes.
 
-ghost use Rattle.std.specs.Prelude.{◌≡◌, ◌+◌, ◌<◌, ◌≤◌, ◌^◌, Ok, true, false, take, length, IfOk, IfSome};
+ghost use Rattle.std.specs.Prelude.{◌≡◌, ◌+◌, ◌<◌, ◌≤◌, ◌^◌, Ok, false, take, length, IfOk, IfSome};
 ghost use Rattle.dx_base.specs.Elem.{lowest, highest};
-ghost use Rattle.dx_base.specs.Number as base;
-ghost use Rattle.dx_native_lex.specs.Plain as plain;
 ghost use Rattle.dx_native_lex.specs.Scan as scan;
 ghost use Rattle.dx_native_lex.specs.Token as token_spec;
 ghost use Rattle.dx_native_grammar.specs.Grammar as spec;
@@ -11,17 +9,11 @@ ghost use Rattle.dx_native_head.specs.Many.{AreNext};
 
 use crate::bounds::bounds_fault;
 use dx_base::ElemType;
-use dx_native_lex::Number;
+use dx_native_lex::{Number, is_white, plain_at};
 use std::alloc::AllocError;
 
 /// How many numbers are read before they join those found.
 const BLOCK: usize = 64;
-
-fn is_white(b: u8) -> bool
-    ensures { result ≡ scan.is_white b }
-{
-    matches!(b, b' ' | b'\t' | b'\r' | b'\n' | b',')
-}
 
 /// Where white space ends, and what is left there. None where a comment begins.
 #[tactic(auto, unfolding(dx_native_lex::specs::Scan::unblanked))]
@@ -47,73 +39,6 @@ fn unblanked(offset: u64, text: &[u8]) -> Option<(u64, &[u8])>
     Some((at, rest))
 }
 
-/// Whether a minus comes first, and what is behind it.
-fn unsigned(text: &[u8]) -> (bool, &[u8])
-    ensures minus { result.0 ≡ plain.is_negative text.now }
-    ensures behind { result.1.now ≡ plain.unsigned text.now }
-    ensures within { length result.1.now ≤ length text.now }
-{
-    match text {
-        [] => (false, text),
-        [b, rest @ ..] => {
-            if *b == b'-' {
-                (true, rest)
-            } else {
-                (false, text)
-            }
-        }
-    }
-}
-
-fn ends_word(text: &[u8]) -> bool
-    ensures { result ≡ plain.ends_word text.now }
-{
-    match text {
-        [] => true,
-        [b, ..] => is_white(*b) || *b == b'"' || *b == b'#',
-    }
-}
-
-/// The number of the digits in front, how many they are, and what is behind them. None where there are none or may be more
-/// than 18, and where more of the word is behind them.
-#[tactic(auto, unfolding(dx_native_lex::specs::Plain::run))]
-fn digit_run(text: &[u8]) -> Option<(u64, usize, &[u8])>
-    ensures run { IfSome result (λ x. plain.run 0 text.now ≡ (x.0, x.2.now)) }
-    ensures len { IfSome result (λ x. x.1 + length x.2.now ≡ length text.now) }
-    ensures some { IfSome result (λ x. 0 < x.1) }
-    ensures ends { IfSome result (λ x. plain.ends_word x.2.now ≡ true) }
-    ensures small { IfSome result (λ x. x.0 ≤ 999999999999999999) }
-{
-    let mut n: u64 = 0;
-    let mut len: usize = 0;
-    let mut rest = text;
-    while let [b, after @ ..] = rest {
-        let b = *b;
-        if !b.is_ascii_digit() {
-            break;
-        }
-        if n >= 100_000_000_000_000_000 {
-            return None;
-        }
-        n = 10 * n + u64::from(b - b'0');
-        len += 1;
-        rest = after;
-    }
-    if len == 0 || !ends_word(rest) {
-        return None;
-    }
-    Some((n, len, rest))
-}
-
-/// The number of digits, negated or not.
-fn valued(negative: bool, n: u64) -> i64
-    requires { n ≤ 999999999999999999 }
-    ensures { result ≡ base.nearest_i64 (base.signed negative n) }
-{
-    let z = n as i64;
-    if negative { -z } else { z }
-}
-
 /// The number that comes next, with the place behind it, where few digits spell it, behind a minus or not. None says
 /// nothing.
 fn plain_number(offset: u64, text: &[u8]) -> Option<(Number, u64, &[u8])>
@@ -123,12 +48,7 @@ fn plain_number(offset: u64, text: &[u8]) -> Option<(Number, u64, &[u8])>
     ensures within { IfSome result (λ x. length x.2.now ≤ length text.now) }
 {
     let (at, rest) = unblanked(offset, text)?;
-    let (negative, digits) = unsigned(rest);
-    let (n, len, after) = digit_run(digits)?;
-    let _some = len;
-    let value = valued(negative, n);
-    let end = at + (rest.len() - after.len()) as u64;
-    Some((Number { value, at }, end, after))
+    plain_at(at, rest)
 }
 
 /// The same, where it is of the type.

@@ -10,7 +10,7 @@ ghost use Rattle.dx_native_lex.specs.Token.{Reads, Shows};
 ghost use Rattle.dx_native_lex.specs.Raw as raw_spec;
 
 use crate::fault::{NativeError, NativeFail};
-use crate::number::{digit_run, is_float, is_negative, number_of, unsigned, valued};
+use crate::number::{is_float, number_of, plain_at};
 use crate::scan::{Kind, Lexeme, lexed, unblanked};
 use crate::token::{Named, Number};
 use dx_base::{Bytes, NativeKind};
@@ -108,12 +108,7 @@ fn plain_number(offset: u64, text: &[u8]) -> Option<(Number, u64, &[u8])>
     ensures within { IfSome result (λ x. x.1 + length x.2.now < 2 ^ 63) }
 {
     let (at, rest) = unblanked(offset, text);
-    let negative = is_negative(rest);
-    let (n, len, after) = digit_run(unsigned(rest))?;
-    let _some = len;
-    let value = valued(negative, n);
-    let end = at + (rest.len() - after.len()) as u64;
-    Some((Number { value, at }, end, after))
+    plain_at(at, rest)
 }
 
 impl<'a> Cursor<'a> {
