@@ -1,5 +1,5 @@
 -- The items of a block, by their kind.
-use Rattle.std.proofs.Common.{◌≡◌, ℕ, zero, suc, ◌+◌, ◌-◌, ◌<◌, ◌≤◌, List, [], ◌∷◌, length, take, get_or, refl, sym, ap, subst, ◌∙◌, arith}
+use Rattle.std.proofs.Common.{◌≡◌, ℕ, zero, suc, ◌+◌, ◌-◌, ◌*◌, ◌<◌, ◌≤◌, List, [], ◌∷◌, length, take, get_or, refl, sym, ap, subst, ◌∙◌, arith}
 use Rattle.std.specs.Prelude.{slice_index, map}
 use Rattle.std.specs.List.{range_with_len}
 use Rattle.std.proofs.lemmas.List.FromFn.{length-range_with_len, get_or-range_with_len}
@@ -31,6 +31,16 @@ pub below_first : (b : Block) (from to n : ℕ) → b ≡ Range from to → n �
 below_first b from to n is h =
     let g : n ≤ length (range_with_len from (to - from)) = subst (λ b. n ≤ length (items_of b)) is h in
     omega (arith, length-range_with_len from (to - from))
+
+-- the item at a place of a range
+pub in_range : (from n place : ℕ) → place < length (range_with_len from n) → from + place ≡ slice_index (range_with_len from n) place
+in_range from n place h = sym (get_or-range_with_len from n place 0 (omega (arith, length-range_with_len from n)))
+
+-- and where its row stands
+pub row_in_range : (from n width column place : ℕ) → place < length (range_with_len from n) → from * width + column + place * width ≡ slice_index (range_with_len from n) place * width + column
+row_in_range from n width column place h =
+    let e : from * width + column + place * width ≡ (from + place) * width + column = omega arith in
+    e ∙ ap (λ k. k * width + column) (in_range from n place h)
 
 -- ---- items below a number
 

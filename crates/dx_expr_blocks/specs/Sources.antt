@@ -2,13 +2,15 @@
 use Rattle.std.specs.Prelude.{◌≡◌, ◌<◌, ◌≤◌, ◌+◌, ◌*◌, ℕ, List, length, slice_index_or, ℤ, pos, true}
 use Rattle.dx_expr.specs.Value.{Inputs, size, is_int}
 use Rattle.dx_expr_blocks.specs.declared.inputs.Source.{Source}
-use Rattle.dx_expr_blocks.specs.declared.inputs.Source.TheVariants.{Each, Same, Other}
+use Rattle.dx_expr_blocks.specs.declared.inputs.Source.TheVariants.{Each, Ints, Same, Other}
 use Rattle.dx_expr_blocks.specs.declared.inputs.Table.{Table}
 use Rattle.dx_expr_blocks.specs.declared.inputs.Table.TheVariants as table
 
 -- it has the values of input k for so many items
 abbrev pub IsSource : Inputs → ℕ → ℕ → Source → Type 0
 IsSource inputs items k (Each values) =
+    (items ≤ length values.now) × ((item : ℕ) → item < items → inputs.value k item 0 ≡ slice_index_or values.now item (pos 0))
+IsSource inputs items k (Ints values) =
     (items ≤ length values.now) × ((item : ℕ) → item < items → inputs.value k item 0 ≡ slice_index_or values.now item (pos 0))
 IsSource inputs items k (Same v) = (item : ℕ) → item < items → inputs.value k item 0 ≡ v
 IsSource inputs items k Other = Unit {0}
@@ -25,5 +27,6 @@ AreRows inputs items k values width =
 -- it has the values of input k, of which each item may have some, for so many items
 abbrev pub IsTable : Inputs → ℕ → ℕ → Table → Type 0
 IsTable inputs items k (table.Rows values width) = AreInts inputs items k × AreRows inputs items k values.now width
+IsTable inputs items k (table.IntRows values width) = AreInts inputs items k × AreRows inputs items k values.now width
 IsTable inputs items k table.Ints = AreInts inputs items k
 IsTable inputs items k table.Other = Unit {0}

@@ -1,11 +1,10 @@
 //! An operator on the values of two sides.
 
-ghost use Rattle.std.specs.Prelude.{◌≡◌, ◌<◌, IfOk};
+ghost use Rattle.std.specs.Prelude.{◌≡◌, IfOk};
 ghost use Rattle.dx_expr.specs.declared.operators.Sides.TheVariants as sides;
 ghost use Rattle.dx_expr.specs.Value.{binary_value, sides_of};
 ghost use Rattle.dx_expr_blocks.specs.Block.{up_to, beside, both, run_of};
 ghost use Rattle.dx_expr_blocks.specs.Found.{IsFound, run_found};
-ghost use Rattle.dx_expr_blocks.specs.Vectors.{GivesBeside};
 
 use crate::operators::{
     Add, Divide, Equal, Greater, GreaterEqual, Less, LessEqual, Maximum, Minimum, Multiply,
@@ -96,22 +95,4 @@ pub fn on_both(
     left.fault = fault.or(right.fault).or(left.fault);
     spare.keep_values(right.values)?;
     Ok(left)
-}
-
-/// An operator value by value on items of one width, as far as both sides go; the left side's values give way to what it
-/// makes. An item that has a fault leaves none of its values.
-pub fn operate_wide(
-    operator: Binary,
-    left: &mut Vec<i32>,
-    right: &[i32],
-    width: usize,
-) -> Option<ItemFault>
-    requires sides { sides_of operator ≡ sides.Both }
-    requires width { 0 < width }
-    ensures { GivesBeside (binary_value operator) width left.old.items right.now left.new.items result }
-{
-    let fault = operate(operator, left, right);
-    let whole = left.len() / width * width;
-    left.truncate(whole);
-    fault
 }

@@ -10,6 +10,8 @@ use dx_expr::Inputs;
 pub enum Source<'a> {
     /// One for each item, in order.
     Each(&'a [i64]),
+    /// The same in 4 bytes each.
+    Ints(&'a [i32]),
     /// One that stands for every item.
     Same(i64),
     /// They are asked for one by one.
@@ -21,6 +23,8 @@ pub enum Source<'a> {
 pub enum Table<'a> {
     /// Item by item, each with so many, and all of them lie in the int range.
     Rows(&'a [i64], usize),
+    /// The same in 4 bytes each.
+    IntRows(&'a [i32], usize),
     /// They are asked for one by one, and all of them lie in the int range.
     Ints,
     /// They are asked for one by one.

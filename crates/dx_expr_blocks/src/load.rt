@@ -7,6 +7,7 @@ ghost use Rattle.dx_expr_blocks.specs.Found.{IsFound};
 ghost use Rattle.dx_expr_blocks.specs.Items.{items_of, all_below};
 
 use crate::block::{Block, count, item_at};
+use crate::ints::loaded_ints;
 use crate::operators::checked;
 use crate::{Columns, Found, Source, Spare, Step, filled};
 use dx_expr::{Inputs, ItemFault};
@@ -115,6 +116,10 @@ pub fn input_run<I: Columns>(
         Source::Each(values) => {
             let buffer = spare.values(alloc, n, 0)?;
             Ok(loaded(values, block, buffer))
+        }
+        Source::Ints(values) => {
+            let buffer = spare.values(alloc, n, 0)?;
+            Ok(loaded_ints(values, block, buffer))
         }
         Source::Same(v) => constant(alloc, spare, v, n),
         Source::Other => {

@@ -10,6 +10,7 @@ ghost use Rattle.dx_expr_blocks.specs.Items.{items_of, all_below};
 
 use crate::block::{Block, count, item_at};
 use crate::eval::one_by_one;
+use crate::int_rows::in_int_rows;
 use crate::operators::checked;
 use crate::{Columns, Found, Spare, Step, Table, filled};
 use dx_expr::{Expression, Inputs, ItemFault};
@@ -121,6 +122,10 @@ fn input_part<I: Columns>(
         Table::Rows(values, width) => {
             let buffer = spare.values(alloc, count(block), 0)?;
             Ok(in_rows(values, width, usize::from(place), block, buffer))
+        }
+        Table::IntRows(values, width) => {
+            let buffer = spare.values(alloc, count(block), 0)?;
+            Ok(in_int_rows(values, width, usize::from(place), block, buffer))
         }
         Table::Ints => {
             let buffer = spare.values(alloc, count(block), 0)?;

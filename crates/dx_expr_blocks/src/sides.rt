@@ -26,42 +26,7 @@ pub fn pick(conditions: &[i32], block: Block<'_>, wanted: bool, picks: &mut [usi
     picked
 }
 
-/// The values of both sides in the order of the conditions, which give way to them.
-pub fn merge(conditions: &mut [i32], end: Option<ItemFault>, ones: &Found, others: &Found) -> Stop
-    ensures { StopsAt (merged conditions.old end ones.now.values.items ones.now.fault others.now.values.items others.now.fault) conditions.new result }
-{
-    let one = ones.values.as_slice();
-    let other = others.values.as_slice();
-    let mut i = 0;
-    let mut j = 0;
-    for place in 0..conditions.len() {
-        if conditions[place] == 0 {
-            if j == other.len() {
-                return Stop {
-                    count: place,
-                    fault: others.fault,
-                };
-            }
-            conditions[place] = other[j];
-            j += 1;
-        } else {
-            if i == one.len() {
-                return Stop {
-                    count: place,
-                    fault: ones.fault,
-                };
-            }
-            conditions[place] = one[i];
-            i += 1;
-        }
-    }
-    Stop {
-        count: conditions.len(),
-        fault: end,
-    }
-}
-
-/// The same with no branch on a condition.
+/// The values of both sides in the order of the conditions, which give way to them: with no branch on a condition.
 pub fn merge_evenly(
     conditions: &mut [i32],
     end: Option<ItemFault>,

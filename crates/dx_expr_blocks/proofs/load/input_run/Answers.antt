@@ -14,11 +14,21 @@ pub loaded-requires-clause-within : goal.loaded-requires-clause-within
 loaded-requires-clause-within g c =
     below_more (g.I.Inputs.items c.args.inputs.now) (length c.in-Each.values.now) (items_of c.args.block) c.in-Each.ensures.0 c.requires.within
 
+pub loaded_ints-requires-clause-within : goal.loaded_ints-requires-clause-within
+loaded_ints-requires-clause-within g c =
+    below_more (g.I.Inputs.items c.args.inputs.now) (length c.in-Ints.values.now) (items_of c.args.block) c.in-Ints.ensures.0 c.requires.within
+
 pub returns-in_ok-buffer-in-Each : goal.returns-in_ok-buffer-in-Each
 returns-in_ok-buffer-in-Each g c =
     let inputs = g.I.Inputs.given c.args.inputs.now in
     ap up_to (map_below (λ item. checked (inputs.value c.args.k item 0)) (λ item. checked (slice_index_or c.in-Each.values.now item (pos 0))) (g.I.Inputs.items c.args.inputs.now) (items_of c.args.block) c.requires.within (λ i h. ap checked (c.in-Each.ensures.1 i h)))
     ∙ c.loaded.ensures
+
+pub returns-in_ok-buffer-in-Ints : goal.returns-in_ok-buffer-in-Ints
+returns-in_ok-buffer-in-Ints g c =
+    let inputs = g.I.Inputs.given c.args.inputs.now in
+    ap up_to (map_below (λ item. checked (inputs.value c.args.k item 0)) (λ item. checked (slice_index_or c.in-Ints.values.now item (pos 0))) (g.I.Inputs.items c.args.inputs.now) (items_of c.args.block) c.requires.within (λ i h. ap checked (c.in-Ints.ensures.1 i h)))
+    ∙ c.loaded_ints.ensures
 
 pub returns-in-Same : goal.returns-in-Same
 returns-in-Same g c =
