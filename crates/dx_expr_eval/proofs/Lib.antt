@@ -2,4 +2,5 @@ pub mod Answering
 pub mod Joining
 pub mod Blocks
 pub mod InRows
+pub mod Ints
 pub mod Making

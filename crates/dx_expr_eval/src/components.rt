@@ -1,14 +1,10 @@
 // Expressions that are vectors, by their components and by blocks of items.
-ghost use Rattle.std.specs.Prelude.{◌≡◌, ◌≤◌, ◌*◌, true, length, IfOk};
-ghost use Rattle.std.specs.List.{list_all};
+ghost use Rattle.std.specs.Prelude.{◌≤◌};
 ghost use Rattle.dx_base.specs.Answers.{Answers, refused};
-ghost use Rattle.dx_base.specs.Elem.{in_range};
-ghost use Rattle.dx_base.specs.declared.elem.ElemType.TheVariants.{Int};
 ghost use Rattle.dx_expr_eval.specs.Items.{all_values, faultless};
 ghost use Rattle.dx_expr_eval.specs.Rows.{AreColumns};
 
 use crate::rows::block;
-use crate::wide::append_block;
 use dx_base::{Fail, Items};
 use dx_expr::{Expression, ItemFault};
 use dx_expr_blocks::{Columns, Spare};
@@ -24,20 +20,18 @@ pub(crate) fn evaluate_components<I: Columns>(
     columns: &[Expression],
     inputs: &I,
     items: usize,
-) -> Result<Items<i64>, Fail<ItemFault>>
+) -> Result<Items<i32>, Fail<ItemFault>>
     requires columns { AreColumns (I.given inputs.now) e.now columns.now }
     requires within { items ≤ I.items inputs.now }
-    ensures values { Answers refused (all_values (I.given inputs.now) e.now items) result }
-    ensures ints { IfOk result (λ vs. list_all (in_range Int) vs ≡ true) }
+    ensures { Answers refused (all_values (I.given inputs.now) e.now items) result }
 {
     let mut spare = Spare::new(alloc);
-    let mut found = Vec::new(alloc);
-    let mut buffer = Vec::new(alloc);
+    let mut found = Vec::with_capacity(alloc, items.saturating_mul(columns.len()))?;
     let mut from = 0;
     'turns: while from < items {
         let to = from.saturating_add(BLOCK).min(items);
         let rows = block(alloc, &mut spare, e, columns, inputs, from, to)?;
-        append_block(&mut found, rows.values.as_slice(), &mut buffer)?;
+        found.extend_from_slice(rows.values.as_slice())?;
         spare.keep_values(rows.values)?;
         from += rows.count;
     }

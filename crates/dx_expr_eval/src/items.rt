@@ -25,7 +25,7 @@ pub fn evaluate<I: Columns>(
     e: &Expression,
     inputs: &I,
     items: u64,
-) -> Result<Items<i64>, Fail<ItemFault>>
+) -> Result<Items<i32>, Fail<ItemFault>>
     requires fits { IsSome (shapes.shape_of (I.given inputs.now).shape e.now) }
     requires within { items ≤ I.items inputs.now }
     ensures values { Answers refused (all_values (I.given inputs.now) e.now items) result }

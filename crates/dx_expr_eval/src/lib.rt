@@ -7,6 +7,5 @@ mod items;
 mod numbers;
 mod rows;
 mod vectors;
-mod wide;
 
 pub use items::{evaluate, find_fault};

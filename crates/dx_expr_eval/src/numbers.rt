@@ -1,13 +1,9 @@
 // Expressions that are a single value for each item, by blocks of items.
-ghost use Rattle.std.specs.Prelude.{◌≡◌, ◌≤◌, ◌*◌, [], true, length, Some, IfOk};
-ghost use Rattle.std.specs.List.{list_all};
+ghost use Rattle.std.specs.Prelude.{◌≡◌, ◌≤◌, [], length, Some, IfOk};
 ghost use Rattle.dx_base.specs.Answers.{Answers, refused};
-ghost use Rattle.dx_base.specs.Elem.{in_range};
-ghost use Rattle.dx_base.specs.declared.elem.ElemType.TheVariants.{Int};
 ghost use Rattle.dx_expr.specs.Shape.{shape_of as spec_shape_of};
 ghost use Rattle.dx_expr_eval.specs.Items.{all_values, faultless};
 
-use crate::wide::append_block;
 use dx_base::{Fail, Items};
 use dx_expr::{Expression, ItemFault};
 use dx_expr_blocks::{Columns, Spare, evaluate_range};
@@ -22,16 +18,14 @@ pub(crate) fn evaluate_numbers<I: Columns>(
     e: &Expression,
     inputs: &I,
     items: usize,
-) -> Result<Items<i64>, Fail<ItemFault>>
+) -> Result<Items<i32>, Fail<ItemFault>>
     requires single { spec_shape_of (I.given inputs.now).shape e.now ≡ Some [] }
     requires within { items ≤ I.items inputs.now }
     ensures values { Answers refused (all_values (I.given inputs.now) e.now items) result }
     ensures count { IfOk result (λ vs. length vs ≡ items) }
-    ensures ints { IfOk result (λ vs. list_all (in_range Int) vs ≡ true) }
 {
     let mut spare = Spare::new(alloc);
     let mut found = Vec::with_capacity(alloc, items)?;
-    let mut buffer = Vec::new(alloc);
     let mut from = 0;
     'turns: while from < items {
         let to = from.saturating_add(BLOCK).min(items);
@@ -39,7 +33,7 @@ pub(crate) fn evaluate_numbers<I: Columns>(
         if let Some(fault) = block.fault {
             return Err(Fail::Refused(fault));
         }
-        append_block(&mut found, block.values.as_slice(), &mut buffer)?;
+        found.extend_from_slice(block.values.as_slice())?;
         spare.keep_values(block.values)?;
         from = to;
     }

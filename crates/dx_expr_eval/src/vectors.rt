@@ -1,14 +1,10 @@
 // Expressions that are vectors, item by item.
-ghost use Rattle.std.specs.Prelude.{◌≡◌, ◌≤◌, ◌<◌, ◌*◌, true, length, IsSome, Some, IfOk};
-ghost use Rattle.std.specs.List.{list_all};
+ghost use Rattle.std.specs.Prelude.{◌≡◌, ◌≤◌, ◌<◌, ◌*◌, length, IsSome, Some, IfOk};
 ghost use Rattle.dx_base.specs.Answers.{Answers, refused};
-ghost use Rattle.dx_base.specs.Elem.{in_range};
-ghost use Rattle.dx_base.specs.declared.elem.ElemType.TheVariants.{Int};
 ghost use Rattle.dx_expr.specs.Shape as shapes;
 ghost use Rattle.dx_expr.specs.Value as spec;
 ghost use Rattle.dx_expr_eval.specs.Items.{all_values, faultless};
 
-use crate::wide::append;
 use dx_base::{Fail, Items};
 use dx_expr::{EvalFail, Expression, Inputs, ItemFault, Values, values_of};
 use std::alloc::Global;
@@ -21,18 +17,17 @@ pub(crate) fn evaluate_vectors<I: Inputs>(
     e: &Expression,
     inputs: &I,
     items: u64,
-) -> Result<Items<i64>, Fail<ItemFault>>
+) -> Result<Items<i32>, Fail<ItemFault>>
     requires fits { IsSome (shapes.shape_of (I.given inputs.now).shape e.now) }
     requires within { items ≤ I.items inputs.now }
     ensures values { Answers refused (all_values (I.given inputs.now) e.now items) result }
     ensures count { (s : shapes.Shape) → shapes.shape_of (I.given inputs.now).shape e.now ≡ Some s →
         IfOk result (λ vs. length vs ≡ items * spec.size s) }
-    ensures ints { IfOk result (λ vs. list_all (in_range Int) vs ≡ true) }
 {
     let mut found = Vec::new(alloc);
     for item in 0..items {
         let values = item_values(alloc, e, inputs, item)?;
-        append(&mut found, values.as_slice())?;
+        found.extend_from_slice(values.as_slice())?;
     }
     Ok(Items::from_vec(found))
 }

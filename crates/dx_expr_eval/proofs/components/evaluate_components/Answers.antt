@@ -13,10 +13,9 @@ turns-preserved g c =
     let count = c.in_ok-rows.rows.count in
     let vs = c.in_ok-rows.rows.values.items in
     let within : from + count ≤ c.args.items = omega (arith, c.in_ok-rows.ensures.1, c.saturating_add.ensures, c.min-to.ensures, c.turns-test.true) in
-    let added : c.append_block.new.found.items ≡ c.turns.found.items ++ vs = c.in_ok-append_block.ensures.values ∙ ap (λ l. c.turns.found.items ++ l) c.as_slice.ensures.value in
+    let added : c.extend_from_slice.new.self.items ≡ c.turns.found.items ++ vs = c.in_ok-extend_from_slice.ensures.items ∙ ap (λ l. c.turns.found.items ++ l) c.as_slice.ensures.value in
     record {
       within = within;
       rest = ap (λ l. behind l (joined (map (λ item. value_of inputs item c.args.e.now) (range_with_len (from + count) (c.args.items - (from + count)))))) added
           ∙ sym (items_done inputs c.args.e.now c.turns.found.items from count c.args.items vs within c.in_ok-rows.ensures.2) ∙ c.turns.invariant.rest;
-      ints = c.in_ok-append_block.ensures.ints;
     }

@@ -23,12 +23,11 @@ turns-preserved g c =
     let to = c.min-to.result in
     let up : from ≤ to = omega (arith, c.saturating_add.ensures, c.min-to.ensures, c.turns-test.true) in
     let within : to ≤ c.args.items = omega (arith, c.min-to.ensures) in
-    let added : c.append_block.new.found.items ≡ c.turns.found.items ++ vs = c.in_ok-append_block.ensures.values ∙ ap (λ l. c.turns.found.items ++ l) c.as_slice.ensures.value in
+    let added : c.extend_from_slice.new.self.items ≡ c.turns.found.items ++ vs = c.in_ok-extend_from_slice.ensures.items ∙ ap (λ l. c.turns.found.items ++ l) c.as_slice.ensures.value in
     let full : length vs ≡ to - from = block_full inputs c.args.e.now c.requires.single from to vs c.in_ok-block.block.fault c.in_default.is c.in_ok-block.ensures in
     record {
       within = within;
       rest = ap (λ l. behind l (joined (map (λ item. value_of inputs item c.args.e.now) (range_with_len to (c.args.items - to))))) added
           ∙ sym (block_done inputs c.args.e.now c.requires.single c.turns.found.items from to c.args.items up within vs c.in_ok-block.block.fault c.in_default.is c.in_ok-block.ensures) ∙ c.turns.invariant.rest;
       count = omega (arith, ap length added, length-append c.turns.found.items vs, full, up, c.turns.invariant.count);
-      ints = c.in_ok-append_block.ensures.ints;
     }

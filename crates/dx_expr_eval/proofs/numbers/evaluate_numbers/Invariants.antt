@@ -1,8 +1,6 @@
-use Rattle.std.proofs.Common.{◌≡◌, ◌≤◌, ◌-◌, true, length}
+use Rattle.std.proofs.Common.{◌≡◌, ◌≤◌, ◌-◌, length}
 use Rattle.std.specs.Prelude.{map}
-use Rattle.std.specs.List.{list_all, range_with_len}
-use Rattle.dx_base.specs.Elem.{in_range}
-use Rattle.dx_base.specs.declared.elem.ElemType.TheVariants.{Int}
+use Rattle.std.specs.List.{range_with_len}
 use Rattle.dx_expr.specs.Value.{joined, value_of}
 use Rattle.dx_expr.specs.Evaluated.{behind}
 use Rattle.dx_expr_eval.specs.Items.{all_values}
@@ -15,7 +13,6 @@ invariant-turns g l =
       within : l.from ≤ l.items;
       rest : behind l.found.items (joined (map (λ item. value_of inputs item l.e) (range_with_len l.from (l.items - l.from)))) ≡ all_values inputs l.e l.items;
       count : length l.found.items ≡ l.from;
-      ints : list_all (in_range Int) l.found.items ≡ true;
     }
 
 abbrev pub decreases-turns : goal.decreases-turns

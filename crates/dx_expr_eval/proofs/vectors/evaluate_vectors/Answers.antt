@@ -22,10 +22,9 @@ loop-item-preserved g c =
     let f : ℕ → Outcome Values = λ item. value_of inputs item c.args.e.now in
     let before = c.loop-item.found.items in
     let vs = c.in_ok-values.values in
-    let added : c.append.new.found.items ≡ before ++ vs = c.in_ok-append.ensures.values ∙ ap (λ l. before ++ l) (search rules) in
+    let added : c.extend_from_slice.new.self.items ≡ before ++ vs = c.in_ok-extend_from_slice.ensures.items ∙ ap (λ l. before ++ l) (search rules) in
     record {
       rest = ap (λ l. behind l (joined (map f (range_with_len (c.loop-item.item + 1) (c.args.items - (c.loop-item.item + 1)))))) added
           ∙ sym (item_next f before c.loop-item.item c.args.items (search rules) vs c.in_ok-values.ensures.values) ∙ c.loop-item.invariant.rest;
       count = λ s fits. omega (arith, ap length added, length-append before vs, c.loop-item.invariant.count s fits, c.in_ok-values.ensures.count s fits, next_row c.loop-item.item (size s));
-      ints = c.in_ok-append.ensures.ints;
     }

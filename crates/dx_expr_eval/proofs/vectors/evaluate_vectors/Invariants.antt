@@ -1,8 +1,6 @@
-use Rattle.std.proofs.Common.{◌≡◌, ◌-◌, ◌*◌, true, length}
+use Rattle.std.proofs.Common.{◌≡◌, ◌-◌, ◌*◌, length}
 use Rattle.std.specs.Prelude.{map, Some}
-use Rattle.std.specs.List.{list_all, range_with_len}
-use Rattle.dx_base.specs.Elem.{in_range}
-use Rattle.dx_base.specs.declared.elem.ElemType.TheVariants.{Int}
+use Rattle.std.specs.List.{range_with_len}
 use Rattle.dx_expr.specs.Shape.{Shape, shape_of}
 use Rattle.dx_expr.specs.Value.{joined, value_of, size}
 use Rattle.dx_expr.specs.Evaluated.{behind}
@@ -15,5 +13,4 @@ invariant-loop-item g l =
     record {
       rest : behind l.found.items (joined (map (λ item. value_of inputs item l.e) (range_with_len l.item (l.items - l.item)))) ≡ all_values inputs l.e l.items;
       count : (s : Shape) → shape_of inputs.shape l.e ≡ Some s → length l.found.items ≡ l.item * size s;
-      ints : list_all (in_range Int) l.found.items ≡ true;
     }
