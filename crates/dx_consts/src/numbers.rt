@@ -1,8 +1,11 @@
 // Arrays of ints.
-ghost use Rattle.std.specs.Prelude.{◌≡◌, ◌<◌, ◌≤◌, ◌*◌, ◌%◌, ◌∷◌, [], length, IfOk, IsTrue};
+ghost use Rattle.std.specs.Prelude.{◌≡◌, ◌<◌, ◌≤◌, ◌*◌, ◌%◌, ◌∷◌, [], true, length, IfOk, IsTrue};
+ghost use Rattle.std.specs.List.{list_all};
 ghost use Rattle.dx_base.specs.Array.{product};
 ghost use Rattle.dx_base.specs.ArrayLimits.{is_shape};
+ghost use Rattle.dx_base.specs.Elem.{in_range};
 ghost use Rattle.dx_base.specs.ObjectLimits.{fits};
+ghost use Rattle.dx_base.specs.declared.elem.ElemType.TheVariants.{Int};
 ghost use Rattle.dx_ast.specs.Value.{ints as spec_ints};
 
 use dx_arrays::{Array, Shape};
@@ -29,7 +32,19 @@ pub(crate) fn ints(alloc: Global, shape: Shape, numbers: &[i32]) -> Result<Rc<Ob
     requires limits { IsTrue (fits (spec_ints shape numbers.now)) }
     ensures { IfOk result (λ o. o.value ≡ spec_ints shape numbers.now) }
 {
-    let array = Array::ints(shape, Vec::from_slice(alloc, numbers)?).unwrap();
+    let array = Array::ints(shape, copied(alloc, numbers)?).unwrap();
     let object = Object::array(array, Parts::new(alloc)).unwrap();
     Ok(Rc::new(alloc, object)?)
+}
+
+// The same numbers in a list of their own. The proof sees of each of them as it is copied that it is an int.
+fn copied(alloc: Global, numbers: &[i32]) -> Result<Vec<i32>, AllocError>
+    ensures same { IfOk result (λ values. values.items ≡ numbers.now) }
+    ensures in_type { IfOk result (λ values. list_all (in_range Int) values.items ≡ true) }
+{
+    let mut values = Vec::with_capacity(alloc, numbers.len())?;
+    for n in numbers {
+        values.push(*n)?;
+    }
+    Ok(values)
 }

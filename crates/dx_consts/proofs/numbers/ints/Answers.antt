@@ -7,6 +7,6 @@ use Rattle.dx_consts.proofs.numbers.ints.Goals as goal
 
 pub unwrap-array-requires : goal.unwrap-array-requires
 unwrap-array-requires c =
-    let ints : list_all (in_range Int) c.args.numbers.now ≡ true = rw c.in_ok-values.ensures.same at c.in_ok-values.ensures.in_type in
-    let made = rw c.in_ok-values.ensures.same at c.plain.ensures in
-    is_made (plain_ints c.args.shape c.args.numbers.now) c.plain.result (not_refused c.args.shape c.args.numbers.now c.requires.shape c.requires.some c.requires.narrow c.requires.few c.requires.whole ints) made
+    let ints : list_all (in_range Int) c.args.numbers.now ≡ true = rw c.in_ok-copied.ensures.same at c.in_ok-copied.ensures.in_type in
+    let made = rw c.in_ok-copied.ensures.same at c.ints.ensures in
+    is_made (plain_ints c.args.shape c.args.numbers.now) c.ints.result (not_refused c.args.shape c.args.numbers.now c.requires.shape c.requires.some c.requires.narrow c.requires.few c.requires.whole ints) made
