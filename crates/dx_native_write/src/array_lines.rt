@@ -55,7 +55,7 @@ fn push_item_lines(
     values: Values<'_>,
 ) -> Result<(), AllocError>
     requires { items * width ≤ length (values_in values) }
-    ensures { OnOk result (out.new.items ≡ out.old.items ++ spelled (map item_line (rows width items (values_in values)))) }
+    ensures { OnOk result (out.new.items ≡ out.old.items ++ spelled (map item_line (rows width items (values_in values.entry)))) }
 {
     match values {
         Values::Ints(values) => push_int_lines(out, width, items, values),

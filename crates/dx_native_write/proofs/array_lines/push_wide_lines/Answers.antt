@@ -3,7 +3,7 @@ use Rattle.dx_native_text.specs.Arrays.{item_line}
 use Rattle.dx_native_write.specs.Spelled.{item_text}
 use Rattle.dx_native_write.proofs.Spelling.{item_is}
 use Rattle.dx_native_write.proofs.ClassLines.{rows_next, rows_room}
-use Rattle.dx_native_write.proofs.array_lines.push_item_lines.Goals as goal
+use Rattle.dx_native_write.proofs.array_lines.push_wide_lines.Goals as goal
 
 pub loop-item-preserved : goal.loop-item-preserved
 loop-item-preserved c = record {
