@@ -92,5 +92,6 @@ are_rows a n values w fits many is same item place h below =
 -- what holds of an array by itself holds of it among others
 pub table_at : (arrays : Arrays) (n k : ℕ) (a : ArrayData) (t : Table) → array_at arrays k ≡ Some a → IsTable (given (Some a ∷ [])) n 0 t → IsTable (given arrays) n k t
 table_at arrays n k a (table.Rows values width) is h = subst (λ o. IsTable (given (o ∷ [])) n 0 (table.Rows values width)) (sym is) h
+table_at arrays n k a (table.IntRows values width) is h = subst (λ o. IsTable (given (o ∷ [])) n 0 (table.IntRows values width)) (sym is) h
 table_at arrays n k a table.Ints is h = subst (λ o. IsTable (given (o ∷ [])) n 0 table.Ints) (sym is) h
 table_at arrays n k a table.Other is h = tt

@@ -14,7 +14,7 @@ ghost use Rattle.dx_compute_meaning.specs.Shown.{shown_arrays, Computes, code_in
 
 use crate::arrays::are_alike;
 use crate::given::Given;
-use dx_arrays::{Array, ElemType, Shape};
+use dx_arrays::{Array, Shape};
 use dx_base::{Code, Fail};
 use dx_expr::{Expression, ItemFault, shape_of};
 use dx_expr_eval::{evaluate, find_fault};
@@ -146,7 +146,7 @@ fn kept(
 }
 
 // The plain int array of these values.
-fn ints(shape: Shape, values: Vec<i64>) -> Array
+fn ints(shape: Shape, values: Vec<i32>) -> Array
     requires lawful { is_shape shape ≡ true }
     requires items { length values.items ≤ max_items * product shape }
     requires values { length values.items ≤ max_values }
@@ -154,5 +154,5 @@ fn ints(shape: Shape, values: Vec<i64>) -> Array
     requires ints { list_all (in_range Int) values.items ≡ true }
     ensures { result ≡ spec.int_array shape values.items }
 {
-    Array::plain(ElemType::Int, shape, values).unwrap()
+    Array::ints(shape, values).unwrap()
 }

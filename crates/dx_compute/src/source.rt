@@ -6,7 +6,7 @@ ghost use Rattle.dx_compute_meaning.specs.Arrays as spec;
 ghost use Rattle.dx_expr_blocks.specs.Sources.{IsSource, IsTable};
 
 use crate::given::Given;
-use dx_arrays::Array;
+use dx_arrays::{Array, Values};
 use dx_base::ElemType;
 use dx_expr_blocks::{Columns, Source, Table};
 
@@ -35,7 +35,8 @@ fn source_of(array: &Array, items: u64) -> Source<'_>
         return Source::Same(array.value(0, 0));
     }
     match array.plain_values() {
-        Some(values) => Source::Each(values),
+        Some(Values::Ints(values)) => Source::Ints(values),
+        Some(Values::Wide(values)) => Source::Each(values),
         None => Source::Other,
     }
 }
@@ -60,8 +61,10 @@ fn table_of(array: &Array, items: u64) -> Table<'_>
     if array.items() == 1 {
         return Table::Ints;
     }
+    let width = array.width() as usize;
     match array.plain_values() {
-        Some(values) => Table::Rows(values, array.width() as usize),
+        Some(Values::Ints(values)) => Table::IntRows(values, width),
+        Some(Values::Wide(values)) => Table::Rows(values, width),
         None => Table::Ints,
     }
 }

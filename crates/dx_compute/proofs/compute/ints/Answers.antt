@@ -4,4 +4,4 @@ use Rattle.dx_compute.proofs.compute.ints.Goals as goal
 
 pub unwrap-requires : goal.unwrap-requires
 unwrap-requires c =
-    is_made (int_array c.args.shape c.args.values.items) c.plain.result (not_refused c.args.shape c.args.values.items c.requires.lawful c.requires.items c.requires.values c.requires.whole c.requires.ints) c.plain.ensures
+    is_made (int_array c.args.shape c.args.values.items) c.ints.result (not_refused c.args.shape c.args.values.items c.requires.lawful c.requires.items c.requires.values c.requires.whole c.requires.ints) c.ints.ensures
