@@ -1,12 +1,17 @@
 -- An array that stands can be made again.
-use Rattle.std.proofs.Common.{◌≡◌, ℕ, ℤ, ◌^◌, Bool, true, false, List, [], ◌∷◌, length, Option, Some, None, Result, Ok, Err, refl, ap, ◌∙◌, sym}
+use Rattle.std.proofs.Common.{◌≡◌, ℕ, ℤ, ◌-◌, ◌*◌, ◌%◌, ◌^◌, Bool, true, false, List, [], ◌∷◌, length, Option, Some, None, Result, Ok, Err, IsTrue, refl, ap, ◌∙◌, sym, arith}
 use Rattle.std.specs.Prelude.{not, cond}
+use Rattle.std.proofs.lemmas.Bool.{eqb-true}
+use Rattle.std.proofs.lemmas.Nat.{div-add-mod'}
+use Rattle.std.proofs.lemmas.List.{take_all}
 use Rattle.dx_base.specs.declared.elem.ElemType.{ElemType}
 use Rattle.dx_base.specs.declared.elem.ElemType.TheVariants.{Int}
 use Rattle.dx_base.specs.Array.{ArrayData, Class, plain, constant, regular, grid_positions, grid_connections, items, items_of, width, origin_of, deltas_of, counts_of}
 use Rattle.dx_arrays.specs.Classes.{kind_of, plain_of}
 use Rattle.dx_arrays.specs.declared.array.ArrayClass.TheVariants.{Plain, Constant, Regular, GridPositions, GridConnections}
-use Rattle.dx_base.specs.ArrayLimits.{IsLawfulArray, IsOfGrid, has_shape, has_room, has_lengths, is_in_type}
+use Rattle.dx_base.specs.ArrayLimits.{IsLawfulArray, IsOfGrid, has_shape, has_room, has_lengths, has_lengths_of, is_in_type}
+use Rattle.dx_arrays.specs.Block.{values_from}
+use Rattle.dx_arrays.proofs.Blocks.{plain_run}
 use Rattle.dx_arrays.specs.Makes.{refusal, Makes}
 use Rattle.dx_arrays.specs.declared.array.ArrayError.{ArrayError}
 use Rattle.dx_native_walk.specs.Again.{Again}
@@ -45,12 +50,34 @@ plain_class (regular n o d) vs k e = absurd cc
 plain_class (grid_positions cs o ds) vs k e = absurd cc
 plain_class (grid_connections cs) vs k e = absurd cc
 
-pub plain_some : (c : Class) → kind_of c ≡ Plain → plain_of c ≡ None → ⊥
-plain_some (plain ws) k e = absurd cc
-plain_some (constant n v) k e = absurd cc
-plain_some (regular n o d) k e = absurd cc
-plain_some (grid_positions cs o ds) k e = absurd cc
-plain_some (grid_connections cs) k e = absurd cc
+-- a plain array has its values in a list
+plain_given : (c : Class) → kind_of c ≡ Plain → (vs : List ℤ) × (plain_of c ≡ Some vs)
+plain_given (plain ws) k = (ws, refl)
+plain_given (constant n v) k = absurd (cc k)
+plain_given (regular n o d) k = absurd (cc k)
+plain_given (grid_positions cs o ds) k = absurd (cc k)
+plain_given (grid_connections cs) k = absurd (cc k)
+
+stored_by : (w : ℕ) (c : Class) (vs : List ℤ) → plain_of c ≡ Some vs → IsTrue (has_lengths_of w c) → items_of w c * w ≡ length vs
+stored_by w (plain us) vs e h =
+    let same : us ≡ vs = cc in
+    let none : length us % w ≡ 0 = eqb-true (length us % w) 0 h in
+    let whole = div-add-mod' (length us) w in
+    rw (← same) (omega (arith, none, whole))
+stored_by w (constant n v) vs e h = absurd (cc e)
+stored_by w (regular n o d) vs e h = absurd (cc e)
+stored_by w (grid_positions cs o ds) vs e h = absurd (cc e)
+stored_by w (grid_connections cs) vs e h = absurd (cc e)
+
+-- the values of all items of a plain array are those that it was given
+told : (a : ArrayData) (vs : List ℤ) → IsLawfulArray a → plain_of a.class ≡ Some vs → values_from a 0 (items a) ≡ vs
+told a vs l e =
+    let count : items a * width a ≡ length vs = stored_by (width a) a.class vs e l.lengths in
+    let run = plain_run a vs 0 (items a) (width a) l e refl (omega arith) (omega arith) in
+    let none : 0 * width a ≡ 0 = omega arith in
+    let part : items a * width a - 0 ≡ length vs = omega (arith, count) in
+    let whole : items a - 0 ≡ items a = omega arith in
+    sym (rw (none, part, whole) at run) ∙ take_all (length vs) vs (omega arith)
 
 constant_class : (w : ℕ) (c : Class) (n : ℕ) (v : List ℤ) → kind_of c ≡ Constant → n ≡ items_of w c → v ≡ origin_of c → constant n v ≡ c
 constant_class w (plain ws) n v k e f = absurd cc
@@ -83,6 +110,15 @@ cells_class (grid_connections ns) cs k e = λ i. grid_connections (e i)
 pub plain_again : (a : ArrayData) (t : ElemType) (es : List ℕ) (vs : List ℤ) (r : Result ArrayData ArrayError) → IsLawfulArray a → kind_of a.class ≡ Plain → plain_of a.class ≡ Some vs
     → t ≡ a.elem → es ≡ a.extents → Makes (array_of t es (plain vs)) r → Again a r
 plain_again a t es vs r h k e p q m = again a (array_of t es (plain vs)) r h m (same_array a t es (plain vs) p q (plain_class a.class vs k e))
+
+-- where the values are read item by item
+pub told_again : (a : ArrayData) (t : ElemType) (es : List ℕ) (n : ℕ) (vs : List ℤ) (r : Result ArrayData ArrayError) → IsLawfulArray a → kind_of a.class ≡ Plain → n ≡ items a → vs ≡ values_from a 0 (n - 0)
+    → t ≡ a.elem → es ≡ a.extents → Makes (array_of t es (plain vs)) r → Again a r
+told_again a t es n vs r h k c v p q m =
+    let one = plain_given a.class k in
+    let all : n - 0 ≡ items a = omega (arith, c) in
+    let same : vs ≡ one.0 = v ∙ ap (values_from a 0) all ∙ told a one.0 h one.1 in
+    plain_again a t es vs r h k (one.1 ∙ ap Some (sym same)) p q m
 
 pub constant_again : (a : ArrayData) (t : ElemType) (es : List ℕ) (n : ℕ) (v : List ℤ) (r : Result ArrayData ArrayError) → IsLawfulArray a → kind_of a.class ≡ Constant → n ≡ items a → v ≡ origin_of a.class
     → t ≡ a.elem → es ≡ a.extents → Makes (array_of t es (constant n v)) r → Again a r

@@ -33,20 +33,25 @@ fn array_again(alloc: Global, array: &Array) -> Result<Result<Array, ArrayError>
     }
 }
 
-#[tactic(auto, using(crate::proofs::MadeAgain::plain_again))]
+// Ints that are kept in 4 bytes each are kept so again.
 fn plain_again(alloc: Global, array: &Array) -> Result<Result<Array, ArrayError>, AllocError>
     requires { kind_of array.now.class ≡ Plain }
     ensures { IfOk result (λ made. Again array.now made) }
 {
-    let _items = array.items();
+    let items = array.items();
     let elem = array.elem();
     let shape = array.extents();
     let extents = Items::from_vec(Vec::from_slice(alloc, shape)?);
-    let stored = array.plain_values();
-    Ok(match stored.unwrap() {
-        Values::Ints(values) => Array::ints(extents, Vec::from_slice(alloc, values)?),
-        Values::Wide(values) => Array::plain(elem, extents, Vec::from_slice(alloc, values)?),
-    })
+    match array.plain_values() {
+        Some(Values::Ints(stored)) if elem == ElemType::Int => {
+            Ok(Array::ints(extents, Vec::from_slice(alloc, stored)?))
+        }
+        _ => {
+            let mut values = Vec::new(alloc);
+            array.push_items(0, items, &mut values)?;
+            Ok(Array::plain(elem, extents, values))
+        }
+    }
 }
 
 fn constant_again(alloc: Global, array: &Array) -> Result<Result<Array, ArrayError>, AllocError>
