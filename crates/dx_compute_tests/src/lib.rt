@@ -14,6 +14,8 @@ mod limits;
 #[cfg(test)]
 mod many;
 #[cfg(test)]
+mod narrow;
+#[cfg(test)]
 mod numbers;
 #[cfg(test)]
 mod order;

@@ -45,10 +45,31 @@ const PLAIN: &[Plain<'static>] = &[
     ("uint vector", ElemType::UInt, &[2], &[3_000_000_000, 5]),
 ];
 
+// A name, extents, and ints that the array keeps in 4 bytes each.
+type Narrow<'a> = (&'a str, &'a [u32], &'a [i32]);
+
+const NARROW: &[Narrow<'static>] = &[
+    ("narrow 5", &[], &[5]),
+    ("narrow nothing", &[], &[]),
+    ("narrow ints", &[], &[1, 2, 3]),
+    ("narrow tens", &[], &[10, 20, 30]),
+    ("narrow gap", &[], &[1, 0, 2]),
+    ("narrow ends", &[], &[-2_147_483_648, 0, 2_147_483_647]),
+    ("narrow vector", &[2], &[10, 20]),
+    ("narrow vectors", &[2], &[1, 2, 3, 4]),
+    ("narrow matrix", &[2, 2], &[1, 2, 3, 4]),
+];
+
 fn plain(alloc: Global, row: &Plain<'_>) -> Result<Array, Fail> {
     let (_, elem, extents, values) = row;
     let shape = Shape::from_vec(Vec::from_slice(alloc, extents)?);
     Ok(Array::plain(*elem, shape, Vec::from_slice(alloc, values)?)?)
+}
+
+/// An array that keeps these ints in 4 bytes each.
+pub(crate) fn narrow(alloc: Global, extents: &[u32], values: Vec<i32>) -> Result<Array, Fail> {
+    let shape = Shape::from_vec(Vec::from_slice(alloc, extents)?);
+    Ok(Array::ints(shape, values)?)
 }
 
 fn constant(alloc: Global, extents: &[u32], items: u64, value: &[i64]) -> Result<Array, Fail> {
@@ -105,13 +126,22 @@ fn rule(alloc: Global, name: &str) -> Result<Array, Fail> {
     }
 }
 
+fn narrow_or_rule(alloc: Global, name: &str) -> Result<Array, Fail> {
+    for (own, extents, values) in NARROW {
+        if *own == name {
+            return narrow(alloc, extents, Vec::from_slice(alloc, values)?);
+        }
+    }
+    rule(alloc, name)
+}
+
 fn array(alloc: Global, name: &str) -> Result<Array, Fail> {
     for row in PLAIN {
         if row.0 == name {
             return plain(alloc, row);
         }
     }
-    rule(alloc, name)
+    narrow_or_rule(alloc, name)
 }
 
 // ---- parts
@@ -194,6 +224,11 @@ const FIELDS: &[Field<'static>] = &[
     ),
     ("no items", &[("data", "nothing", &[])], &[]),
     ("cell data", &[("data", "cells", &[])], &[]),
+    (
+        "narrow three",
+        &[("data", "narrow ints", &[("unit", "m")])],
+        &[("name", "narrow")],
+    ),
     ("large data", &[("data", "3000000000", &[])], &[]),
     (
         "island",
@@ -315,6 +350,12 @@ const GROUPS: &[Group<'static>] = &[
         "lists",
         Grouping::Plain,
         &[("", 0, "ints"), ("", 0, "pair")],
+        &[],
+    ),
+    (
+        "narrow lists",
+        Grouping::Plain,
+        &[("a", 0, "narrow ints"), ("b", 0, "narrow vectors")],
         &[],
     ),
     (
