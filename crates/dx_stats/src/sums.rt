@@ -8,7 +8,7 @@ ghost use Rattle.dx_stats.specs.Sums.{AreHeld, IsNext, Adds, AreSums, most_numbe
 use dx_arrays::{Array, Values};
 use std::alloc::{AllocError, Global};
 
-/// How many items that aren't stored in 8 bytes are read at a time.
+/// How many items that aren't stored one by one are read at a time.
 const BLOCK_ITEMS: u64 = 4096;
 
 /// How many numbers there are, their sum, the sum of their squares, and the least and the greatest of them. Of as many
@@ -82,6 +82,22 @@ impl Sums {
         sums
     }
 
+    // The sums with these ints too, which stand in 4 bytes each.
+    #[tactic(auto, using(crate::proofs::Held::adds_none, crate::proofs::Held::adds_more, crate::proofs::Held::adds_all))]
+    fn with_ints(self, values: &[i32]) -> Sums
+        requires few { self.count + length values.now ≤ most_numbers }
+        requires small { All IsSmall values.now }
+        requires held { AreHeld self }
+        ensures sums { Adds self values.now result }
+        ensures held { AreHeld result }
+    {
+        let mut sums = self;
+        for value in values {
+            sums = sums.and(i64::from(*value));
+        }
+        sums
+    }
+
     // The sums with the items from one number on, up to another.
     fn with_items(
         self,
@@ -104,7 +120,7 @@ impl Sums {
     }
 }
 
-/// The sums of the numbers of an array: of those that are stored in 8 bytes where they stand, and of others block by block.
+/// The sums of the numbers of an array: of those that are stored one by one where they stand, and of others block by block.
 pub(crate) fn sums_of(alloc: Global, array: &Array) -> Result<Sums, AllocError>
     requires single { array.now.extents ≡ [] }
     requires some { 0 < items_of array.now }
@@ -114,6 +130,21 @@ pub(crate) fn sums_of(alloc: Global, array: &Array) -> Result<Sums, AllocError>
     let items = array.items();
     match array.plain_values() {
         Some(Values::Wide(values)) => Ok(Sums::none().with(values)),
+        _ => other_sums(alloc, array, items),
+    }
+}
+
+// The sums of what isn't stored in 8 bytes each.
+fn other_sums(alloc: Global, array: &Array, items: u64) -> Result<Sums, AllocError>
+    requires single { array.now.extents ≡ [] }
+    requires some { 0 < items_of array.now }
+    requires items { items ≡ items_of array.now }
+    ensures sums { IfOk result (λ s. AreSums (numbers array.now) s) }
+    ensures held { IfOk result (λ s. AreHeld s) }
+{
+    let _items = array.items();
+    match array.plain_values() {
+        Some(Values::Ints(values)) => Ok(Sums::none().with_ints(values)),
         _ => block_sums(alloc, array, items),
     }
 }
