@@ -316,7 +316,7 @@ module _ (inputs : Inputs) (items : ℕ) (bounds : List ℕ) (within : AreWithin
   input_law k =
       known_law (input_values inputs item k) (up_to (bound_of bounds k)) (λ few.
       has_up_to (input_values inputs item k) (bound_of bounds k) few
-      (each_place_near (λ place. checked (inputs.value k item place)) (bound_of bounds k) 0 (size (inputs.shape k)) (λ place inside. checked_near (inputs.value k item place) (bound_of bounds k) few (within k item place few below (omega arith)))))
+      (each_place_near (λ place. checked (inputs.value k item place)) (bound_of bounds k) 0 (size (inputs.shape k)) (λ place inside. checked_near (inputs.value k item place) (bound_of bounds k) few (within k item place below (omega arith) few))))
 
   -- of a kind of expression, by its parts
   layer_law : (l : Expression-F Expression) → ((a : Expression) → nodes a < nodes (roll-Expression l) → Law a) → Law (roll-Expression l)

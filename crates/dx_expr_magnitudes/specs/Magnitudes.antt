@@ -1,5 +1,5 @@
 -- How far from zero the values of an expression can be, as far as its parts tell.
-use Rattle.std.specs.Prelude.{◌≤◌, ◌<◌, ℕ, ◌+◌, ◌*◌, ◌==◌, max, nat_le, Bool, false, not, List, [], ◌∷◌, Option, Some, None, IfSome, slice_index_or, unsigned_abs, if◌then◌else◌}
+use Rattle.std.specs.Prelude.{◌≤◌, ◌<◌, ℕ, ℤ, ◌+◌, ◌*◌, ◌==◌, max, nat_le, Bool, false, not, List, [], ◌∷◌, Option, Some, None, slice_index_or, unsigned_abs, if◌then◌else◌}
 use Rattle.dx_expr_grammar.specs.declared.tree.Unary.{Unary}
 use Rattle.dx_expr_grammar.specs.declared.tree.Unary.TheVariants as unary
 use Rattle.dx_expr_grammar.specs.declared.tree.Binary.{Binary}
@@ -91,7 +91,11 @@ magnitude_of bounds = fold-Expression (Option Magnitude) (magnitude_step bounds)
 
 -- ---- inputs
 
--- The values of each input, for so many items, lie no further from zero than its bound, where that lies in the int range.
+-- a value lies no further from zero than a bound, where that lies in the int range
+abbrev pub KeepsTo : ℕ → ℤ → Type 0
+KeepsTo bound v = bound ≤ 2147483647 → unsigned_abs v ≤ bound
+
+-- the values of each input keep to its bound, for so many items
 abbrev pub AreWithin : Inputs → ℕ → List ℕ → Type 0
 AreWithin inputs items bounds =
-    (k item place : ℕ) → bound_of bounds k ≤ 2147483647 → item < items → place < size (inputs.shape k) → unsigned_abs (inputs.value k item place) ≤ bound_of bounds k
+    (k item place : ℕ) → item < items → place < size (inputs.shape k) → KeepsTo (bound_of bounds k) (inputs.value k item place)
