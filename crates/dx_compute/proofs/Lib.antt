@@ -1,2 +1,3 @@
 mod Sources
 mod Tables
+mod Keeping

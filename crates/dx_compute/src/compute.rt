@@ -14,6 +14,7 @@ ghost use Rattle.dx_compute_meaning.specs.Shown.{shown_arrays, Computes, code_in
 
 use crate::arrays::are_alike;
 use crate::given::Given;
+use crate::magnitudes::has_no_fault;
 use dx_arrays::{Array, Shape};
 use dx_base::{Code, Fail};
 use dx_expr::{Expression, ItemFault, shape_of};
@@ -110,7 +111,8 @@ fn array_of(
     }
 }
 
-// More values than an object holds: only their first fault matters.
+// More values than an object holds: only their first fault matters, which takes a look at all of them where it isn't
+// certain that there is none.
 fn too_many(
     alloc: Global,
     e: &Expression,
@@ -121,6 +123,9 @@ fn too_many(
     requires many { 67108848 < inputs.now.items * product shape.now }
     ensures { Computes (spec.array_of e.now (shown_arrays inputs.now.arrays.now) inputs.now.items shape.now) result }
 {
+    if has_no_fault(alloc, e, inputs)? {
+        return Ok(None);
+    }
     match find_fault(alloc, e, inputs, inputs.items) {
         Ok(()) => Ok(None),
         Err(fail) => Err(failed(fail)),

@@ -6,6 +6,7 @@ mod compute;
 mod expression;
 mod given;
 mod groups;
+mod magnitudes;
 mod members;
 mod operands;
 mod place;

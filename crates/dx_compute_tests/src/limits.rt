@@ -179,18 +179,42 @@ fn a_member_that_is_too_large(rt: HostRuntime) -> Result<(), Fail> {
     Ok(())
 }
 
-// 1,024 items of 65,536 ints, which are 16 ints more than an object holds.
-fn too_many_values(alloc: Global) -> Result<Rc<Object>, Fail> {
+// So many items of 65,536 sevens.
+fn sevens(alloc: Global, items: u64) -> Result<Rc<Object>, Fail> {
     let shape = Shape::from_vec(Vec::from_slice(alloc, &[256, 256])?);
     let item = vec![in alloc; 7; 65_536]?;
-    alone(alloc, Array::constant(ElemType::Int, shape, 1024, item)?)
+    alone(alloc, Array::constant(ElemType::Int, shape, items, item)?)
 }
 
-// The first of the items has a fault.
+// 1,024 items are 16 ints more than an object holds. The first of them has a fault.
 #[test]
 fn a_fault_before_too_many_values(rt: HostRuntime) -> Result<(), Fail> {
-    let object = too_many_values(rt.alloc())?;
+    let object = sevens(rt.alloc(), 1024)?;
     let given = inputs(rt.alloc(), text(rt.alloc(), "$0 / 0")?, Some(object))?;
     assert!(rt; code(rt.alloc(), &given)? == "DivisionByZero");
+    Ok(())
+}
+
+// As many items as there can be of a number, beside one item of sevens: they are too many to be looked at one by one.
+const NUMBERS: [(&str, i64, &str); 6] = [
+    ("$0 + $1", 1, "TooLarge"),
+    ("$1 - $0", -2_147_483_640, "TooLarge"),
+    ("$1 - $0", -2_147_483_641, "Overflow"),
+    ("-$1 * $0 / -2 % 5", 306_783_378, "TooLarge"),
+    ("$1 * $0", 306_783_379, "Overflow"),
+    ("$1 / ($0 - 5)", 5, "DivisionByZero"),
+];
+
+#[test]
+fn as_many_items_as_there_can_be(rt: HostRuntime) -> Result<(), Fail> {
+    let alloc = rt.alloc();
+    for (expression, number, wanted) in &NUMBERS {
+        let item = vec![in alloc; *number; 1]?;
+        let numbers = Array::constant(ElemType::Int, Shape::new(alloc), 16_777_216, item)?;
+        let expression = text(alloc, expression)?;
+        let mut given = inputs(alloc, expression, Some(alone(alloc, numbers)?))?;
+        given.push(Some(sevens(alloc, 1)?))?;
+        assert!(rt; code(alloc, &given)? == *wanted);
+    }
     Ok(())
 }
