@@ -10,7 +10,7 @@ use Rattle.dx_getting.proofs.EmptyLaws.{held_at, held_exact}
 use Rattle.dx_demand.specs.Forming.{named_terms}
 use Rattle.dx_demand.proofs.FormedTerms.{named_more}
 use Rattle.dx_performing.specs.Kept as machine
-use Rattle.dx_performing.specs.Kept.{Kept, Link, LinkTerms, emptied}
+use Rattle.dx_performing.specs.Kept.{Link}
 use Rattle.dx_looking.specs.Setting.{links_of}
 use Rattle.dx_ending.specs.Emptying.{EmptiesAlike}
 

@@ -1,7 +1,6 @@
-pub mod BindLaws
+pub mod CountLaws
 pub mod EmptyLaws
 pub mod FullLaws
-pub mod KeyLaws
 pub mod PutLaws
-pub mod RebindLaws
+pub mod ReadyLaws
 pub mod SetLaws

@@ -1,5 +1,4 @@
-pub mod Binding
 pub mod Emptying
+pub mod InPlace
 pub mod Putting
-pub mod Rebinding
 pub mod Terms

@@ -7,13 +7,11 @@ mod filling;
 mod in_place;
 mod laws;
 mod puts;
-mod rebinding;
 mod setting;
 
 pub use binding::bound_of;
 pub use filling::is_full;
-pub use in_place::{InPlace, are_few, change_in_place, prepare_in_place};
+pub use in_place::{InPlace, Ready, change_in_place, prepare_in_place};
 pub use laws::{changes_set_terms, emptying_holds_links};
 pub use puts::{Put, make_puts, ready};
-pub use rebinding::Rebinding;
 pub use setting::links_after;

@@ -1,9 +1,9 @@
 // Links by their terms, and after changes.
 ghost use Rattle.std.specs.Prelude.{OnOk};
-ghost use Rattle.dx_looking.specs.Setting.{IsBound};
+ghost use Rattle.dx_getting.specs.Bound.{IsBound};
 
 use dx_base::Bytes;
-use dx_ending::{are_few, bound_of, change_in_place, links_after, prepare_in_place};
+use dx_ending::{bound_of, change_in_place, links_after, prepare_in_place};
 use dx_getting::Bound;
 use dx_links::{Change, Changes, Held, Key, Links};
 use dx_objects::{Object, Parts};
@@ -53,15 +53,12 @@ fn change_both(
     bound: &mut Bound,
     rows: &[Row],
 ) -> Result<(), Fail>
-    requires bound { IsBound links.old.links bound.old.pairs }
-    ensures bound { OnOk result (IsBound links.new.links bound.new.pairs) }
+    requires bound { IsBound links.old.links bound.old }
+    ensures bound { OnOk result (IsBound links.new.links bound.new) }
 {
     let mut changes = Changes::new(alloc);
     for row in rows {
         changes.push(change(alloc, *row)?)?;
-    }
-    if !are_few(&changes) {
-        return Ok(());
     }
     let ready = prepare_in_place(alloc, links, bound, changes)?;
     change_in_place(links, bound, ready);
@@ -163,5 +160,53 @@ fn links_and_values_change_in_place(rt: HostRuntime) -> Result<(), Fail> {
             && is(&bound, 3, b"three")
             && bound.get(tag(1)).is_none()
     );
+    Ok(())
+}
+
+// Three changes of one key, and one of another with the text of the first.
+const AGAIN: [Row; 4] = [
+    Row {
+        name: b"a",
+        held: Some((b"four", 4)),
+    },
+    Row {
+        name: b"a",
+        held: None,
+    },
+    Row {
+        name: b"b",
+        held: Some((b"four", 4)),
+    },
+    Row {
+        name: b"a",
+        held: Some((b"two", 2)),
+    },
+];
+
+const ALL_GONE: [Row; 3] = [
+    Row {
+        name: b"c",
+        held: None,
+    },
+    Row {
+        name: b"a",
+        held: None,
+    },
+    Row {
+        name: b"b",
+        held: None,
+    },
+];
+
+#[test]
+fn a_key_may_change_several_times(rt: HostRuntime) -> Result<(), Fail> {
+    let alloc = rt.alloc();
+    let mut links = after(alloc, &Links::new(alloc), &FIRST)?;
+    let mut bound = bound_of(alloc, &links)?;
+    change_both(alloc, &mut links, &mut bound, &AGAIN)?;
+    assert!(rt; links.len() == 3 && is(&bound, 2, b"two") && is(&bound, 4, b"four"));
+    assert!(rt; bound.get(tag(1)).is_none() && bound.get(tag(3)).is_none());
+    change_both(alloc, &mut links, &mut bound, &ALL_GONE)?;
+    assert!(rt; links.len() == 0 && bound.get(tag(2)).is_none() && bound.get(tag(4)).is_none());
     Ok(())
 }

@@ -6,7 +6,7 @@ use Rattle.dx_io.specs.Devices.{FileMap as InputFiles}
 use Rattle.dx_graph.specs.Graph.{Node}
 use Rattle.dx_macros.specs.Tree.{CallTree}
 use Rattle.dx_tags.specs.declared.term.Term.{Term}
-use Rattle.dx_tags.specs.Closed.{heads_of, GoesOn}
+use Rattle.dx_tags.specs.Closed.{heads_of}
 use Rattle.dx_machine.specs.Machine.{State as Machine, tasks_of}
 use Rattle.dx_getting.specs.Told.{Told}
 use Rattle.dx_getting.proofs.TellLaws.{adds_none, grows_nothing, some_all}
@@ -20,15 +20,15 @@ use Rattle.dx_demand.specs.Forming.{called_at, named_terms, SeenFormed}
 use Rattle.dx_demand.specs.Calling.{SeenMet}
 use Rattle.dx_demand.specs.Found.{IsClosed}
 use Rattle.dx_demand.specs.Steps.{SeenFits, SeenRight}
-use Rattle.dx_demand.specs.Picked.{LinksFit}
 use Rattle.dx_demand.specs.declared.seen.Seen.{Seen}
 use Rattle.dx_meaning.specs.Forming.{Formings}
 use Rattle.dx_performing.specs.Kept.{Kept}
 use Rattle.dx_performing.specs.Course.{Fixed, begins, course, world_of, around_of, frame_with}
-use Rattle.dx_looking.specs.Setting.{IsBound, links_of, nodes_in, told_terms, sight_in, setting_in, fixed}
-use Rattle.dx_looking.specs.Looking.{FromHere, AreValues, AllDenote, AllReady, IsLooking, StandsAt}
+use Rattle.dx_looking.specs.Setting.{links_of, nodes_in, told_terms, sight_in, setting_in, fixed}
+use Rattle.dx_looking.specs.Looking.{FromHere, AllFit, AreValues, AllDenote, AllReady, IsLooking, StandsAt}
 use Rattle.dx_looking.specs.declared.setup.Setup.{Setup}
 use Rattle.dx_looking.specs.declared.progress.Progress.{Progress}
+use Rattle.dx_getting.specs.Bound.{IsBound, AreLinks}
 use Rattle.dx_getting.specs.Terms.{BoundValues}
 use Rattle.dx_objects.specs.Runs.{Values}
 use Rattle.dx_engine.specs.Running.{RunsSo, ErrorFits, GatheredFits}
@@ -66,8 +66,8 @@ module _ (setup : Setup) (st : State) (is : IsSetup setup st) (seen : Seen) (at 
   pub looking_begun : StateFits st → SeenFits (nodes_in setup) st.tags seen → IsClosed setup.links.now.links st.tags seen → SeenRight (sight_in setup at_first) (nodes_in setup) st.tags seen → SeenFormed (sight_in setup at_first) (nodes_in setup) st.tags seen → SeenMet (sight_in setup at_first) (nodes_in setup) seen → IsLooking setup at
   looking_begun f fits closed right formed met = subst (IsLooking setup) (sym same) (record {
     exact = f.exact;
-    links = subst (λ l. LinksFit st.tags l.links) (sym is.links) f.links;
-    bound = subst (λ b. IsBound setup.links.now.links b.pairs) (sym is.bound) (subst (λ l. IsBound l.links st.bound.pairs) (sym is.links) f.bound);
+    links = subst (λ l. AllFit st.tags l.links) (sym is.links) f.links;
+    bound = subst (IsBound setup.links.now.links) (sym is.bound) (subst (λ l. IsBound l.links st.bound) (sym is.links) f.bound);
     entries = f.entries;
     told = subst (AreValues st.tags) (sym fresh.told) tt;
     fits = fits;
@@ -80,7 +80,7 @@ module _ (setup : Setup) (st : State) (is : IsSetup setup st) (seen : Seen) (at 
   -- the machine's state at the beginning
   pub stands_begun : (x : Fixed) → IsSoundState x st → seen.memo.formed.entries ≡ [] → (base : Told) → StandsAt setup x (kept_of st) base at base (begins (kept_of st)).state (begins (kept_of st)).formings
   stands_begun x sound uncalled base = subst (λ y. StandsAt setup x (kept_of st) base y base (begins (kept_of st)).state (begins (kept_of st)).formings) (sym same) (record {
-    kept = record { links = ap (λ l. links_of (heads_of st.tags) l.links) (sym is.links); held = sym is.held; written = ap (λ w. w.files) (sym is.written) };
+    kept = record { links = ap (λ l. links_of (heads_of st.tags) l.links) (sym is.links); values = values_first x sound; held = sym is.held; written = ap (λ w. w.files) (sym is.written) };
     work = record {
       sound = record { entries = entries_first x sound; known = subst (KnownRight (setting_in setup at_first) (world x.answer x.file)) (sym fresh.known) tt };
       entries = refl;
@@ -94,6 +94,9 @@ module _ (setup : Setup) (st : State) (is : IsSetup setup st) (seen : Seen) (at 
     ready = subst (λ ts. AllReady (frame_with x (kept_of st) []) (begins (kept_of st)).state (told_terms (heads_of st.tags) ts)) (sym fresh.told) tt;
   })
     where
+      values_first : (x : Fixed) → IsSoundState x st → AreLinks setup.links.now.links setup.bound.now.pairs
+      values_first x sound = subst (λ l. AreLinks l.links setup.bound.now.pairs) (sym is.links) (subst (λ b. AreLinks st.links.links b.pairs) (sym is.bound) sound.values)
+
       entries_first : (x : Fixed) → IsSoundState x st → EntriesRight (setting_in setup at_first) (world x.answer x.file) st.cache.entries
       entries_first x sound = entries_alike st.tags st.bound.pairs setup.bound.now.pairs st.held setup.held.now (sym is.held) [] (setting_in setup at_first).formed (world x.answer x.file) st.cache.entries sound.entries
 
@@ -131,8 +134,8 @@ nothing_done x st all nodes base before (Err short) e st' =
 pub state_fits : (setup : Setup) (st : State) (is : IsSetup setup st) (r : Result Gathered Short) (at : Progress) → OnOk r (IsLooking setup at) → OnOk r (StateFits (taken_back st at))
 state_fits setup st is (Ok g) at l = record {
   exact = l.exact;
-  links = subst (λ y. LinksFit at.tags y.links) is.links l.links;
-  bound = subst (λ b. IsBound st.links.links b.pairs) is.bound (subst (λ y. IsBound y.links setup.bound.now.pairs) is.links l.bound);
+  links = subst (λ y. AllFit at.tags y.links) is.links l.links;
+  bound = subst (IsBound st.links.links) is.bound (subst (λ y. IsBound y.links setup.bound.now) is.links l.bound);
   entries = l.entries;
 }
 state_fits setup st is (Err short) at l = tt

@@ -1,5 +1,5 @@
 -- What is kept behind an execution that was cut short fits and is sound.
-use Rattle.std.proofs.Common.{◌≡◌, ◌≤◌, inl, inr, ℕ, List, [], map, Option, refl, sym, ap, ap₂, ◌∙◌, subst, arith}
+use Rattle.std.proofs.Common.{◌≡◌, inl, inr, List, [], map, Option, refl, sym, ap, ap₂, ◌∙◌, subst, arith}
 use Rattle.std.specs.Prelude.{Result, Ok, Err}
 use Rattle.dx_macros.specs.Tree.{CallTree}
 use Rattle.dx_tags.specs.Closed.{heads_of, GoesOn}
@@ -8,70 +8,76 @@ use Rattle.dx_ending.specs.Putting.{ArePut, ArePutBefore}
 use Rattle.dx_performing.specs.Execution.{Export}
 use Rattle.dx_links.specs.Denotes.{Around}
 use Rattle.dx_links.specs.LinkMap.{LinkMap, Linked}
+use Rattle.dx_getting.specs.Bound.{AreLinks}
 use Rattle.dx_getting.specs.Terms.{Table}
 use Rattle.dx_demand.specs.Terms.{AreExact}
-use Rattle.dx_demand.specs.Picked.{LinksFit}
-use Rattle.dx_demand.proofs.Growing.{links_fit_grows}
 use Rattle.dx_machine.specs.Sound.{IsSound}
 use Rattle.dx_getting.specs.Stands.{EntriesRight, named, world}
 use Rattle.dx_getting.specs.Steps.{AreCalls}
-use Rattle.dx_performing.specs.Kept.{Kept, LinkTerms}
-use Rattle.dx_performing.specs.Course.{Fixed, around_of, begins}
+use Rattle.dx_performing.specs.Course.{Fixed, around_of}
 use Rattle.dx_performing.specs.Meant.{LinksRight}
-use Rattle.dx_looking.specs.Setting.{IsBound, links_of}
-use Rattle.dx_looking.proofs.Growth.{links_same}
+use Rattle.dx_looking.specs.Looking.{AllFit}
+use Rattle.dx_looking.specs.Setting.{links_of}
+use Rattle.dx_looking.proofs.Growth.{all_fit_grows, links_same}
 use Rattle.dx_engine.specs.Keeping.{StateFits, kept_of, setting_of, IsSoundState}
 use Rattle.dx_engine.specs.Ending.{OnEnd, OnCut, CutsPuts, HasPut}
-use Rattle.dx_engine.specs.Executing.{Devices, IsExecuted, IsCutEarly, IsCutLate, NonePut, ExecutesSo}
+use Rattle.dx_engine.specs.Executing.{Devices, IsExecuted, NonePut, ExecutesSo}
 use Rattle.dx_engine.specs.Cutting.{IsCutFrom, IsForgotten}
 use Rattle.dx_engine.specs.declared.exec_error.ExecError.{ExecError}
 use Rattle.dx_engine.specs.declared.exec_error.ExecError.TheVariants.{Module, ReadFault, WriteFault, ExportFault, Memory}
 use Rattle.dx_engine.specs.declared.state.State.{State}
+use Rattle.dx_engine.proofs.Finished.{bound_stays}
+use Rattle.dx_engine.proofs.SoundBehind.{around_same}
 
 module _ (st st1 st2 : State) (fits : StateFits st) (cut : IsCutFrom st st1) (gone : IsForgotten st1 st2) where
   links_are : st2.links.links ≡ st.links.links
   links_are = ap (λ (l : Linked). l.links) gone.links ∙ cut.links
 
+  pairs_are : st2.bound.pairs ≡ st.bound.pairs
+  pairs_are = ap (λ (t : Table). t.pairs) gone.bound ∙ cut.bound
+
   fits_then : StateFits st2
   fits_then = record {
     exact = subst AreExact (sym gone.tags) cut.exact;
-    links = subst (LinksFit st2.tags) (sym links_are) (subst (λ terms. LinksFit terms st.links.links) (sym gone.tags) (links_fit_grows st.tags st1.tags cut.goes_on st.links.links fits.links));
-    bound = subst (λ (y : LinkMap). IsBound y st2.bound.pairs) (sym links_are) (subst (IsBound st.links.links) (sym (ap (λ (t : Table). t.pairs) gone.bound ∙ cut.bound)) fits.bound);
+    links = subst (AllFit st2.tags) (sym links_are) (subst (λ terms. AllFit terms st.links.links) (sym gone.tags) (all_fit_grows st.tags st1.tags cut.goes_on st.links.links fits.links));
+    bound = bound_stays st.links.links st2.links.links st.bound st2.bound links_are pairs_are (ap (λ (t : Table). t.counts) gone.bound ∙ cut.counts) fits.bound;
     entries = subst (AreCalls st2.tags) (sym gone.entries) tt;
   }
 
   terms_are : (kept_of st2).links ≡ (kept_of st).links
   terms_are =
       ap₂ links_of (ap heads_of gone.tags) links_are
-      ∙ links_same st.tags st1.tags cut.goes_on st.links.links st.bound.pairs fits.links fits.bound
-
-  around_is : (x : Fixed) → around_of x (kept_of st2) ≡ around_of x (kept_of st)
-  around_is x = ap (λ held. around_of x (record { entries = []; terms = []; links = []; held = held; written = [] })) (gone.held ∙ cut.held)
+      ∙ links_same st.tags st1.tags cut.goes_on st.links.links fits.links
 
   sound_then : (x : Fixed) → IsSoundState x st → IsSoundState x st2
   sound_then x s = record {
     budget = s.budget ∙ sym (gone.budget ∙ cut.budget);
-    links = subst (λ (a : Around). LinksRight a (kept_of st2).links) (sym (around_is x)) (subst (LinksRight (around_of x (kept_of st))) (sym terms_are) s.links);
+    links = subst (λ (a : Around). LinksRight a (kept_of st2).links) (sym (around_same x (kept_of st) (kept_of st2) (gone.held ∙ cut.held))) (subst (LinksRight (around_of x (kept_of st))) (sym terms_are) s.links);
+    values = subst (λ (y : LinkMap). AreLinks y st2.bound.pairs) (sym links_are) (subst (AreLinks st.links.links) (sym pairs_are) s.values);
     entries = subst (EntriesRight (setting_of st2) (world x.answer x.file)) (sym gone.entries) tt;
     sound = subst (λ es. IsSound (around_of x (kept_of st2)) x.budget (record { entries = map (named (heads_of st2.tags)) es; known = []; events = [] })) (sym gone.entries) (record { entries = tt; bounded = omega arith; known = tt });
   }
 
 -- ---- at a cut behind the last effect
 
+abbrev SameBound : State → State → Type 0
+SameBound st1 st2 = (st2.bound.pairs ≡ st1.bound.pairs) × (st2.bound.counts ≡ st1.bound.counts)
+
 abbrev AreKept : State → State → Type 0
 AreKept st1 st2 = (st2.tags ≡ st1.tags) × (st2.held ≡ st1.held) × (st2.cache ≡ st1.cache)
 
-then_kept : (st st1 st2 : State) → IsCutFrom st st1 → st2.links.links ≡ st1.links.links → st2.bound.pairs ≡ st1.bound.pairs → AreKept st1 st2 → IsCutFrom st st2
+then_kept : (st st1 st2 : State) → IsCutFrom st st1 → st2.links.links ≡ st1.links.links → SameBound st1 st2 → AreKept st1 st2 → IsCutFrom st st2
 then_kept st st1 st2 cut links bound same = record {
   exact = subst AreExact (sym same.0) cut.exact;
   goes_on = subst (GoesOn st.tags) (sym same.0) cut.goes_on;
   links = links ∙ cut.links;
-  bound = bound ∙ cut.bound;
+  bound = bound.0 ∙ cut.bound;
+  counts = bound.1 ∙ cut.counts;
   held = same.1 ∙ cut.held;
   budget = ap (λ (c : _). c.budget) same.2 ∙ cut.budget;
 }
 
-pub cut_at_end : (r : Result (Unit {0}) ExecError) (st st1 st2 : State) → IsCutFrom st st1 → OnCut r (st2.links.links ≡ st1.links.links) → OnCut r (st2.bound.pairs ≡ st1.bound.pairs) → OnCut r (AreKept st1 st2) → OnCut r (IsCutFrom st st2)
+pub cut_at_end : (r : Result (Unit {0}) ExecError) (st st1 st2 : State) → IsCutFrom st st1 → OnCut r (st2.links.links ≡ st1.links.links) → OnCut r (SameBound st1 st2) → OnCut r (AreKept st1 st2) → OnCut r (IsCutFrom st st2)
 cut_at_end (Ok u) st st1 st2 cut links bound same = tt
 cut_at_end (Err (Module site code)) st st1 st2 cut links bound same = tt
 cut_at_end (Err ReadFault) st st1 st2 cut links bound same = then_kept st st1 st2 cut links bound same

@@ -1,27 +1,25 @@
 -- What the parts of an execution come to.
 use Rattle.std.proofs.Common.{◌≡◌, inl, inr, ℕ, List, [], append-nil, Option, refl, sym, ap, ◌∙◌, subst}
-use Rattle.std.specs.Prelude.{Result, Ok, Err, is_some, IsErrAnd}
+use Rattle.std.specs.Prelude.{Result, Ok, Err, IsErrAnd}
 use Rattle.dx_base.specs.declared.code.Code.{Code}
 use Rattle.dx_graph.specs.Graph.{Node}
 use Rattle.dx_macros.specs.Tree.{CallTree}
 use Rattle.dx_tags.specs.Closed.{GoesOn}
 use Rattle.dx_machine.specs.Machine.{tasks_of}
 use Rattle.dx_getting.specs.Told.{Adds, AddsSome}
-use Rattle.dx_demand.specs.Forming.{named_terms}
 use Rattle.dx_demand.specs.Memo.{site_of}
 use Rattle.dx_io.specs.Devices.{Grows}
 use Rattle.dx_io.proofs.Growing.{grows_by_nothing}
 use Rattle.dx_getting.proofs.TellLaws.{some_all}
 use Rattle.dx_performing.specs.Execution.{Error, Export, execution}
-use Rattle.dx_performing.specs.Kept.{is_full}
 use Rattle.dx_performing.specs.Course.{Fixed, world_of, committed, executed}
 use Rattle.dx_performing.specs.SoundEntries.{AreLawfulCalls}
 use Rattle.dx_ending.specs.Putting.{ArePut, ArePutBefore, exports_of}
 use Rattle.dx_engine.specs.Gathering.{error_of}
 use Rattle.dx_engine.specs.Keeping.{StateFits, kept_of, IsSoundState}
 use Rattle.dx_engine.specs.Beginning.{EffectsAre, EffectsCut, GathersFit, course_of}
-use Rattle.dx_engine.specs.Leaving.{links_behind, IsLeft}
-use Rattle.dx_engine.specs.Ending.{OnEnd, OnCut, ErrorIs, CutsPuts, short_error}
+use Rattle.dx_engine.specs.Leaving.{LeavesSo}
+use Rattle.dx_engine.specs.Ending.{OnEnd, ErrorIs, CutsPuts, short_error}
 use Rattle.dx_engine.specs.Executing.{Devices, EndsIn, IsExecuted, IsCutEarly, IsCutLate, NonePut, ExecutesSo}
 use Rattle.dx_engine.specs.declared.exec_error.ExecError.{ExecError}
 use Rattle.dx_engine.specs.declared.exec_error.ExecError.TheVariants.{Module, ReadFault, WriteFault, ExportFault, Memory}
@@ -65,15 +63,16 @@ ends_in nodes e error (Err Memory) is h = tt
 -- run leaves what is kept as it is, but for terms and entries
 pub record IsRun (st st' : State) : Type 0 where
   pub links : st'.links ≡ st.links
+  pub bound : st'.bound ≡ st.bound
   pub held : st'.held ≡ st.held
   pub written : st'.written ≡ st.written
   pub budget : st'.cache.budget ≡ st.cache.budget
 
-finished : (st st' st2 : State) (g : Gathered) (was now : Option (List Export)) → IsRun st st' → IsLeft st' (links_behind st'.links.links (is_some g.error) g.changes) (is_full (named_terms st'.tags)) st2 → ArePut was now st'.written.files st2.written.files (exports_of g.puts.items) → IsFinished st st' g st2
-finished st st' st2 g was now run left put = record { left = left; files = put.files; links = run.links; held = run.held; written = run.written; budget = run.budget }
+finished : (st st' st2 : State) (g : Gathered) (was now : Option (List Export)) → IsRun st st' → LeavesSo st' g st2 → ArePut was now st'.written.files st2.written.files (exports_of g.puts.items) → IsFinished st st' g st2
+finished st st' st2 g was now run left put = record { left = left; files = put.files; links = run.links; bound = run.bound; held = run.held; written = run.written; budget = run.budget }
 
 module _ (x : Fixed) (st st' st2 : State) (effects : List CallTree) (nodes : List Node) (g : Gathered) (was now : Devices) (are : EffectsAre x st effects nodes was.told was.written g st' now.told now.written) (fits : StateFits st) (on : GoesOn st.tags st'.tags) (lawful : AreLawfulCalls effects) (sound : IsSoundState x st) (run : IsRun st st') where
-  executed_so : (r : Result (Unit {0}) ExecError) → IsLeft st' (links_behind st'.links.links (is_some g.error) g.changes) (is_full (named_terms st'.tags)) st2 → ArePut was.puts now.puts st'.written.files st2.written.files (exports_of g.puts.items) → ErrorIs nodes g.error r → IsExecuted x st effects was r st2 now
+  executed_so : (r : Result (Unit {0}) ExecError) → LeavesSo st' g st2 → ArePut was.puts now.puts st'.written.files st2.written.files (exports_of g.puts.items) → ErrorIs nodes g.error r → IsExecuted x st effects was r st2 now
   executed_so r left put error =
       let ends = finished st st' st2 g was.puts now.puts run left put in
       record {
@@ -107,7 +106,7 @@ module _ (x : Fixed) (st st' st2 : State) (effects : List CallTree) (nodes : Lis
   none_put : ArePut was.puts now.puts st'.written.files st2.written.files [] → NonePut st was st2 now
   none_put p = record { puts = p.told ∙ sym (grows_by_nothing was.puts); files = p.files ∙ ap (λ w. w.files) run.written }
 
-  pub execute_so : (r : Result (Unit {0}) ExecError) → OnEnd r (IsLeft st' (links_behind st'.links.links (is_some g.error) g.changes) (is_full (named_terms st'.tags)) st2) → OnEnd r (ArePut was.puts now.puts st'.written.files st2.written.files (exports_of g.puts.items)) → ErrorIs nodes g.error r → CutsPuts r was.puts now.puts st'.written.files st2.written.files (exports_of g.puts.items) → ¬ (r ≡ Err ReadFault) × ¬ (r ≡ Err WriteFault) → ExecutesSo x st effects was r st2 now
+  pub execute_so : (r : Result (Unit {0}) ExecError) → OnEnd r (LeavesSo st' g st2) → OnEnd r (ArePut was.puts now.puts st'.written.files st2.written.files (exports_of g.puts.items)) → ErrorIs nodes g.error r → CutsPuts r was.puts now.puts st'.written.files st2.written.files (exports_of g.puts.items) → ¬ (r ≡ Err ReadFault) × ¬ (r ≡ Err WriteFault) → ExecutesSo x st effects was r st2 now
   execute_so (Ok u) left put error some faults = executed_so (Ok u) left put error
   execute_so (Err (Module site code)) left put error some faults = executed_so (Err (Module site code)) left put error
   execute_so (Err ReadFault) left put error some faults = absurd (faults.0 refl)
@@ -118,7 +117,7 @@ module _ (x : Fixed) (st st' st2 : State) (effects : List CallTree) (nodes : Lis
 
 -- ---- what fits
 
-pub fits_behind : (st st' st2 : State) (nodes : List Node) (g : Gathered) (r : Result (Unit {0}) ExecError) (was now : Option (List Export)) → IsRun st st' → StateFits st' → GathersFit nodes st' g → OnEnd r (IsLeft st' (links_behind st'.links.links (is_some g.error) g.changes) (is_full (named_terms st'.tags)) st2) → OnEnd r (ArePut was now st'.written.files st2.written.files (exports_of g.puts.items)) → OnEnd r (StateFits st2)
+pub fits_behind : (st st' st2 : State) (nodes : List Node) (g : Gathered) (r : Result (Unit {0}) ExecError) (was now : Option (List Export)) → IsRun st st' → StateFits st' → GathersFit nodes st' g → OnEnd r (LeavesSo st' g st2) → OnEnd r (ArePut was now st'.written.files st2.written.files (exports_of g.puts.items)) → OnEnd r (StateFits st2)
 fits_behind st st' st2 nodes g (Ok u) was now run fits gathers left put = fits_left st st' st2 g (finished st st' st2 g was now run left put) fits gathers.changes
 fits_behind st st' st2 nodes g (Err (Module site code)) was now run fits gathers left put = fits_left st st' st2 g (finished st st' st2 g was now run left put) fits gathers.changes
 fits_behind st st' st2 nodes g (Err ReadFault) was now run fits gathers left put = tt

@@ -1,27 +1,36 @@
 -- How an execution ends, and what is put in place then.
-use Rattle.std.proofs.Common.{◌≡◌, inl, inr, ℕ, List, [], ◌∷◌, ◌++◌, length, Bool, Option, Some, None, Result, Ok, Err, refl, sym, ap, ◌∙◌, subst}
-use Rattle.std.specs.Prelude.{if◌then◌else◌, is_some, IsErrAnd}
+use Rattle.std.proofs.Common.{◌≡◌, inl, inr, ℕ, List, [], ◌∷◌, ◌++◌, length, Bool, true, Option, Some, None, Result, Ok, Err, sym, ap, ◌∙◌, subst}
+use Rattle.std.specs.Prelude.{◌==◌, if◌then◌else◌, not, is_some, IsErrAnd}
+use Rattle.std.specs.Cmp.{unsigned_Decides}
+use Rattle.std.specs.List.{IsDistinct}
+use Rattle.std.specs.Map.{keys_of, lookup}
 use Rattle.dx_base.specs.declared.code.Code.{Code}
 use Rattle.dx_graph.specs.Graph.{Node}
 use Rattle.dx_io.specs.Devices.{Cause}
 use Rattle.dx_io.specs.declared.fails.ExportFail.{ExportFail}
 use Rattle.dx_io.specs.declared.fails.ExportFail.TheVariants as export
 use Rattle.dx_io.proofs.Growing.{grows_by_nothing}
+use Rattle.dx_tags.specs.contracts.term.ValueTagPartialEq.TheImpl as tags
 use Rattle.dx_tags.specs.declared.term.Term.{Term}
 use Rattle.dx_tags.specs.Files.{FileMap}
-use Rattle.dx_links.specs.LinkMap.{LinkMap}
+use Rattle.dx_links.specs.LinkMap.{LinkMap, after}
 use Rattle.dx_links.specs.declared.held.Change.{Change}
-use Rattle.dx_getting.specs.Emptied.{held_terms, values_held, all_held}
+use Rattle.dx_getting.specs.Bound.{IsBound, links_with}
+use Rattle.dx_getting.specs.Emptied.{held_terms, values_held}
+use Rattle.dx_getting.specs.Terms.{BoundValues, Table, count_in}
 use Rattle.dx_getting.specs.declared.event.Event.{Event}
 use Rattle.dx_getting.specs.declared.event.Event.TheVariants as shown
 use Rattle.dx_objects.specs.Runs.{Values}
+use Rattle.dx_demand.specs.Forming.{named_terms}
 use Rattle.dx_performing.specs.Execution.{Export}
-use Rattle.dx_ending.specs.Putting.{ArePut, ArePutBefore}
-use Rattle.dx_engine.specs.Leaving.{IsLeft, EmptyIf, links_behind}
+use Rattle.dx_performing.specs.Kept.{is_full}
+use Rattle.dx_ending.specs.Putting.{ArePutBefore}
+use Rattle.dx_ending.proofs.ReadyLaws.{none_left}
+use Rattle.dx_engine.specs.Leaving.{ValuesLeft, IsLeft, LeavesSo, links_behind}
 use Rattle.dx_engine.specs.Ending.{OnEnd, OnCut, ErrorIs, SiteIs, CutsPuts, ended_so, export_error}
 use Rattle.dx_engine.specs.declared.exec_error.ExecError.{ExecError}
 use Rattle.dx_engine.specs.declared.exec_error.ExecError.TheVariants.{Module, ReadFault, WriteFault, ExportFault, Memory}
-use Rattle.dx_engine.specs.declared.prepared.NextEmpty.{NextEmpty}
+use Rattle.dx_engine.specs.declared.gathered.Gathered.{Gathered}
 use Rattle.dx_engine.specs.declared.state.State.{State}
 
 -- ---- by how it ends
@@ -119,18 +128,32 @@ uncut_put (Some s) r was now before behind all is = subst (λ (y : Result (Unit 
 
 -- ---- what is left
 
-left_so : (st st2 st3 : State) (links : LinkMap) (full : Bool) → st2.links.links ≡ links → st2.tags ≡ st.tags → st2.held ≡ st.held → st2.cache ≡ st.cache → st2.events.items ≡ st.events.items → IsLeft st2 st2.links.links full st3 → IsLeft st links full st3
-left_so st st2 st3 links full l t h c e left = record {
-  links_are = left.links_are ∙ ap (λ (y : LinkMap). if full then all_held y else y) l;
+-- where nothing is set the links stay
+pub none_after : (links : LinkMap) (changes : List Change) → (length changes == 0) ≡ true → after links changes ≡ links
+none_after links changes e = ap (after links) (none_left changes ((unsigned_Decides (length changes) 0).0 e))
+
+-- only the links, the values and how many links hold each tell whether they are bound
+pub bound_stays : (links links' : LinkMap) (bound bound' : Table) → links' ≡ links → bound'.pairs ≡ bound.pairs → bound'.counts ≡ bound.counts → IsBound links bound → IsBound links' bound'
+bound_stays links links' bound bound' l p c b = record {
+  once = subst (λ (ps : BoundValues). IsDistinct tags.ghosts.eq (keys_of ps)) (sym p) b.once;
+  counted = λ t. ap (count_in t) c ∙ b.counted t ∙ ap (links_with t) (sym l);
+  found = λ t. ap (λ (ps : BoundValues). is_some (lookup (tags.ghosts.eq t) ps)) p ∙ b.found t ∙ ap (λ (ls : LinkMap). not (links_with t ls == 0)) (sym l);
+}
+
+-- what is left of a state whose values and events are the same is left of it
+left_so : (st st2 st3 : State) (changes : List Change) (full : Bool) (links : LinkMap) → st2.bound.pairs ≡ st.bound.pairs → st2.tags ≡ st.tags → st2.held ≡ st.held → st2.cache ≡ st.cache → st2.events.items ≡ st.events.items → IsLeft st2 changes full links st3 → IsLeft st changes full links st3
+left_so st st2 st3 changes full links b t h c e left = record {
+  links_are = left.links_are;
   bound = left.bound;
-  tags = left.tags ∙ (ap (λ (y : LinkMap). if full then held_terms (length y) else st2.tags) l ∙ ap (λ (y : List Term). if full then held_terms (length links) else y) t);
-  held = left.held ∙ (ap (λ (y : LinkMap). if full then values_held y else st2.held) l ∙ ap (λ (y : Values). if full then values_held links else y) h);
+  values = subst (λ (ps : BoundValues). ValuesLeft ps changes full st3) b left.values;
+  tags = left.tags ∙ ap (λ (y : List Term). if full then held_terms (length links) else y) t;
+  held = left.held ∙ ap (λ (y : Values). if full then values_held links else y) h;
   entries = left.entries ∙ ap (λ y. if full then [] else y.entries) c;
   budget = left.budget ∙ ap (λ y. y.budget) c;
   events = left.events ∙ ap (λ (y : List Event). y ++ (if full then shown.Clear ∷ [] else [])) e;
 }
 
-pub left_behind : (st st2 st3 : State) (nodes : List Node) (e : Option (ℕ × Code)) (site : Option (List ℕ × Code)) (failed full : Bool) (changes : List Change) (empty : Option NextEmpty) → SiteIs nodes e site → failed ≡ is_some site → st2.links.links ≡ links_behind st.links.links failed changes → st2.tags ≡ st.tags → st2.held ≡ st.held → st2.cache ≡ st.cache → st2.events.items ≡ st.events.items → EmptyIf (links_behind st.links.links failed changes) full empty → (EmptyIf st2.links.links full empty → IsLeft st2 st2.links.links full st3) → IsLeft st (links_behind st.links.links (is_some e) changes) full st3
-left_behind st st2 st3 nodes e site failed full changes empty s f l t h c ev m left =
-    left_so st st2 st3 (links_behind st.links.links (is_some e) changes) full (l ∙ ap (λ (b : Bool). links_behind st.links.links b changes) (f ∙ site_tells nodes e site s)) t h c ev
-    (left (subst (λ (y : LinkMap). EmptyIf y full empty) (sym l) m))
+pub left_behind : (st st2 st3 : State) (nodes : List Node) (g : Gathered) (site : Option (List ℕ × Code)) (failed : Bool) → SiteIs nodes g.error site → failed ≡ is_some site → st2.bound.pairs ≡ st.bound.pairs → st2.tags ≡ st.tags → st2.held ≡ st.held → st2.cache ≡ st.cache → st2.events.items ≡ st.events.items → IsLeft st2 g.changes (is_full (named_terms st.tags)) (links_behind st.links.links failed g.changes) st3 → LeavesSo st g st3
+left_behind st st2 st3 nodes g site failed s f b t h c e left =
+    subst (λ (was : Bool). IsLeft st g.changes (is_full (named_terms st.tags)) (links_behind st.links.links was g.changes) st3) (f ∙ site_tells nodes g.error site s)
+    (left_so st st2 st3 g.changes (is_full (named_terms st.tags)) (links_behind st.links.links failed g.changes) b t h c e left)

@@ -2,6 +2,7 @@ pub mod Coursing
 pub mod NextEffect
 pub mod Begun
 pub mod FitsBehind
+pub mod ValuesBehind
 pub mod SoundBehind
 pub mod Finished
 pub mod LeftBehind

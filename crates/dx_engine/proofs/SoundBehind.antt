@@ -8,6 +8,7 @@ use Rattle.dx_base.specs.declared.code.Code.{Code}
 use Rattle.dx_cache.proofs.Places.{cases}
 use Rattle.dx_cache.specs.declared.entry.Entry.{Entry}
 use Rattle.dx_objects.specs.Runs.{Values}
+use Rattle.dx_objects.specs.Values.{value_at}
 use Rattle.dx_graph.specs.Graph as plain
 use Rattle.dx_graph.specs.Graph.{Node, node_at, MayTake, AreNodes, IsGraph}
 use Rattle.dx_graph.specs.Unfolding.{call_at, tree_of, trees_of, calls_of, unfolded}
@@ -18,11 +19,13 @@ use Rattle.dx_macros.specs.Tree.{CallTree}
 use Rattle.dx_tags.specs.declared.term.Term.{Term}
 use Rattle.dx_tags.specs.Closed.{heads_of, GoesOn}
 use Rattle.dx_tags.specs.Files.{FileMap}
-use Rattle.dx_links.specs.LinkMap.{LinkMap, after}
+use Rattle.dx_links.specs.Denotes.{Around}
+use Rattle.dx_links.specs.LinkMap.{LinkMap, Linked}
 use Rattle.dx_machine.specs.Machine.{Cleared, tasks_of}
 use Rattle.dx_machine.specs.Sound.{IsSound}
 use Rattle.dx_machine.proofs.Grows.{tasks-append}
 use Rattle.dx_getting.specs.Emptied.{held_terms, values_held, all_held}
+use Rattle.dx_getting.specs.Bound.{IsBound, AreLinks}
 use Rattle.dx_getting.specs.Terms.{BoundValues}
 use Rattle.dx_getting.specs.Told.{Told, Adds}
 use Rattle.dx_getting.specs.declared.event.Event.{Event as ShownEvent}
@@ -30,29 +33,33 @@ use Rattle.dx_getting.specs.declared.event.Event.TheVariants as shown
 use Rattle.dx_getting.specs.Steps.{AreCalls}
 use Rattle.dx_getting.specs.Stands.{World, EntriesRight, named, shown_event, world}
 use Rattle.dx_demand.specs.Terms.{AreExact}
-use Rattle.dx_demand.specs.Picked.{LinksFit}
 use Rattle.dx_demand.specs.Forming.{named_terms}
 use Rattle.dx_demand.proofs.PortSteps.{nodes_of}
 use Rattle.dx_performing.specs.Execution.{execution, after_exports, behind}
 use Rattle.dx_performing.specs.Kept.{Kept, after_set_terms, current, is_full, emptied}
 use Rattle.dx_performing.specs.Course.{Fixed, At, world_of, around_of, begins, committed, clearing, unless_full, ended, executed}
 use Rattle.dx_performing.specs.Meant.{LinksRight}
+use Rattle.dx_performing.specs.SoundLinks.{SetsRight}
 use Rattle.dx_performing.specs.SoundEntries.{IsLawfulTree, IsLawfulCall, AreLawfulTrees, AreLawfulCalls}
 use Rattle.dx_performing.proofs.EntriesSound.{entries_stay_sound}
 use Rattle.dx_performing.proofs.Executed.{leaves_what_is_meant}
-use Rattle.dx_performing.proofs.LinksSound.{links_stay_right}
-use Rattle.dx_looking.specs.Setting.{IsBound, links_of}
+use Rattle.dx_performing.proofs.LinksSound.{sets_are_right, links_stay_right}
+use Rattle.dx_looking.specs.Looking.{AllFit}
+use Rattle.dx_looking.specs.Setting.{links_of}
 use Rattle.dx_looking.proofs.Growth.{links_same}
 use Rattle.dx_ending.specs.Emptying.{kept_empty}
+use Rattle.dx_ending.specs.InPlace.{ComeFrom}
 use Rattle.dx_ending.proofs.SetLaws.{sets_alike}
 use Rattle.dx_ending.proofs.EmptyLaws.{empties_alike}
 use Rattle.dx_engine.specs.Gathering.{gathers, error_of}
 use Rattle.dx_engine.specs.Running.{ChangesFit}
 use Rattle.dx_engine.specs.Keeping.{StateFits, kept_of, setting_of, IsSoundState}
 use Rattle.dx_engine.specs.Beginning.{EffectsAre, course_of}
+use Rattle.dx_engine.specs.Leaving.{links_behind, ValuesLeft}
 use Rattle.dx_engine.specs.declared.gathered.Gathered.{Gathered}
 use Rattle.dx_engine.specs.declared.state.State.{State}
-use Rattle.dx_engine.proofs.FitsBehind.{EachFits, each_held, each_fits, after_each, held_fits, held_are_exact}
+use Rattle.dx_engine.proofs.FitsBehind.{behind_fits, held_fits, held_are_exact}
+use Rattle.dx_engine.proofs.ValuesBehind.{values_behind}
 
 -- ---- the calls of a graph have lawful attributes
 
@@ -79,55 +86,47 @@ lawful_calls g h = effects_lawful g.nodes (nodes_of g h) g.effects (λ k d lt. �
 
 -- ---- what is put in place behind the effects of an execution
 
-abbrev pub links_behind : State → Gathered → LinkMap
-links_behind st g = if is_some g.error then st.links.links else after st.links.links g.changes
+abbrev pub links_left : State → Gathered → LinkMap
+links_left st g = links_behind st.links.links (is_some g.error) g.changes
 
-abbrev pub files_behind : State → Gathered → FileMap
-files_behind st g = after_exports st.written.files (gathers g).exports
+abbrev pub files_left : State → Gathered → FileMap
+files_left st g = after_exports st.written.files (gathers g).exports
 
 -- without an emptying: from st on, whose effects left st'
 pub record IsCarried (st st' : State) (g : Gathered) (st2 : State) : Type 0 where
   pub tags : st2.tags ≡ st'.tags
-  pub links : st2.links.links ≡ links_behind st g
+  pub links : st2.links.links ≡ links_left st g
   pub held : st2.held ≡ st.held
   pub entries : st2.cache.entries ≡ st'.cache.entries
-  pub written : st2.written.files ≡ files_behind st g
+  pub written : st2.written.files ≡ files_left st g
 
 -- with an emptying
 pub record IsEmptied (st : State) (g : Gathered) (st2 : State) : Type 0 where
-  pub tags : st2.tags ≡ held_terms (length (links_behind st g))
-  pub links : st2.links.links ≡ all_held (links_behind st g)
-  pub held : st2.held ≡ values_held (links_behind st g)
+  pub tags : st2.tags ≡ held_terms (length (links_left st g))
+  pub links : st2.links.links ≡ all_held (links_left st g)
+  pub held : st2.held ≡ values_held (links_left st g)
   pub entries : st2.cache.entries ≡ []
-  pub written : st2.written.files ≡ files_behind st g
+  pub written : st2.written.files ≡ files_left st g
 
 -- ---- it fits
 
-behind_each : (terms : List Term) (st : State) (g : Gathered) → EachFits terms st.links.links → ChangesFit terms g.changes → EachFits terms (links_behind st g)
-behind_each terms st g f c = by (is_some g.error)
-  where
-    by : (b : Bool) → EachFits terms (if b then st.links.links else after st.links.links g.changes)
-    by true = f
-    by false = after_each terms st.links.links g.changes f c
-
-pub carried_fits : (st st' st2 : State) (g : Gathered) → StateFits st' → st'.links ≡ st.links → ChangesFit st'.tags g.changes → IsCarried st st' g st2 → IsBound st2.links.links st2.bound.pairs → StateFits st2
+pub carried_fits : (st st' st2 : State) (g : Gathered) → StateFits st' → st'.links ≡ st.links → ChangesFit st'.tags g.changes → IsCarried st st' g st2 → IsBound st2.links.links st2.bound → StateFits st2
 carried_fits st st' st2 g f same c is bound =
-    let each : EachFits st'.tags st.links.links = subst (λ (ls : LinkMap). EachFits st'.tags ls) (ap (λ l. l.links) same) (each_fits st'.tags st'.links.links st'.bound.pairs f.links f.bound) in
-    let fits : LinksFit st'.tags (links_behind st g) = each_held st'.tags (links_behind st g) (behind_each st'.tags st g each c) in
+    let links : AllFit st'.tags st.links.links = subst (λ (l : Linked). AllFit st'.tags l.links) same f.links in
     let calls : AreCalls st'.tags st2.cache.entries = subst (AreCalls st'.tags) (sym is.entries) f.entries in
     record {
       exact = subst AreExact (sym is.tags) f.exact;
-      links = subst (λ ts. LinksFit ts st2.links.links) (sym is.tags) (subst (LinksFit st'.tags) (sym is.links) fits);
+      links = subst (λ ts. AllFit ts st2.links.links) (sym is.tags) (subst (AllFit st'.tags) (sym is.links) (behind_fits st'.tags st.links.links (is_some g.error) g.changes links c));
       bound = bound;
       entries = subst (λ ts. AreCalls ts st2.cache.entries) (sym is.tags) calls;
     }
 
-pub emptied_fits : (st st2 : State) (g : Gathered) → IsEmptied st g st2 → IsBound st2.links.links st2.bound.pairs → StateFits st2
+pub emptied_fits : (st st2 : State) (g : Gathered) → IsEmptied st g st2 → IsBound st2.links.links st2.bound → StateFits st2
 emptied_fits st st2 g is bound =
-    let links = links_behind st g in
+    let links = links_left st g in
     record {
       exact = subst AreExact (sym is.tags) (held_are_exact (length links));
-      links = subst (λ ts. LinksFit ts st2.links.links) (sym is.tags) (subst (LinksFit (held_terms (length links))) (sym is.links) (held_fits links));
+      links = subst (λ ts. AllFit ts st2.links.links) (sym is.tags) (subst (AllFit (held_terms (length links))) (sym is.links) (held_fits links));
       bound = bound;
       entries = subst (AreCalls st2.tags) (sym is.entries) tt;
     }
@@ -152,22 +151,23 @@ module _ (x : Fixed) (st st' st2 : State) (effects : List CallTree) (nodes : Lis
   abbrev done : Kept
   done = committed (kept_of st) (execution (world_of x (kept_of st)) effects) (course_of x st effects)
 
-  links_there : (b : Bool) → links_of (heads_of st'.tags) (if b then st.links.links else after st.links.links g.changes) ≡ (if b then (kept_of st).links else after_set_terms (kept_of st).links (course_of x st effects).sets)
-  links_there true = links_same st.tags st'.tags on st.links.links st.bound.pairs fits.links fits.bound
-  links_there false =
-      sets_alike (heads_of st'.tags) st.links.links g.changes
-      ∙ ap₂ after_set_terms (links_same st.tags st'.tags on st.links.links st.bound.pairs fits.links fits.bound) are.sets
+  links_grow : links_of (heads_of st'.tags) st.links.links ≡ (kept_of st).links
+  links_grow = links_same st.tags st'.tags on st.links.links fits.links
+
+  links_there : (b : Bool) → links_of (heads_of st'.tags) (links_behind st.links.links b g.changes) ≡ (if b then (kept_of st).links else after_set_terms (kept_of st).links (course_of x st effects).sets)
+  links_there true = links_grow
+  links_there false = sets_alike (heads_of st'.tags) st.links.links g.changes ∙ ap₂ after_set_terms links_grow are.sets
 
   error_there : is_some g.error ≡ is_some (execution (world_of x (kept_of st)) effects).error
   error_there = sym (some_error nodes g.error) ∙ ap is_some are.error
 
-  links_are : links_of (heads_of st'.tags) (links_behind st g) ≡ done.links
+  links_are : links_of (heads_of st'.tags) (links_left st g) ≡ done.links
   links_are = links_there (is_some g.error) ∙ ap (λ (b : Bool). if b then (kept_of st).links else after_set_terms (kept_of st).links (course_of x st effects).sets) error_there
 
-  files_are : files_behind st g ≡ done.written
+  files_are : files_left st g ≡ done.written
   files_are = ap (after_exports st.written.files) are.exports
 
-  pub kept_behind : kept_with st' (links_behind st g) (files_behind st g) st.held ≡ done
+  pub kept_behind : kept_with st' (links_left st g) (files_left st g) st.held ≡ done
   kept_behind = λ i. record {
     entries = are.entries i;
     terms = are.terms i;
@@ -185,7 +185,7 @@ module _ (x : Fixed) (st st' st2 : State) (effects : List CallTree) (nodes : Lis
   emptied_so : is_full (named_terms st'.tags) ≡ true → unless_full done ≡ emptied done
   emptied_so full = ap (λ (b : Bool). if b then emptied done else done) (full_there true full)
 
-  carried_is : IsCarried st st' g st2 → kept_of st2 ≡ kept_with st' (links_behind st g) (files_behind st g) st.held
+  carried_is : IsCarried st st' g st2 → kept_of st2 ≡ kept_with st' (links_left st g) (files_left st g) st.held
   carried_is is = λ i. record {
     entries = map (named (heads_of (is.tags i))) (is.entries i);
     terms = named_terms (is.tags i);
@@ -194,7 +194,7 @@ module _ (x : Fixed) (st st' st2 : State) (effects : List CallTree) (nodes : Lis
     written = is.written i;
   }
 
-  emptied_is : IsEmptied st g st2 → kept_of st2 ≡ kept_empty done (links_behind st g)
+  emptied_is : IsEmptied st g st2 → kept_of st2 ≡ kept_empty done (links_left st g)
   emptied_is is = λ i. record {
     entries = map (named (heads_of (is.tags i))) (is.entries i);
     terms = named_terms (is.tags i);
@@ -207,7 +207,7 @@ module _ (x : Fixed) (st st' st2 : State) (effects : List CallTree) (nodes : Lis
   kept_carried full is = carried_is is ∙ kept_behind ∙ sym (carried_so full)
 
   pub kept_emptied : is_full (named_terms st'.tags) ≡ true → IsEmptied st g st2 → kept_of st2 ≡ (executed x effects (kept_of st)).kept
-  kept_emptied full is = emptied_is is ∙ sym (empties_alike (heads_of st'.tags) (links_behind st g) done (sym links_are)) ∙ sym (emptied_so full)
+  kept_emptied full is = emptied_is is ∙ sym (empties_alike (heads_of st'.tags) (links_left st g) done (sym links_are)) ∙ sym (emptied_so full)
 
 -- ---- it is sound
 
@@ -228,27 +228,49 @@ right_carried st st' st2 g files same is right =
 pub right_emptied : (st st2 : State) (g : Gathered) (files : World) → IsEmptied st g st2 → EntriesRight (setting_of st2) files st2.cache.entries
 right_emptied st st2 g files is = subst (λ (es : List Entry). EntriesRight (setting_of st2) files es) (sym is.entries) tt
 
+pub around_same : (x : Fixed) (k k' : Kept) → k'.held ≡ k.held → around_of x k' ≡ around_of x k
+around_same x k k' e = λ i. record { answer = x.answer; file = x.file; held = value_at (e i) }
+
+-- the links of what the machine keeps
+right_behind : (x : Fixed) (st st2 : State) (effects : List CallTree) → IsSoundState x st → kept_of st2 ≡ (executed x effects (kept_of st)).kept → LinksRight (around_of x (kept_of st2)) (kept_of st2).links
+right_behind x st st2 effects sound kept = subst (λ (k : Kept). LinksRight (around_of x k) k.links) (sym kept) (links_stay_right x (kept_of st) effects sound.links)
+
 -- of what the machine keeps
-pub sound_behind : (x : Fixed) (st st2 : State) (effects : List CallTree) → IsSoundState x st → AreLawfulCalls effects → st2.cache.budget ≡ st.cache.budget → kept_of st2 ≡ (executed x effects (kept_of st)).kept → EntriesRight (setting_of st2) (world x.answer x.file) st2.cache.entries → IsSoundState x st2
-sound_behind x st st2 effects sound lawful budget kept right = record {
+pub sound_behind : (x : Fixed) (st st2 : State) (effects : List CallTree) → IsSoundState x st → AreLawfulCalls effects → st2.cache.budget ≡ st.cache.budget → kept_of st2 ≡ (executed x effects (kept_of st)).kept → AreLinks st2.links.links st2.bound.pairs → EntriesRight (setting_of st2) (world x.answer x.file) st2.cache.entries → IsSoundState x st2
+sound_behind x st st2 effects sound lawful budget kept values right = record {
   budget = sound.budget ∙ sym budget;
-  links = subst (λ (k : Kept). LinksRight (around_of x k) k.links) (sym kept) (links_stay_right x (kept_of st) effects sound.links);
+  links = right_behind x st st2 effects sound kept;
+  values = values;
   entries = right;
   sound = subst (λ (k : Kept). IsSound (around_of x k) x.budget (begins k).state) (sym kept) (entries_stay_sound x (kept_of st) effects lawful sound.sound);
 }
 
 -- ---- all of it
 
-module _ (x : Fixed) (st st' st2 : State) (effects : List CallTree) (nodes : List Node) (base : Told) (before : Option (List ℕ)) (g : Gathered) (now : Told) (written : Option (List ℕ)) (are : EffectsAre x st effects nodes base before g st' now written) (fits : StateFits st) (on : GoesOn st.tags st'.tags) (sound : IsSoundState x st) (lawful : AreLawfulCalls effects) (budget : st2.cache.budget ≡ st.cache.budget) where
-  pub sound_carried : is_full (named_terms st'.tags) ≡ false → st'.held ≡ st.held → IsCarried st st' g st2 → IsSoundState x st2
-  sound_carried full held is =
-      sound_behind x st st2 effects sound lawful budget (kept_carried x st st' st2 effects nodes base before g now written are fits on full is)
-      (right_carried st st' st2 g (world x.answer x.file) held is are.right)
+module _ (x : Fixed) (st st' st2 : State) (effects : List CallTree) (nodes : List Node) (base : Told) (before : Option (List ℕ)) (g : Gathered) (now : Told) (written : Option (List ℕ)) (are : EffectsAre x st effects nodes base before g st' now written) (fits : StateFits st) (on : GoesOn st.tags st'.tags) (sound : IsSoundState x st) (lawful : AreLawfulCalls effects) (budget : st2.cache.budget ≡ st.cache.budget) (bound : IsBound st2.links.links st2.bound) where
+  -- without an emptying the values are of links before, or of what was set
+  values_carried : is_full (named_terms st'.tags) ≡ false → IsCarried st st' g st2 → ComeFrom g.changes st.bound.pairs st2.bound.pairs → AreLinks st2.links.links st2.bound.pairs
+  values_carried full is from =
+      let k = kept_of st in
+      let a = around_of x k in
+      let right : LinksRight a (links_of (heads_of st2.tags) st2.links.links) =
+      subst (λ (b : Around). LinksRight b (kept_of st2).links) (around_same x k (kept_of st2) is.held)
+      (right_behind x st st2 effects sound (kept_carried x st st' st2 effects nodes base before g now written are fits on full is)) in
+      values_behind a (heads_of st'.tags) st.links.links st2.links.links g.changes st.bound.pairs st2.bound sound.values
+      (subst (LinksRight a) (sym (links_grow x st st' st2 effects nodes base before g now written are fits on)) sound.links)
+      (subst (SetsRight a) (sym are.sets) (sets_are_right x k effects sound.links))
+      bound from
+      (subst (λ (ts : List Term). LinksRight a (links_of (heads_of ts) st2.links.links)) is.tags right)
 
-  pub sound_emptied : is_full (named_terms st'.tags) ≡ true → IsEmptied st g st2 → IsSoundState x st2
-  sound_emptied full is =
+  pub sound_carried : is_full (named_terms st'.tags) ≡ false → st'.held ≡ st.held → IsCarried st st' g st2 → ComeFrom g.changes st.bound.pairs st2.bound.pairs → IsSoundState x st2
+  sound_carried full held is from =
+      sound_behind x st st2 effects sound lawful budget (kept_carried x st st' st2 effects nodes base before g now written are fits on full is)
+      (values_carried full is from) (right_carried st st' st2 g (world x.answer x.file) held is are.right)
+
+  pub sound_emptied : is_full (named_terms st'.tags) ≡ true → IsEmptied st g st2 → AreLinks st2.links.links st2.bound.pairs → IsSoundState x st2
+  sound_emptied full is values =
       sound_behind x st st2 effects sound lawful budget (kept_emptied x st st' st2 effects nodes base before g now written are fits on full is)
-      (right_emptied st st2 g (world x.answer x.file) is)
+      values (right_emptied st st2 g (world x.answer x.file) is)
 
 -- ---- its events and runs
 
@@ -291,12 +313,12 @@ current_behind x st st2 effects sound kept = ap current kept ∙ leaves_what_is_
 -- ---- all of it, where it may end with an emptying: the links behind it, and what there is then
 
 module _ (st st' st2 : State) (g : Gathered) (links : LinkMap) (full : Bool)
-    (links_so : links ≡ links_behind st g)
+    (links_so : links ≡ links_left st g)
     (tags_are : st2.tags ≡ (if full then held_terms (length links) else st'.tags))
     (links_are : st2.links.links ≡ (if full then all_held links else links))
     (held_are : st2.held ≡ (if full then values_held links else st'.held))
     (entries_are : st2.cache.entries ≡ (if full then [] else st'.cache.entries))
-    (written_is : st2.written.files ≡ files_behind st g)
+    (written_is : st2.written.files ≡ files_left st g)
     (held_same : st'.held ≡ st.held) where
   is_carried : full ≡ false → IsCarried st st' g st2
   is_carried off = record {
@@ -316,7 +338,7 @@ module _ (st st' st2 : State) (g : Gathered) (links : LinkMap) (full : Bool)
     written = written_is;
   }
 
-  pub fits_behind : StateFits st' → st'.links ≡ st.links → ChangesFit st'.tags g.changes → IsBound st2.links.links st2.bound.pairs → StateFits st2
+  pub fits_behind : StateFits st' → st'.links ≡ st.links → ChangesFit st'.tags g.changes → IsBound st2.links.links st2.bound → StateFits st2
   fits_behind f same c bound = cases full
       (λ so. emptied_fits st st2 g (is_emptied so) bound)
       (λ off. carried_fits st st' st2 g f same c (is_carried off) bound)
@@ -327,7 +349,10 @@ module _ (st st' st2 : State) (g : Gathered) (links : LinkMap) (full : Bool)
         (λ so. kept_emptied x st st' st2 effects nodes base before g now written are fits on (full_is ∙ so) (is_emptied so))
         (λ off. kept_carried x st st' st2 effects nodes base before g now written are fits on (full_is ∙ off) (is_carried off))
 
-    pub sound_there : IsSoundState x st → AreLawfulCalls effects → st2.cache.budget ≡ st.cache.budget → IsSoundState x st2
-    sound_there sound lawful budget = cases full
-        (λ so. sound_emptied x st st' st2 effects nodes base before g now written are fits on sound lawful budget (full_is ∙ so) (is_emptied so))
-        (λ off. sound_carried x st st' st2 effects nodes base before g now written are fits on sound lawful budget (full_is ∙ off) held_same (is_carried off))
+    pub sound_there : IsSoundState x st → AreLawfulCalls effects → st2.cache.budget ≡ st.cache.budget → IsBound st2.links.links st2.bound → ValuesLeft st.bound.pairs g.changes full st2 → IsSoundState x st2
+    sound_there sound lawful budget bound values = cases full
+        (λ so. sound_emptied x st st' st2 effects nodes base before g now written are fits on sound lawful budget bound (full_is ∙ so) (is_emptied so) (values_at true so))
+        (λ off. sound_carried x st st' st2 effects nodes base before g now written are fits on sound lawful budget bound (full_is ∙ off) held_same (is_carried off) (values_at false off))
+      where
+        values_at : (b : Bool) → full ≡ b → ValuesLeft st.bound.pairs g.changes b st2
+        values_at b e = subst (λ (b : Bool). ValuesLeft st.bound.pairs g.changes b st2) e values

@@ -10,6 +10,7 @@ pub record IsCutFrom (old new : State) : Type 0 where
   pub goes_on : GoesOn old.tags new.tags
   pub links : new.links.links ≡ old.links.links
   pub bound : new.bound.pairs ≡ old.bound.pairs
+  pub counts : new.bound.counts ≡ old.bound.counts
   pub held : new.held ≡ old.held
   pub budget : new.cache.budget ≡ old.cache.budget
 

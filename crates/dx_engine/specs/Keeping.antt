@@ -2,22 +2,23 @@
 use Rattle.std.specs.Prelude.{◌≡◌, [], map}
 use Rattle.dx_tags.specs.Closed.{heads_of}
 use Rattle.dx_demand.specs.Terms.{AreExact}
-use Rattle.dx_demand.specs.Picked.{LinksFit}
 use Rattle.dx_demand.specs.Forming.{named_terms}
 use Rattle.dx_machine.specs.Sound.{IsSound}
+use Rattle.dx_getting.specs.Bound.{IsBound, AreLinks}
 use Rattle.dx_getting.specs.Stands.{Setting, EntriesRight, named, world}
 use Rattle.dx_getting.specs.Steps.{AreCalls}
 use Rattle.dx_performing.specs.Kept.{Kept}
 use Rattle.dx_performing.specs.Course.{Fixed, around_of, begins}
 use Rattle.dx_performing.specs.Meant.{LinksRight}
-use Rattle.dx_looking.specs.Setting.{IsBound, links_of}
+use Rattle.dx_looking.specs.Looking.{AllFit}
+use Rattle.dx_looking.specs.Setting.{links_of}
 use Rattle.dx_engine.specs.declared.state.State.{State}
 
 -- the terms, links and entries fit together
 pub record StateFits (st : State) : Type 0 where
   pub exact : AreExact st.tags
-  pub links : LinksFit st.tags st.links.links
-  pub bound : IsBound st.links.links st.bound.pairs
+  pub links : AllFit st.tags st.links.links
+  pub bound : IsBound st.links.links st.bound
   pub entries : AreCalls st.tags st.cache.entries
 
 -- it is this to the machine
@@ -34,10 +35,11 @@ kept_of st = record {
 abbrev pub setting_of : State → Setting
 setting_of st = record { terms = st.tags; links = st.bound.pairs; held = st.held; formed = [] }
 
--- for what modules answer, the files and the budget: each link's value is what its term denotes, each entry has the results that
--- its call denotes, and the entries are sound
+-- for what modules answer, the files and the budget: each link's value is what its term denotes, what is found by a term is the
+-- value of a link, each entry has the results that its call denotes, and the entries are sound
 pub record IsSoundState (x : Fixed) (st : State) : Type 0 where
   pub budget : x.budget ≡ st.cache.budget
   pub links : LinksRight (around_of x (kept_of st)) (kept_of st).links
+  pub values : AreLinks st.links.links st.bound.pairs
   pub entries : EntriesRight (setting_of st) (world x.answer x.file) st.cache.entries
   pub sound : IsSound (around_of x (kept_of st)) x.budget (begins (kept_of st)).state

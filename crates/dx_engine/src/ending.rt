@@ -1,20 +1,19 @@
 //! The end of an execution: its puts, and what is kept behind it.
-ghost use Rattle.std.specs.Prelude.{◌≡◌, ◌<◌, List, Bool, is_some, IfOk, Ok, Err, vec_len, vec_capacity};
+ghost use Rattle.std.specs.Prelude.{◌≡◌, ◌<◌, List, Bool, IfOk, Ok, Err, vec_len, vec_capacity};
 ghost use Rattle.dx_io.specs.Devices.{Rose, Cause};
 ghost use Rattle.dx_graph.specs.GraphView.{graph_of};
 ghost use Rattle.dx_links.specs.declared.held.Change.{Change};
-ghost use Rattle.dx_demand.specs.Forming.{named_terms};
-ghost use Rattle.dx_performing.specs.Kept.{is_full};
+ghost use Rattle.dx_links.specs.LinkMap.{LinkMap};
+ghost use Rattle.dx_getting.specs.Bound.{IsBound};
 ghost use Rattle.dx_ending.specs.Putting.{ArePut, exports_of};
-ghost use Rattle.dx_looking.specs.Setting.{IsBound};
 ghost use Rattle.dx_engine.specs.Beginning.{NodeFits};
-ghost use Rattle.dx_engine.specs.Leaving.{links_behind, NextSo, NextReady, EmptyIf, IsLeft};
+ghost use Rattle.dx_engine.specs.Leaving.{PreparedSo, PreparedReady, IsLeft, LeavesSo};
 ghost use Rattle.dx_engine.specs.Ending.{CutsPuts, OnEnd, OnCut, ErrorIs, SiteIs, ended_so};
 ghost use Rattle.dx_engine.specs.declared.exec_error.ExecError.TheVariants.{ReadFault, WriteFault, ExportFault};
 
 use crate::exec_error::ExecError;
 use crate::gathered::Gathered;
-use crate::prepared::{Next, NextEmpty, prepare};
+use crate::prepared::{Prepared, prepare};
 use crate::state::State;
 use dx_base::{Bytes, Code};
 use dx_ending::{change_in_place, make_puts};
@@ -49,38 +48,28 @@ fn ended(site: Option<(Bytes, Code)>) -> Result<(), ExecError>
 }
 
 impl State {
-    // Puts the links after the execution in place, where they change.
-    fn put_links(&mut self, next: Option<Next>)
-        requires ready { NextReady self.old.links self.old.bound next }
-        ensures links { (full failed : Bool) (changes : List Change) → IsBound self.old.links.links self.old.bound.pairs → NextSo self.old.links.links full failed changes next → (self.new.links.links ≡ links_behind self.old.links.links failed changes) × IsBound self.new.links.links self.new.bound.pairs }
-        ensures same { (self.new.tags ≡ self.old.tags) × (self.new.held ≡ self.old.held) × (self.new.cache ≡ self.old.cache) × (self.new.events ≡ self.old.events) × (self.new.written ≡ self.old.written) }
-    {
-        match next {
-            None => {}
-            Some(Next::New(new)) => {
-                self.links = new.links;
-                self.bound = new.bound;
-            }
-            Some(Next::Same(ready)) => change_in_place(&mut self.links, &mut self.bound, ready),
-        }
-    }
-
-    // Empties what is kept, where that is prepared. There is room for an event.
-    fn put_empty(&mut self, next: Option<NextEmpty>)
+    // Puts in place what was prepared. There is room for an event.
+    fn keep(&mut self, prepared: Prepared)
+        requires bound { IsBound self.old.links.links self.old.bound }
+        requires ready { PreparedReady self.old.links self.old.bound prepared }
         requires room { vec_len self.old.events < vec_capacity self.old.events }
-        ensures left { (full : Bool) → IsBound self.old.links.links self.old.bound.pairs → EmptyIf self.old.links.links full next → IsLeft self.old self.old.links.links full self.new }
+        ensures left { (changes : List Change) (full : Bool) (behind : LinkMap) → PreparedSo self.old.links.links changes full behind prepared → IsLeft self.old changes full behind self.new }
         ensures written { self.new.written ≡ self.old.written }
     {
-        if let Some(next) = next {
-            empty(
-                next.emptied,
-                &mut self.links,
-                &mut self.tags,
-                &mut self.held,
-                &mut self.cache,
-                &mut self.events,
-            );
-            self.bound = next.bound;
+        match prepared {
+            Prepared::Kept => {}
+            Prepared::Changed(ready) => change_in_place(&mut self.links, &mut self.bound, ready),
+            Prepared::Emptied(next) => {
+                empty(
+                    next.emptied,
+                    &mut self.links,
+                    &mut self.tags,
+                    &mut self.held,
+                    &mut self.cache,
+                    &mut self.events,
+                );
+                self.bound = next.bound;
+            }
         }
     }
 
@@ -92,14 +81,14 @@ impl State {
         gathered: Gathered,
         exports: &mut X,
     ) -> Result<(), ExecError>
-        requires bound { IsBound self.old.links.links self.old.bound.pairs }
+        requires bound { IsBound self.old.links.links self.old.bound }
         requires error { NodeFits (graph_of g.now).nodes gathered.error }
-        ensures left { OnEnd result (IsLeft self.old (links_behind self.old.links.links (is_some gathered.error) gathered.changes) (is_full (named_terms self.old.tags)) self.new) }
+        ensures left { OnEnd result (LeavesSo self.old gathered self.new) }
         ensures put { OnEnd result (ArePut (X.puts exports.old) (X.puts exports.new) self.old.written.files self.new.written.files (exports_of gathered.puts.items)) }
         ensures error { ErrorIs (graph_of g.now).nodes gathered.error result }
         ensures cut { CutsPuts result (X.puts exports.old) (X.puts exports.new) self.old.written.files self.new.written.files (exports_of gathered.puts.items) }
         ensures links { OnCut result (self.new.links.links ≡ self.old.links.links) }
-        ensures bound { OnCut result (self.new.bound.pairs ≡ self.old.bound.pairs) }
+        ensures bound { OnCut result ((self.new.bound.pairs ≡ self.old.bound.pairs) × (self.new.bound.counts ≡ self.old.bound.counts)) }
         ensures same { OnCut result ((self.new.tags ≡ self.old.tags) × (self.new.held ≡ self.old.held) × (self.new.cache ≡ self.old.cache)) }
         ensures faults { ¬ (result ≡ Err ReadFault) × ¬ (result ≡ Err WriteFault) }
         ensures cause { Cause ExportFault (X.faults exports.old) (X.faults exports.new) result }
@@ -117,8 +106,7 @@ impl State {
         self.written.reserve(gathered.puts.len())?;
         self.events.reserve(1)?;
         make_puts(alloc, gathered.puts, exports, &mut self.written)?;
-        self.put_links(prepared.links);
-        self.put_empty(prepared.empty);
+        self.keep(prepared);
         ended(site)
     }
 }

@@ -1,4 +1,5 @@
 pub mod All
+pub mod Bound
 pub mod Calls
 pub mod Emptied
 pub mod Stack

@@ -1,9 +1,9 @@
 //! The values of links by their terms.
-ghost use Rattle.std.specs.Prelude.{◌≡◌, ◌<◌, ◌≤◌, ◌+◌, ◌++◌, ◌∷◌, [], Some, None, MatchOption, OnOk, if◌then◌else◌};
+ghost use Rattle.std.specs.Prelude.{◌≡◌, ◌<◌, ◌≤◌, ◌+◌, ◌-◌, ◌==◌, ◌&&◌, [], Some, None, MatchOption, OnOk, if◌then◌else◌};
 ghost use Rattle.std.specs.List.{IsDistinct};
 ghost use Rattle.std.specs.Map.{keys_of, lookup};
 ghost use Rattle.dx_tags.specs.contracts.term.ValueTagPartialEq.TheImpl as tags;
-ghost use Rattle.dx_getting.specs.Terms.{bound_values};
+ghost use Rattle.dx_getting.specs.Terms.{count_in};
 
 use dx_objects::Object;
 use dx_tags::ValueTag;
@@ -12,28 +12,37 @@ use std::alloc::{AllocError, Global};
 use std::marker::Model;
 use std::rc::Rc;
 
-/// What links hold, by the tags of their terms, so that a term is looked up in one step, however many links there are.
-/// Contracts see a list of pairs in which no tag stands twice, with the room for more terms.
+// A value of links, and how many of them hold it.
+#[derive(Drop)]
+struct Binding {
+    value: Rc<Object>,
+    links: usize,
+}
+
+/// What links hold, by the tags of their terms, so that a term is looked up in one step, however many links there are, and so
+/// is whether the last link of a term goes. Contracts see a list of pairs in which no tag stands twice, how many links hold
+/// each, and the room for more terms.
 #[derive(Drop)]
 pub struct Bound {
-    table: IndexMap<ValueTag, Rc<Object>>,
+    table: IndexMap<ValueTag, Binding>,
 }
 
 impl Model for Bound {
     ghost use Rattle.indexmap.specs.IndexMap.{spare};
-    ghost use Rattle.dx_getting.specs.Terms.{Table, bound_values, coded_table};
+    ghost use Rattle.dx_getting.specs.Terms.{Table, bound_values, bound_counts, coded_table};
 
     ghost Value = { Table };
 
     ghost coded = { coded_table };
 
-    ghost view = { λ b. record { pairs = bound_values b.table.entries; room = spare b.table } };
+    ghost view = { λ b. record { pairs = bound_values b.table.entries; counts = bound_counts b.table.entries; room = spare b.table } };
 }
 
 impl Bound {
     /// No links, which takes no memory.
     pub fn new(alloc: Global) -> Bound
-        ensures { result.pairs ≡ [] }
+        ensures pairs { result.pairs ≡ [] }
+        ensures counts { result.counts ≡ [] }
     {
         Bound {
             table: IndexMap::new(alloc),
@@ -44,46 +53,83 @@ impl Bound {
     pub fn get(&self, tag: ValueTag) -> Option<&Rc<Object>>
         ensures { MatchOption result (lookup (tags.ghosts.eq tag) self.now.pairs ≡ None) (λ o. lookup (tags.ghosts.eq tag) self.now.pairs ≡ Some o.now.value) }
     {
-        self.table.get(&tag)
+        match self.table.get(&tag) {
+            Some(binding) => Some(&binding.value),
+            None => None,
+        }
     }
 
-    /// One value more, under a tag that has none. Where memory runs out the others stay.
-    pub fn put(&mut self, tag: ValueTag, value: Rc<Object>) -> Result<(), AllocError>
-        requires absent { lookup (tags.ghosts.eq tag) self.old.pairs ≡ None }
-        ensures { OnOk result (self.new.pairs ≡ self.old.pairs ++ (tag, value.value) ∷ []) }
+    // How many links hold the value of a term.
+    fn count(&self, tag: ValueTag) -> usize
+        ensures { result ≡ count_in tag self.now.counts }
     {
-        self.table.insert(tag, value)?;
-        Ok(())
+        match self.table.get(&tag) {
+            Some(binding) => binding.links,
+            None => 0,
+        }
     }
 
     /// Room for so many more terms. Where memory runs out the values stay.
     pub fn reserve(&mut self, terms: usize) -> Result<(), AllocError>
         ensures pairs { self.new.pairs ≡ self.old.pairs }
+        ensures counts { self.new.counts ≡ self.old.counts }
         ensures room { OnOk result (terms ≤ self.new.room) }
         ensures kept { self.old.room ≤ self.new.room }
     {
         self.table.reserve(terms)
     }
 
-    /// Puts a value under a tag, in the place of one that it had. This takes no memory.
-    pub fn set(&mut self, tag: ValueTag, value: Rc<Object>)
+    /// One link more holds a value under a tag, which comes in the place of what others hold there. This takes no memory.
+    pub fn hold(&mut self, tag: ValueTag, value: Rc<Object>)
         requires room { 0 < self.old.room }
+        requires few { 1 + count_in tag self.old.counts < 18446744073709551616 }
         ensures values { (t : ValueTag) → lookup (tags.ghosts.eq t) self.new.pairs ≡ (if tags.ghosts.eq tag t then Some value.value else lookup (tags.ghosts.eq t) self.old.pairs) }
+        ensures counts { (t : ValueTag) → count_in t self.new.counts ≡ (if tags.ghosts.eq tag t then 1 + count_in tag self.old.counts else count_in t self.old.counts) }
         ensures once { IsDistinct tags.ghosts.eq (keys_of self.new.pairs) }
         ensures room { self.old.room ≤ self.new.room + 1 }
     {
-        match self.table.insert(tag, value) {
+        let links = self.count(tag) + 1;
+        match self.table.insert(tag, Binding { value, links }) {
             Ok(_) => {}
             Err(_) => unreachable!(),
         }
     }
 
-    /// A tag has no value any more.
-    pub fn remove(&mut self, tag: ValueTag)
+    // One link fewer holds a value that others hold too.
+    fn leave(&mut self, tag: ValueTag)
+        requires others { 1 < count_in tag self.old.counts }
+        ensures values { (t : ValueTag) → lookup (tags.ghosts.eq t) self.new.pairs ≡ lookup (tags.ghosts.eq t) self.old.pairs }
+        ensures counts { (t : ValueTag) → count_in t self.new.counts ≡ (if tags.ghosts.eq tag t then count_in tag self.old.counts - 1 else count_in t self.old.counts) }
+        ensures once { IsDistinct tags.ghosts.eq (keys_of self.new.pairs) }
+        ensures room { self.old.room ≤ self.new.room }
+    {
+        match self.table.get_mut(&tag) {
+            Some(binding) => binding.links -= 1,
+            None => unreachable!(),
+        }
+    }
+
+    // No link holds a value under this tag.
+    fn forget(&mut self, tag: ValueTag)
         ensures values { (t : ValueTag) → lookup (tags.ghosts.eq t) self.new.pairs ≡ (if tags.ghosts.eq tag t then None else lookup (tags.ghosts.eq t) self.old.pairs) }
+        ensures counts { (t : ValueTag) → count_in t self.new.counts ≡ (if tags.ghosts.eq tag t then 0 else count_in t self.old.counts) }
         ensures once { IsDistinct tags.ghosts.eq (keys_of self.new.pairs) }
         ensures room { self.old.room ≤ self.new.room }
     {
         self.table.swap_remove(&tag);
+    }
+
+    /// One link fewer holds the value under a tag, which goes with the last one.
+    pub fn release(&mut self, tag: ValueTag)
+        ensures values { (t : ValueTag) → lookup (tags.ghosts.eq t) self.new.pairs ≡ (if tags.ghosts.eq tag t && (count_in tag self.old.counts - 1 == 0) then None else lookup (tags.ghosts.eq t) self.old.pairs) }
+        ensures counts { (t : ValueTag) → count_in t self.new.counts ≡ (if tags.ghosts.eq tag t then count_in tag self.old.counts - 1 else count_in t self.old.counts) }
+        ensures once { IsDistinct tags.ghosts.eq (keys_of self.new.pairs) }
+        ensures room { self.old.room ≤ self.new.room }
+    {
+        if self.count(tag) > 1 {
+            self.leave(tag);
+        } else {
+            self.forget(tag);
+        }
     }
 }

@@ -1,3 +1,4 @@
+pub mod HeldHere
 pub mod LinkLaws
 pub mod MapLaws
 pub mod Reading

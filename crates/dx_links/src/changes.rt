@@ -64,8 +64,8 @@ impl Changes {
         Ok(())
     }
 
-    // The changes, moved out.
-    pub(crate) fn into_vec(self) -> Vec<Change>
+    /// The changes, moved out.
+    pub fn into_vec(self) -> Vec<Change>
         ensures { result.items ≡ self }
     {
         self.list

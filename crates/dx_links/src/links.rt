@@ -1,6 +1,6 @@
 // The links: slots in the order in which they came, and their numbers in the order of the keys, which is searched by halving.
 
-ghost use Rattle.std.specs.Prelude.{◌≡◌, ◌<◌, ◌≤◌, [], None, Some, length, MatchOption, OnOk, IfOk, slice_get};
+ghost use Rattle.std.specs.Prelude.{◌≡◌, ◌+◌, ◌<◌, ◌≤◌, [], None, Some, length, MatchOption, OnOk, IfOk, slice_get};
 ghost use Rattle.std.specs.List.{range_with_len};
 ghost use Rattle.std.specs.List.Sorted.{IsStrictlySortedBy};
 ghost use Rattle.std.specs.Map.{keys_of};
@@ -66,10 +66,11 @@ impl Links {
         self.order.len()
     }
 
-    /// The link at a place in the order of the keys, counted from 0.
+    /// The link at a place in the order of the keys, counted from 0: a key, and what it holds.
     pub fn at(&self, i: usize) -> (&Key, &Held)
         requires within { i < length self.now.links }
-        ensures { slice_get self.now.links i ≡ Some (result.0.now, result.1.now) }
+        ensures at { slice_get self.now.links i ≡ Some (result.0.now, result.1.now) }
+        ensures held { held_at result.0.now self.now.links ≡ Some result.1.now }
     {
         let (key, held) = &self.slots[self.order[i]];
         (key, held)
@@ -80,6 +81,7 @@ impl Links {
         ensures links { self.new.links ≡ self.old.links }
         ensures room { OnOk result (keys ≤ self.new.room) }
         ensures kept { self.old.room ≤ self.new.room }
+        ensures counted { OnOk result (length self.new.links + keys < 18446744073709551616) }
         ensures sorted { IsStrictlySortedBy key_cmp (keys_of self.new.links) }
     {
         self.slots.reserve(keys)?;
@@ -95,8 +97,7 @@ impl Links {
         self.slots[self.order[i]].1.set_tag(tag);
     }
 
-    /// Makes the changes in their order, the last of one key counting. This takes no memory. For each of them the order is
-    /// searched by halving; a new key, and one that is taken away, moves the numbers of those above it, and no links.
+    /// Makes the changes in their order, the last of one key counting, each as `put` does. This takes no memory.
     pub fn commit(&mut self, changes: Changes)
         requires room { length changes ≤ self.old.room }
         ensures { self.new.links ≡ after self.old.links changes }

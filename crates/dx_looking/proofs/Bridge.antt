@@ -23,12 +23,11 @@ use Rattle.dx_machine.specs.Machine.{FormedCall, Frame, State, get, get_all}
 use Rattle.dx_machine.specs.Covered.{is_formed, IsCovered}
 use Rattle.dx_machine.specs.Sound.{HaveAttributes}
 use Rattle.dx_machine.proofs.SameTerms.{value_is, value_true, same_test}
-use Rattle.dx_getting.specs.Terms.{BoundValues}
-use Rattle.dx_getting.specs.Stands.{Setting, World, IsCall, AreLawful, LinksFit, LinksDenote, MayGetValue, call_at, call_of_head, frame_of, formed_calls, link_terms, around_of, world}
+use Rattle.dx_getting.specs.Bound.{IsBound}
+use Rattle.dx_getting.specs.Terms.{BoundValues, Table}
+use Rattle.dx_getting.specs.Stands.{Setting, World, IsCall, AreLawful, LinksFit, LinksDenote, MayGetValue, call_of_head, frame_of, formed_calls, link_terms, around_of, world}
 use Rattle.dx_getting.specs.Stands as getting
-use Rattle.dx_demand.specs.Terms.{IsValue}
 use Rattle.dx_demand.specs.Terms as demand
-use Rattle.dx_demand.specs.Picked as picked
 use Rattle.dx_demand.specs.Memo.{formed_of}
 use Rattle.dx_demand.specs.Found.{IsFound, AllFound}
 use Rattle.dx_demand.specs.Forming.{Entries, IsCallTag, found_in, formings}
@@ -48,10 +47,12 @@ use Rattle.dx_resuming.proofs.Covers.{closed_covers, all_closed_cover, linked_va
 use Rattle.dx_resuming.proofs.FormedFirst.{formed_same}
 use Rattle.dx_resuming.proofs.LinkTerms as links_alike
 use Rattle.dx_resuming.proofs.Stayed.{after_goes_on, site_behind, attribute_behind}
-use Rattle.dx_looking.specs.Setting.{nodes_in, links_of, AreLinks, AllBound, IsBound, IsKept, setting_in}
-use Rattle.dx_looking.specs.Looking.{IsLooking}
+use Rattle.dx_looking.specs.Setting.{nodes_in, links_of, IsKept, setting_in}
+use Rattle.dx_looking.specs.Looking.{AllFit, IsLooking}
 use Rattle.dx_looking.specs.declared.setup.Setup.{Setup}
 use Rattle.dx_looking.specs.declared.progress.Progress.{Progress}
+use Rattle.dx_looking.proofs.Bound.{AllBound, AllTagged, AllHeld, all_bound, all_tagged, all_held}
+use Rattle.dx_looking.proofs.Growth.{fit_at}
 use Rattle.dx_looking.proofs.Nodes.{nodes_named, attributes_small}
 
 -- ---- calls that were formed
@@ -85,40 +86,36 @@ link_held (l ∷ ls) bound a key h e = cases (is_at (key_cmp key) l.0)
     (λ q. let same : l.1 ≡ h = (let o : Some l.1 ≡ Some h = subst (λ b. cond b (Some l.1) (held_at key ls) ≡ Some h) q e in cc) in subst (λ (x : Holding). (o : Object) × (lookup (tags.ghosts.eq x.tag) bound ≡ Some o)) same a.0)
     (λ q. link_held ls bound a.1 key h (subst (λ b. cond b (Some l.1) (held_at key ls) ≡ Some h) q e))
 
-links_fit : (terms : List Term) (links : LinkMap) → picked.LinksFit terms links → (bound : BoundValues) → AreLinks links bound → LinksFit terms bound
+links_fit : (terms : List Term) (links : LinkMap) → AllFit terms links → (bound : BoundValues) → AllTagged links bound → LinksFit terms bound
 links_fit terms links f [] a = tt
-links_fit terms links f (x ∷ xs) a = (subst (Fits terms) a.0.tag (f a.0.key a.0.held a.0.at).fits, links_fit terms links f xs a.1)
+links_fit terms links f (x ∷ xs) a = (subst (Fits terms) a.0.tag (fit_at terms links f a.0.place a.0.link a.0.at).fits, links_fit terms links f xs a.1)
 
 -- what a link holds is what its term denotes
-held_denotes : (a : Around) (hs : List Head) (links : LinkMap) → LinksRight a (links_of hs links) → (key : Key) (h : Holding) → held_at key links ≡ Some h → denotes a (value_term hs h.tag) ≡ Ok (Some h.value)
-held_denotes a hs [] r key h e = cc
-held_denotes a hs (l ∷ ls) r key h e = cases (is_at (key_cmp key) l.0)
-    (λ q. let same : l.1 ≡ h = (let o : Some l.1 ≡ Some h = subst (λ b. cond b (Some l.1) (held_at key ls) ≡ Some h) q e in cc) in subst (λ (x : Holding). denotes a (value_term hs x.tag) ≡ Ok (Some x.value)) same r.0)
-    (λ q. held_denotes a hs ls r.1 key h (subst (λ b. cond b (Some l.1) (held_at key ls) ≡ Some h) q e))
+pub link_denotes : (a : Around) (hs : List Head) (links : LinkMap) → LinksRight a (links_of hs links) → (i : ℕ) (l : Key × Holding) → slice_get links i ≡ Some l → denotes a (value_term hs l.1.tag) ≡ Ok (Some l.1.value)
+link_denotes a hs [] r i l e = cc
+link_denotes a hs (x ∷ xs) r zero l e = let same : x ≡ l = cc in subst (λ (y : Key × Holding). denotes a (value_term hs y.1.tag) ≡ Ok (Some y.1.value)) same r.0
+link_denotes a hs (x ∷ xs) r (suc i) l e = link_denotes a hs xs r.1 i l e
 
-bound_denote : (e : Setting) (files : World) (links : LinkMap) → LinksRight (around_of e files) (links_of (heads_of e.terms) links) → (bound : BoundValues) → AreLinks links bound → LinksDenote e files bound
+bound_denote : (e : Setting) (files : World) (links : LinkMap) → LinksRight (around_of e files) (links_of (heads_of e.terms) links) → (bound : BoundValues) → AllHeld links bound → LinksDenote e files bound
 bound_denote e files links r [] a = tt
 bound_denote e files links r (x ∷ xs) a = (
   subst (λ (t : ValueTag). denotes (around_of e files) (value_term (heads_of e.terms) t) ≡ Ok (Some x.1)) a.0.tag
-      (held_denotes (around_of e files) (heads_of e.terms) links r a.0.key a.0.held a.0.at ∙ ap (λ (o : Object). Ok (Some o)) a.0.object),
+      (link_denotes (around_of e files) (heads_of e.terms) links r a.0.place a.0.link a.0.at ∙ ap (λ (o : Object). Ok (Some o)) a.0.object),
   bound_denote e files links r xs a.1,
 )
 
 -- the terms of the links and of what is bound are the same
-link_term : Key × Link → ValueTerm
-link_term l = l.1.term
+link_has : (hs : List Head) (links : LinkMap) (i : ℕ) (l : Key × Holding) → slice_get links i ≡ Some l → has_value (map (λ (l : Key × Link). l.1.term) (links_of hs links)) (value_term hs l.1.tag) ≡ true
+link_has hs [] i l e = cc
+link_has hs (x ∷ xs) zero l e =
+    let same : x ≡ l = cc in
+    or_here _ _ (value_true (value_term hs x.1.tag) (value_term hs l.1.tag) (ap (λ (y : Key × Holding). value_term hs y.1.tag) same))
+link_has hs (x ∷ xs) (suc i) l e = or_there _ _ (link_has hs xs i l e)
 
-held_has : (hs : List Head) (links : LinkMap) (key : Key) (h : Holding) → held_at key links ≡ Some h → has_value (map (λ (l : Key × Link). l.1.term) (links_of hs links)) (value_term hs h.tag) ≡ true
-held_has hs [] key h e = cc
-held_has hs (l ∷ ls) key h e = cases (is_at (key_cmp key) l.0)
-    (λ q. let same : l.1 ≡ h = (let o : Some l.1 ≡ Some h = subst (λ b. cond b (Some l.1) (held_at key ls) ≡ Some h) q e in cc) in
-    or_here _ _ (value_true (value_term hs l.1.tag) (value_term hs h.tag) (ap (λ (x : Holding). value_term hs x.tag) same)))
-    (λ q. or_there _ _ (held_has hs ls key h (subst (λ b. cond b (Some l.1) (held_at key ls) ≡ Some h) q e)))
-
-bound_to_link : (hs : List Head) (links : LinkMap) (bound : BoundValues) → AreLinks links bound → (t : ValueTerm) → has_value (link_terms hs bound) t ≡ true → has_value (map (λ (l : Key × Link). l.1.term) (links_of hs links)) t ≡ true
+bound_to_link : (hs : List Head) (links : LinkMap) (bound : BoundValues) → AllTagged links bound → (t : ValueTerm) → has_value (link_terms hs bound) t ≡ true → has_value (map (λ (l : Key × Link). l.1.term) (links_of hs links)) t ≡ true
 bound_to_link hs links [] a t e = cc
 bound_to_link hs links (x ∷ xs) a t e = cases (same_value (value_term hs x.0) t)
-    (λ q. subst (λ u. has_value (map (λ (l : Key × Link). l.1.term) (links_of hs links)) u ≡ true) (ap (value_term hs) a.0.tag ∙ value_is (value_term hs x.0) t q) (held_has hs links a.0.key a.0.held a.0.at))
+    (λ q. subst (λ u. has_value (map (λ (l : Key × Link). l.1.term) (links_of hs links)) u ≡ true) (ap (value_term hs) a.0.tag ∙ value_is (value_term hs x.0) t q) (link_has hs links a.0.place a.0.link a.0.at))
     (λ q. bound_to_link hs links xs a.1 t (subst (λ b. (b || has_value (link_terms hs xs) t) ≡ true) q e))
 
 link_to_bound : (hs : List Head) (links : LinkMap) (bound : BoundValues) → AllBound links bound → (t : ValueTerm) → has_value (map (λ (l : Key × Link). l.1.term) (links_of hs links)) t ≡ true → has_value (link_terms hs bound) t ≡ true
@@ -127,8 +124,8 @@ link_to_bound hs (l ∷ ls) bound a t e = cases (same_value (value_term hs l.1.t
     (λ q. subst (λ u. has_value (link_terms hs bound) u ≡ true) (value_is (value_term hs l.1.tag) t q) (linked_value hs bound l.1.tag a.0.0 a.0.1))
     (λ q. link_to_bound hs ls bound a.1 t (subst (λ b. (b || has_value (map (λ (x : Key × Link). x.1.term) (links_of hs ls)) t) ≡ true) q e))
 
-pub same_links : (hs : List Head) (links : LinkMap) (bound : BoundValues) → IsBound links bound → (t : ValueTerm) → has_value (map (λ (l : Key × Link). l.1.term) (links_of hs links)) t ≡ has_value (link_terms hs bound) t
-same_links hs links bound b t = same_test _ _ (link_to_bound hs links bound b.all t) (bound_to_link hs links bound b.only t)
+pub same_links : (hs : List Head) (links : LinkMap) (bound : Table) → IsBound links bound → (t : ValueTerm) → has_value (map (λ (l : Key × Link). l.1.term) (links_of hs links)) t ≡ has_value (link_terms hs bound.pairs) t
+same_links hs links bound b t = same_test _ _ (link_to_bound hs links bound.pairs (all_bound links bound b) t) (bound_to_link hs links bound.pairs (all_tagged links bound b) t)
 
 -- ---- what getting needs
 
@@ -141,7 +138,7 @@ formed_lawful setup at l =
     (λ i e h. let r = entry_found at.seen.memo.formed.entries i e h in call_there at.tags e.0 (l.formed.memo.calls e.0 r.0 r.1))
 
 pub links_bound : (setup : Setup) (at : Progress) → IsLooking setup at → LinksBound setup.links.now.links setup.bound.now.pairs
-links_bound setup at l = link_held setup.links.now.links setup.bound.now.pairs l.bound.all
+links_bound setup at l = link_held setup.links.now.links setup.bound.now.pairs (all_bound setup.links.now.links setup.bound.now l.bound)
 
 pub is_covered : (setup : Setup) (at : Progress) → IsLooking setup at → (t : ValueTag) → Fits at.tags t → IsFound setup.links.now.links at.tags (formed_of at.seen.memo) t →
     IsCovered (formed_calls (heads_of at.tags) (setting_in setup at).formed) (link_terms (heads_of at.tags) setup.bound.now.pairs) (value_term (heads_of at.tags) t)
@@ -151,7 +148,7 @@ pub may_get : (setup : Setup) (at : Progress) → IsLooking setup at → (t : Va
 may_get setup at l t fits found = record {
   exact = getting_exact at.tags l.exact;
   lawful = formed_lawful setup at l;
-  links = links_fit at.tags setup.links.now.links l.links setup.bound.now.pairs l.bound.only;
+  links = links_fit at.tags setup.links.now.links l.links setup.bound.now.pairs (all_tagged setup.links.now.links setup.bound.now l.bound);
   fits = fits;
   covered = is_covered setup at l t fits found;
 }
@@ -164,7 +161,8 @@ around_same setup at x k kept = ap (λ h. record { answer = x.answer; file = x.f
 pub links_denote : (setup : Setup) (at : Progress) → IsLooking setup at → (x : Fixed) (k : Kept) → IsKept (heads_of at.tags) setup k → LinksRight (course.around_of x k) k.links → LinksDenote (setting_in setup at) (world x.answer x.file) setup.bound.now.pairs
 links_denote setup at l x k kept r =
     bound_denote (setting_in setup at) (world x.answer x.file) setup.links.now.links
-    (subst (λ a. LinksRight a (links_of (heads_of at.tags) setup.links.now.links)) (sym (around_same setup at x k kept)) (subst (LinksRight (course.around_of x k)) kept.links r)) setup.bound.now.pairs l.bound.only
+    (subst (λ a. LinksRight a (links_of (heads_of at.tags) setup.links.now.links)) (sym (around_same setup at x k kept)) (subst (LinksRight (course.around_of x k)) kept.links r)) setup.bound.now.pairs
+    (all_held setup.links.now.links setup.bound.now.pairs l.bound.once kept.values)
 
 -- the frame of getting, with these calls formed
 abbrev getting_frame : Setup → Progress → Fixed → List FormedCall → Frame
@@ -173,7 +171,7 @@ getting_frame setup at x later = with_formed (frame_of (setting_in setup at) (wo
 frames_alike : (setup : Setup) (at : Progress) → IsLooking setup at → (x : Fixed) (k : Kept) → IsKept (heads_of at.tags) setup k → (later : List FormedCall) → SameLinks (getting_frame setup at x later) (frame_with x k later)
 frames_alike setup at l x k kept later = record {
   around = sym (around_same setup at x k kept);
-  links = λ t. ap (λ (ls : LinkTerms). has_value (map (λ (l : Key × Link). l.1.term) ls) t) kept.links ∙ same_links (heads_of at.tags) setup.links.now.links setup.bound.now.pairs l.bound t;
+  links = λ t. ap (λ (ls : LinkTerms). has_value (map (λ (l : Key × Link). l.1.term) ls) t) kept.links ∙ same_links (heads_of at.tags) setup.links.now.links setup.bound.now l.bound t;
   formed = refl;
   budget = refl;
 }

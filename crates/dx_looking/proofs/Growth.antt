@@ -1,9 +1,8 @@
 -- What looking has at hand stays the same as terms are formed.
-use Rattle.std.proofs.Common.{◌≡◌, ℕ, List, [], ◌∷◌, map, cond, Some, refl, sym, ap, ap₂, ◌∙◌, subst, arith}
-use Rattle.std.specs.Prelude.{option_map}
+use Rattle.std.proofs.Common.{◌≡◌, ℕ, zero, suc, List, [], ◌∷◌, map, cond, Some, refl, sym, ap, ap₂, ◌∙◌, subst, arith}
+use Rattle.std.specs.Prelude.{option_map, slice_get}
 use Rattle.std.specs.Map.{lookup}
 use Rattle.std.specs.BTreeMap.{is_at}
-use Rattle.dx_base.specs.Object.{Tree as Object}
 use Rattle.dx_cache.proofs.Places.{cases}
 use Rattle.dx_cache.specs.declared.entry.Entry.{Entry}
 use Rattle.dx_objects.specs.Runs.{Values}
@@ -19,12 +18,10 @@ use Rattle.dx_links.specs.Holding.{Holding}
 use Rattle.dx_links.specs.LinkMap.{LinkMap, held_at, key_cmp}
 use Rattle.dx_machine.specs.Machine.{Cached, State}
 use Rattle.dx_getting.specs.Told.{Told}
-use Rattle.dx_getting.specs.Terms.{BoundValues}
 use Rattle.dx_getting.specs.Stands.{Setting, World, FormedCalls, IsCall, Stands, EntriesRight, KnownRight, call_at, call_of_head, named, known_calls, around_of}
 use Rattle.dx_getting.specs.Steps.{AreCalls}
 use Rattle.dx_getting.specs.declared.work.Work.{Work}
-use Rattle.dx_getting.proofs.Names.{tag_decides, values_same}
-use Rattle.dx_machine.proofs.SameTerms.{same_test}
+use Rattle.dx_getting.proofs.Names.{values_same}
 use Rattle.dx_demand.specs.Terms.{IsValue, AreExact}
 use Rattle.dx_demand.specs.Picked.{LinksFit}
 use Rattle.dx_demand.specs.Steps.{Sees}
@@ -32,35 +29,33 @@ use Rattle.dx_demand.proofs.Growing.{term_grows}
 use Rattle.dx_demand.proofs.Terms.{value_grow}
 use Rattle.dx_performing.specs.Kept.{Link, LinkTerms, link_in}
 use Rattle.dx_looking.specs.ToldTags.{ToldTags}
-use Rattle.dx_looking.specs.Setting.{TermValues, links_of, AreLinks, AllBound, IsBound, told_terms, told_sight}
-use Rattle.dx_looking.specs.Looking.{AreValues}
+use Rattle.dx_looking.specs.Setting.{TermValues, links_of, told_terms, told_sight}
+use Rattle.dx_looking.specs.Looking.{AllFit, AreValues}
 use Rattle.dx_looking.specs.declared.setup.Setup.{Setup}
+use Rattle.dx_looking.proofs.Bound.{eq_turned}
 
 -- ---- links
 
-abbrev AllFit : List Term → LinkMap → Type 0
-AllFit terms [] = Unit {0}
-AllFit terms (l ∷ ls) = IsValue terms l.1.tag × AllFit terms ls
+-- the tag of a link at a place
+pub fit_at : (terms : List Term) (links : LinkMap) → AllFit terms links → (i : ℕ) (l : Key × Holding) → slice_get links i ≡ Some l → IsValue terms l.1.tag
+fit_at terms [] f i l e = cc
+fit_at terms (x ∷ xs) f zero l e = let same : x ≡ l = cc in subst (λ (y : Key × Holding). IsValue terms y.1.tag) same f.0
+fit_at terms (x ∷ xs) f (suc i) l e = fit_at terms xs f.1 i l e
 
-bound_fits : (terms : List Term) (links : LinkMap) → LinksFit terms links → (bound : BoundValues) → AreLinks links bound → (t : ValueTag) (o : Object) → lookup (tags.ghosts.eq t) bound ≡ Some o → IsValue terms t
-bound_fits terms links f [] a t o e = cc
-bound_fits terms links f (x ∷ xs) a t o e = cases (tags.ghosts.eq t x.0)
-    (λ q. subst (IsValue terms) (a.0.tag ∙ sym ((tag_decides t x.0).0 q)) (f a.0.key a.0.held a.0.at))
-    (λ q. bound_fits terms links f xs a.1 t o (subst (λ b. cond b (Some x.1) (lookup (tags.ghosts.eq t) xs) ≡ Some o) q e))
+-- and of what a key holds
+pub fits_held : (terms : List Term) (links : LinkMap) → AllFit terms links → LinksFit terms links
+fits_held terms [] f key h e = cc
+fits_held terms (l ∷ ls) f key h e = cases (is_at (key_cmp key) l.0)
+    (λ q. let same : l.1 ≡ h = (let o : Some l.1 ≡ Some h = subst (λ b. cond b (Some l.1) (held_at key ls) ≡ Some h) q e in cc) in subst (λ (x : Holding). IsValue terms x.tag) same f.0)
+    (λ q. fits_held terms ls f.1 key h (subst (λ b. cond b (Some l.1) (held_at key ls) ≡ Some h) q e))
 
-all_fit_in : (terms : List Term) (all : LinkMap) → LinksFit terms all → (bound : BoundValues) → AreLinks all bound → (links : LinkMap) → AllBound links bound → AllFit terms links
-all_fit_in terms all f bound a [] b = tt
-all_fit_in terms all f bound a (l ∷ ls) b = (bound_fits terms all f bound a l.1.tag b.0.0 b.0.1, all_fit_in terms all f bound a ls b.1)
+pub all_fit_grows : (old new : List Term) → GoesOn old new → (links : LinkMap) → AllFit old links → AllFit new links
+all_fit_grows old new g [] f = tt
+all_fit_grows old new g (l ∷ ls) f = (value_grow old new g l.1.tag f.0, all_fit_grows old new g ls f.1)
 
-pub all_fit : (terms : List Term) (links : LinkMap) (bound : BoundValues) → LinksFit terms links → IsBound links bound → AllFit terms links
-all_fit terms links bound f b = all_fit_in terms links f bound b.only links b.all
-
-links_same_in : (old new : List Term) → GoesOn old new → (links : LinkMap) → AllFit old links → links_of (heads_of new) links ≡ links_of (heads_of old) links
-links_same_in old new g [] f = refl
-links_same_in old new g (l ∷ ls) f = ap₂ (λ (t : ValueTerm) (rest : LinkTerms). (l.0, record { object = l.1.value; term = t }) ∷ rest) (term_grows old new g l.1.tag f.0) (links_same_in old new g ls f.1)
-
-pub links_same : (old new : List Term) → GoesOn old new → (links : LinkMap) (bound : BoundValues) → LinksFit old links → IsBound links bound → links_of (heads_of new) links ≡ links_of (heads_of old) links
-links_same old new g links bound f b = links_same_in old new g links (all_fit old links bound f b)
+pub links_same : (old new : List Term) → GoesOn old new → (links : LinkMap) → AllFit old links → links_of (heads_of new) links ≡ links_of (heads_of old) links
+links_same old new g [] f = refl
+links_same old new g (l ∷ ls) f = ap₂ (λ (t : ValueTerm) (rest : LinkTerms). (l.0, record { object = l.1.value; term = t }) ∷ rest) (term_grows old new g l.1.tag f.0) (links_same old new g ls f.1)
 
 -- what a key holds
 linked_in : (hs : List Head) (links : LinkMap) (key : Key) → option_map (λ (l : Link). l.term) (link_in (links_of hs links) key) ≡ option_map (λ (h : Holding). value_term hs h.tag) (held_at key links)
@@ -84,9 +79,6 @@ tag_told terms same [] v t i = refl
 tag_told terms same (x ∷ xs) v t i =
     let e = same t x.0 i v.0 in
     cases (tags.ghosts.eq t x.0) (λ q. rw (e, q) refl) (λ q. rw (e, q) (tag_told terms same xs v.1 t i))
-
-eq_turned : (a b : ValueTag) → tags.ghosts.eq b a ≡ tags.ghosts.eq a b
-eq_turned a b = same_test _ _ (λ e. (tag_decides a b).1 (sym ((tag_decides b a).0 e))) (λ e. (tag_decides b a).1 (sym ((tag_decides a b).0 e)))
 
 tests_same : (terms : List Term) → AreExact terms → (a b : ValueTag) → IsValue terms a → IsValue terms b → same_value (value_term (heads_of terms) a) (value_term (heads_of terms) b) ≡ tags.ghosts.eq a b
 tests_same terms x a b i j = values_same terms (record { formed = x.formed; distinct = x.distinct; whole = x.whole }) a b i.fits j.fits ∙ eq_turned a b

@@ -3,6 +3,7 @@ pub mod ToldLaws
 pub mod FormedLaws
 pub mod Cutting
 pub mod Nodes
+pub mod Bound
 pub mod Bridge
 pub mod Telling
 pub mod SelectorGot

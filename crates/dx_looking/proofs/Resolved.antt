@@ -8,13 +8,12 @@ use Rattle.dx_demand.specs.Found.{IsClosed}
 use Rattle.dx_demand.specs.Forming.{SeenFormed}
 use Rattle.dx_demand.specs.Calling.{SeenMet}
 use Rattle.dx_demand.specs.Steps.{Sees, SeenFits, SeenRight}
-use Rattle.dx_demand.proofs.Growing.{links_fit_grows}
 use Rattle.dx_looking.specs.ToldTags.{ToldTags}
 use Rattle.dx_looking.specs.Setting.{nodes_in, links_of, told_terms, told_sight, sight_in}
 use Rattle.dx_looking.specs.Looking.{IsLooking}
 use Rattle.dx_looking.specs.declared.setup.Setup.{Setup}
 use Rattle.dx_looking.specs.declared.progress.Progress.{Progress}
-use Rattle.dx_looking.proofs.Growth.{links_same, told_same, values_grow, calls_grow, sees_so}
+use Rattle.dx_looking.proofs.Growth.{links_same, all_fit_grows, told_same, values_grow, calls_grow, sees_so}
 use Rattle.dx_looking.proofs.Ways.{with_seen}
 use Rattle.std.specs.Map.{lookup}
 use Rattle.dx_tags.specs.contracts.term.ValueTagPartialEq.TheImpl as tags
@@ -22,7 +21,7 @@ use Rattle.dx_tags.specs.declared.term.ValueTag.{ValueTag}
 
 module _ (setup : Setup) (at : Progress) (new : List Term) (seen : Seen) (l : IsLooking setup at) (g : GoesOn at.tags new) where
   pub sight_same : sight_in setup (with_seen at new seen) ≡ sight_in setup at
-  sight_same = ap₂ (λ ls vs. told_sight ls setup.written.now.files vs) (links_same at.tags new g setup.links.now.links setup.bound.now.pairs l.links l.bound) (told_same at.tags new g at.told l.told)
+  sight_same = ap₂ (λ ls vs. told_sight ls setup.written.now.files vs) (links_same at.tags new g setup.links.now.links l.links) (told_same at.tags new g at.told l.told)
 
   pub sees_new : AreExact new → Sees (λ (t : ValueTag). lookup (tags.ghosts.eq t) at.told) setup.links.now.links setup.written.now.files new (sight_in setup (with_seen at new seen))
   sees_new x = sees_so new x setup at.told (values_grow at.tags new g at.told l.told)
@@ -41,7 +40,7 @@ module _ (setup : Setup) (at : Progress) (new : List Term) (seen : Seen) (l : Is
       SeenRight (sight_in setup (with_seen at new seen)) (nodes_in setup) new seen → SeenFormed (sight_in setup (with_seen at new seen)) (nodes_in setup) new seen → SeenMet (sight_in setup (with_seen at new seen)) (nodes_in setup) seen → IsLooking setup (with_seen at new seen)
   looking_so x fits closed right formed met = record {
     exact = x;
-    links = links_fit_grows at.tags new g setup.links.now.links l.links;
+    links = all_fit_grows at.tags new g setup.links.now.links l.links;
     bound = l.bound;
     entries = calls_grow at.tags new g at.work.cache.entries l.entries;
     told = values_grow at.tags new g at.told l.told;

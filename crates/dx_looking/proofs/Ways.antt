@@ -105,7 +105,7 @@ pub stands_on : (setup : Setup) (x : Fixed) (k : Kept) (base : Told) (at : Progr
 stands_on setup x k base at now s f tags seen l g st =
     let same_told = told_same at.tags tags g at.told l.told in
     record {
-      kept = record { links = st.kept.links ∙ sym (links_same at.tags tags g setup.links.now.links setup.bound.now.pairs l.links l.bound); held = st.kept.held; written = st.kept.written };
+      kept = record { links = st.kept.links ∙ sym (links_same at.tags tags g setup.links.now.links l.links); values = st.kept.values; held = st.kept.held; written = st.kept.written };
       work = stands_grow (setting_in setup at) (world x.answer x.file) tags (setting_in setup (with_seen at tags seen)).formed g at.work base now s st.work;
       formings = refl;
       sound = st.sound;

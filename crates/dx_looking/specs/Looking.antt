@@ -10,8 +10,10 @@ use Rattle.dx_tags.specs.declared.term.Term.{Term}
 use Rattle.dx_tags.specs.declared.term.ValueTag.{ValueTag}
 use Rattle.dx_tags.specs.Closed.{ValueTerm, heads_of, value_term}
 use Rattle.dx_links.specs.Denotes.{Around, denotes}
+use Rattle.dx_links.specs.LinkMap.{LinkMap}
 use Rattle.dx_machine.specs.Machine.{FormedCall, Frame, State, Got, Went, Stopped, state_at, tasks_of, get_all}
 use Rattle.dx_machine.specs.Sound.{IsSound}
+use Rattle.dx_getting.specs.Bound.{IsBound}
 use Rattle.dx_getting.specs.Told.{Told, AddsSome}
 use Rattle.dx_getting.specs.Stands.{Answers, IsCall, Stands, call_at, world}
 use Rattle.dx_getting.specs.Steps.{AreCalls}
@@ -19,7 +21,6 @@ use Rattle.dx_meaning.specs.Scan.{Sight, IsOff, Stops, Needs, Scanned, Forms, En
 use Rattle.dx_meaning.specs.Forming.{Formings, forms, after}
 use Rattle.dx_demand.specs.Terms.{AreExact, IsValue}
 use Rattle.dx_demand.specs.Memo.{formed_of, selector_of, site_of}
-use Rattle.dx_demand.specs.Picked.{LinksFit}
 use Rattle.dx_demand.specs.Found.{IsFound, IsClosed}
 use Rattle.dx_demand.specs.Forming.{SeenFormed, formings}
 use Rattle.dx_demand.specs.Calling.{SeenMet, IsValued}
@@ -33,7 +34,7 @@ use Rattle.dx_performing.specs.Meant.{LinksRight}
 use Rattle.dx_performing.specs.Resuming.{is_ready}
 use Rattle.dx_performing.specs.Selectors.{selectors}
 use Rattle.dx_looking.specs.ToldTags.{ToldTags}
-use Rattle.dx_looking.specs.Setting.{TermValues, nodes_in, IsBound, IsKept, told_terms, sight_in, setting_in, fixed}
+use Rattle.dx_looking.specs.Setting.{TermValues, nodes_in, IsKept, told_terms, sight_in, setting_in, fixed}
 use Rattle.dx_looking.specs.declared.cut.Cut.{Cut}
 use Rattle.dx_looking.specs.declared.looked.Looked.{Looked}
 use Rattle.dx_looking.specs.declared.looked.Looked.TheVariants as looked
@@ -47,11 +48,16 @@ abbrev pub AreValues : List Term → ToldTags → Type 0
 AreValues terms [] = Unit {0}
 AreValues terms (x ∷ xs) = IsValue terms x.0 × AreValues terms xs
 
+-- the tag of each link names a value
+abbrev pub AllFit : List Term → LinkMap → Type 0
+AllFit terms [] = Unit {0}
+AllFit terms (l ∷ ls) = IsValue terms l.1.tag × AllFit terms ls
+
 -- the terms, the links, the entries, and what was seen by what is told
 pub record IsLooking (setup : Setup) (at : Progress) : Type 0 where
   pub exact : AreExact at.tags
-  pub links : LinksFit at.tags setup.links.now.links
-  pub bound : IsBound setup.links.now.links setup.bound.now.pairs
+  pub links : AllFit at.tags setup.links.now.links
+  pub bound : IsBound setup.links.now.links setup.bound.now
   pub entries : AreCalls at.tags at.work.cache.entries
   pub told : AreValues at.tags at.told
   pub fits : SeenFits (nodes_in setup) at.tags at.seen

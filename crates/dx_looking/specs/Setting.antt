@@ -1,7 +1,6 @@
 -- What looking has at hand, as the meaning's and the machine's.
-use Rattle.std.specs.Prelude.{◌≡◌, ℕ, List, [], ◌∷◌, map, Some, option_map}
+use Rattle.std.specs.Prelude.{◌≡◌, ℕ, List, map, option_map}
 use Rattle.std.specs.Map.{lookup}
-use Rattle.dx_base.specs.Object.{Tree as Object}
 use Rattle.dx_graph.specs.Graph.{Node}
 use Rattle.dx_graph.specs.GraphView.{graph_of}
 use Rattle.dx_io.specs.Devices.{FileMap as InputFiles}
@@ -10,10 +9,9 @@ use Rattle.dx_tags.specs.Files.{FileMap, content_of}
 use Rattle.dx_links.specs.declared.key.Key.{Key}
 use Rattle.dx_links.specs.Getting.{same_value}
 use Rattle.dx_links.specs.Holding.{Holding}
-use Rattle.dx_links.specs.LinkMap.{LinkMap, held_at}
+use Rattle.dx_links.specs.LinkMap.{LinkMap}
 use Rattle.dx_tags.specs.declared.term.ValueTag.{ValueTag}
-use Rattle.dx_tags.specs.contracts.term.ValueTagPartialEq.TheImpl as tags
-use Rattle.dx_getting.specs.Terms.{BoundValues}
+use Rattle.dx_getting.specs.Bound.{AreLinks}
 use Rattle.dx_getting.specs.Stands.{Answers, Setting}
 use Rattle.dx_meaning.specs.Outcome.{Value}
 use Rattle.dx_meaning.specs.Scan.{Sight}
@@ -33,30 +31,10 @@ nodes_in setup = (graph_of setup.graph.now).nodes
 abbrev pub links_of : List Head → LinkMap → LinkTerms
 links_of hs links = map (λ (l : Key × Holding). (l.0, record { object = l.1.value; term = value_term hs l.1.tag })) links
 
--- the value of a link, by its tag
-pub record IsLink (links : LinkMap) (x : ValueTag × Object) : Type 0 where
-  pub key : Key
-  pub held : Holding
-  pub at : held_at key links ≡ Some held
-  pub tag : held.tag ≡ x.0
-  pub object : held.value ≡ x.1
-
-abbrev pub AreLinks : LinkMap → BoundValues → Type 0
-AreLinks links [] = Unit {0}
-AreLinks links (x ∷ xs) = IsLink links x × AreLinks links xs
-
-abbrev pub AllBound : LinkMap → BoundValues → Type 0
-AllBound [] bound = Unit {0}
-AllBound (l ∷ ls) bound = ((o : Object) × (lookup (tags.ghosts.eq l.1.tag) bound ≡ Some o)) × AllBound ls bound
-
--- the values of links are found by their tags, and nothing else is
-pub record IsBound (links : LinkMap) (bound : BoundValues) : Type 0 where
-  pub all : AllBound links bound
-  pub only : AreLinks links bound
-
--- the links, held values and written files that an execution begins with
+-- the links, what is found by their tags, held values and written files that an execution begins with
 pub record IsKept (hs : List Head) (setup : Setup) (k : Kept) : Type 0 where
   pub links : k.links ≡ links_of hs setup.links.now.links
+  pub values : AreLinks setup.links.now.links setup.bound.now.pairs
   pub held : k.held ≡ setup.held.now
   pub written : k.written ≡ setup.written.now.files
 

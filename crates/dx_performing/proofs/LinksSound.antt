@@ -1,4 +1,4 @@
--- Behind each execution a link's object is what its term denotes.
+-- Behind each execution a link's object is what its term denotes, and so is each object that was set.
 use Rattle.std.proofs.Common.{◌≡◌, ℕ, suc, ◌+◌, List, [], ◌∷◌, ◌++◌, map, Option, Some, None, is_some, Bool, true, false, sym, ap, ◌∙◌, arith}
 use Rattle.std.specs.Prelude.{Result, Ok, Err, option_map, if◌then◌else◌, cond}
 use Rattle.std.specs.Map.{remove_entry}
@@ -30,17 +30,9 @@ use Rattle.dx_performing.specs.Execution.{Execution, execution}
 use Rattle.dx_performing.specs.Kept.{Kept, Link, LinkTerms, SetTerm, set_terms, put_term, after_set_terms, held_links, is_full, emptied}
 use Rattle.dx_performing.specs.Course.{Fixed, At, Came, world_of, around_of, sight_of, begins, came, sets_by, ends_by, look_at, worked, unless, course, committed, unless_full}
 use Rattle.dx_performing.specs.Meant.{CameSo, LinksRight}
-use Rattle.dx_performing.specs.SoundLinks.{LinksStayRight}
+use Rattle.dx_performing.specs.SoundLinks.{LinkRight, SetsRight, SetsAreRight, LinksStayRight}
 use Rattle.dx_performing.proofs.Meant.{effect_comes, all_agree, no_file_first}
 use Rattle.dx_performing.proofs.Executed.{names_of, full, denote}
-
-abbrev LinkRight : Around → Option Link → Type 0
-LinkRight a None = Unit {0}
-LinkRight a (Some l) = denotes a l.term ≡ Ok (Some l.object)
-
-abbrev SetsRight : Around → List SetTerm → Type 0
-SetsRight a [] = Unit {0}
-SetsRight a (s ∷ ss) = LinkRight a s.link × SetsRight a ss
 
 rights-append : (a : Around) (xs ys : List SetTerm) → SetsRight a xs → SetsRight a ys → SetsRight a (xs ++ ys)
 rights-append a [] ys p q = q
@@ -188,7 +180,10 @@ full_right x k r = by (is_full k.terms)
     by true = held_right (around_of x (emptied k)) 0 k.links (λ i. let at : 0 + i ≡ i = omega arith in ap (value_at (held_of k.links)) at)
     by false = r
 
+pub sets_are_right : SetsAreRight
+sets_are_right x k effects r = course_right x k r effects (begins k) tt
+
 pub links_stay_right : LinksStayRight
 links_stay_right x k effects r =
     let at = course x k effects (begins k) in
-    full_right x (committed k (execution (world_of x k) effects) at) (committed_right x k (execution (world_of x k) effects) at r (course_right x k r effects (begins k) tt))
+    full_right x (committed k (execution (world_of x k) effects) at) (committed_right x k (execution (world_of x k) effects) at r (sets_are_right x k effects r))

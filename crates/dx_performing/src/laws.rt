@@ -4,7 +4,7 @@ ghost use Rattle.dx_performing.specs.Meant.{EffectsComeSo, LeavesWhatIsMeant, Sc
 ghost use Rattle.dx_performing.specs.Resuming.{AllSelectorsGoOn, LookingResumes, ReadyStays, SelectorsGoOn};
 ghost use Rattle.dx_performing.specs.Rows.{Examples};
 ghost use Rattle.dx_performing.specs.SoundEntries.{EntriesStaySound};
-ghost use Rattle.dx_performing.specs.SoundLinks.{LinksStayRight};
+ghost use Rattle.dx_performing.specs.SoundLinks.{LinksStayRight, SetsAreRight};
 
 /// What an effect prints, puts, sets or refuses; what is passed over; where an execution ends; and which runs, hits and stored
 /// results its course has: a few executions that the definitions compute.
@@ -54,7 +54,8 @@ pub fn entries_stay_sound()
     ensures { EntriesStaySound }
 {}
 
-/// Behind an execution each link's object is what its term denotes.
+/// Behind an execution each link's object is what its term denotes, and so is each object that was set.
 pub fn links_stay_right()
-    ensures { LinksStayRight }
+    ensures links { LinksStayRight }
+    ensures sets { SetsAreRight }
 {}

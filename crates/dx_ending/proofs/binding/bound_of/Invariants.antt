@@ -1,6 +1,11 @@
-use Rattle.dx_ending.proofs.BindLaws.{Binds}
+use Rattle.std.proofs.Common.{◌≤◌, ◌+◌, length, take}
+use Rattle.dx_getting.specs.Bound.{IsBound, AreLinks}
 use Rattle.dx_ending.proofs.binding.bound_of.Given as goal
 
--- the values of so many links are found by their tags
+-- so many links hold their values, and there is room for those of the others
 abbrev pub invariant-loop-i : goal.invariant-loop-i
-invariant-loop-i l = Binds l.links.links l.i l.bound.pairs
+invariant-loop-i l = record {
+  room : length l.links.links ≤ l.bound.room + l.i;
+  bound : IsBound (take l.i l.links.links) l.bound;
+  values : AreLinks l.links.links l.bound.pairs;
+}

@@ -36,7 +36,7 @@ loop-k-preserved c =
       held =
           c.in_ok-push.ensures.ok
           ∙ ap₂ (λ vs v. vs ++ v ∷ []) c.loop-k.invariant.held (c.in_ok-value.ensures ∙ ap Some c.value.ensures)
-          ∙ sym (values_more c.args.links.now.links c.loop-k.k (c.at.result.0.now, c.at.result.1.now) c.at.ensures)
+          ∙ sym (values_more c.args.links.now.links c.loop-k.k (c.at.result.0.now, c.at.result.1.now) c.at.ensures.at)
           ∙ ap (λ n. values_held (take n c.args.links.now.links)) (after c.loop-k.k);
     }
 

@@ -1,7 +1,11 @@
+use Rattle.dx_looking.proofs.Growth.{fits_held}
 use Rattle.dx_looking.proofs.Resolved.{sight_same, sees_new, right_before, formed_before, met_before, looking_so}
 use Rattle.dx_looking.specs.Setting.{sight_in}
 use Rattle.dx_looking.proofs.Ways.{with_seen}
 use Rattle.dx_looking.proofs.resolving.resolve_told.Goals as goal
+
+pub resolve-requires-clause-links : goal.resolve-requires-clause-links
+resolve-requires-clause-links c = fits_held c.args.at.now.tags c.args.setup.now.links.now.links c.requires.looking.links
 
 pub returns-clause-looking : goal.returns-clause-looking
 returns-clause-looking c =

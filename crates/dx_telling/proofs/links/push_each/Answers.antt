@@ -7,7 +7,7 @@ use Rattle.dx_telling.proofs.links.push_each.Goals as goal
 pub loop-i-preserved : goal.loop-i-preserved
 loop-i-preserved c =
     link_next c.args.links.now.links c.loop-i.i (c.at.result.0.now, c.at.result.1.now) c.loop-i.out.items c.push_link.new.out.items (c.args.out.now.items ++ links_from c.args.links.now.links 0)
-    c.at.ensures c.loop-i.invariant
+    c.at.ensures.at c.loop-i.invariant
     (subst (λ (o : Object). c.push_link.new.out.items ≡ c.loop-i.out.items ++ link_text c.at.result.0.now o) (c.deref.ensures ∙ c.value.ensures) c.in_ok-push_link.ensures)
 
 pub returns : goal.returns

@@ -4,10 +4,9 @@ use Rattle.dx_links.specs.LinkMap.{LinkMap}
 use Rattle.dx_demand.specs.Forming.{named_terms}
 use Rattle.dx_performing.specs.Kept.{is_full}
 use Rattle.dx_performing.specs.Execution.{after_exports}
-use Rattle.dx_looking.specs.Setting.{IsBound}
 use Rattle.dx_ending.specs.Putting.{exports_of}
-use Rattle.dx_engine.specs.Leaving.{links_behind, NextSo}
-use Rattle.dx_engine.proofs.Finished.{on_end, on_cut, unput_is, unput_cause, unput_is_no_read, unput_is_no_write, unput_end, unput_error, ended_error, none_put, front_put, uncut_put, left_behind}
+use Rattle.dx_engine.specs.Leaving.{links_behind, PreparedSo}
+use Rattle.dx_engine.proofs.Finished.{on_end, on_cut, unput_is, unput_cause, unput_is_no_read, unput_is_no_write, unput_end, unput_error, ended_error, none_put, front_put, uncut_put, bound_stays, left_behind}
 use Rattle.dx_engine.proofs.state.State.finish.Goals as goal
 
 pub returns-in_err-site-clause-cut : goal.returns-in_err-site-clause-cut
@@ -38,25 +37,25 @@ pub returns-in_err-prepared-clause-links : goal.returns-in_err-prepared-clause-l
 returns-in_err-prepared-clause-links g c = on_cut c.from_residual-in_err-prepared.result _ c.prepare.ensures.links
 
 pub returns-in_err-prepared-clause-bound : goal.returns-in_err-prepared-clause-bound
-returns-in_err-prepared-clause-bound g c = on_cut c.from_residual-in_err-prepared.result _ c.prepare.ensures.bound
+returns-in_err-prepared-clause-bound g c = on_cut c.from_residual-in_err-prepared.result _ (c.prepare.ensures.pairs, c.prepare.ensures.counts)
 
 pub returns-in_err-reserve-clause-links : goal.returns-in_err-reserve-clause-links
 returns-in_err-reserve-clause-links g c = on_cut c.from_residual-in_err-reserve.result _ c.prepare.ensures.links
 
 pub returns-in_err-reserve-clause-bound : goal.returns-in_err-reserve-clause-bound
-returns-in_err-reserve-clause-bound g c = on_cut c.from_residual-in_err-reserve.result _ c.prepare.ensures.bound
+returns-in_err-reserve-clause-bound g c = on_cut c.from_residual-in_err-reserve.result _ (c.prepare.ensures.pairs, c.prepare.ensures.counts)
 
 pub returns-in_err-reserve-2-clause-links : goal.returns-in_err-reserve-2-clause-links
 returns-in_err-reserve-2-clause-links g c = on_cut c.from_residual-in_err-reserve-2.result _ c.prepare.ensures.links
 
 pub returns-in_err-reserve-2-clause-bound : goal.returns-in_err-reserve-2-clause-bound
-returns-in_err-reserve-2-clause-bound g c = on_cut c.from_residual-in_err-reserve-2.result _ c.prepare.ensures.bound
+returns-in_err-reserve-2-clause-bound g c = on_cut c.from_residual-in_err-reserve-2.result _ (c.prepare.ensures.pairs, c.prepare.ensures.counts)
 
 pub returns-in_err-make_puts-clause-links : goal.returns-in_err-make_puts-clause-links
 returns-in_err-make_puts-clause-links g c = on_cut c.from_residual-in_err-make_puts.result _ c.prepare.ensures.links
 
 pub returns-in_err-make_puts-clause-bound : goal.returns-in_err-make_puts-clause-bound
-returns-in_err-make_puts-clause-bound g c = on_cut c.from_residual-in_err-make_puts.result _ c.prepare.ensures.bound
+returns-in_err-make_puts-clause-bound g c = on_cut c.from_residual-in_err-make_puts.result _ (c.prepare.ensures.pairs, c.prepare.ensures.counts)
 
 pub returns-in_err-make_puts-clause-same : goal.returns-in_err-make_puts-clause-same
 returns-in_err-make_puts-clause-same g c = on_cut c.from_residual-in_err-make_puts.result _ (refl, refl, refl)
@@ -69,28 +68,25 @@ returns-in_err-make_puts-clause-faults g c =
 pub returns-in_err-make_puts-clause-cause : goal.returns-in_err-make_puts-clause-cause
 returns-in_err-make_puts-clause-cause g c = unput_cause c.in_err-make_puts.field-0.0 _ _ c.make_puts.result c.from_residual-in_err-make_puts.result c.in_err-make_puts.was (unput_is _ _ c.from_residual-in_err-make_puts.ensures.1) c.make_puts.ensures.cause
 
+pub keep-requires-clause-bound : goal.keep-requires-clause-bound
+keep-requires-clause-bound g c = bound_stays c.args.self.now.links.links c.prepare.new.links.links c.args.self.now.bound c.prepare.new.bound c.prepare.ensures.links c.prepare.ensures.pairs c.prepare.ensures.counts c.requires.bound
+
 pub returns-clause-left : goal.returns-clause-left
 returns-clause-left g c =
-    let full = is_full (named_terms c.args.self.now.tags) in
     let changes = c.args.gathered.changes in
-    let failed = c.is_some-failed.result in
-    let prepared = c.in_ok-prepared.prepared in
-    let p = c.in_ok-prepared.ensures.prepared in
-    let same_links = c.prepare.ensures.links in
-    let bound : IsBound c.prepare.new.links.links c.prepare.new.bound.pairs = subst (λ (ls : LinkMap). IsBound ls c.prepare.new.bound.pairs) (sym same_links) (subst (IsBound c.args.self.now.links.links) (sym c.prepare.ensures.bound) c.requires.bound) in
-    let next : NextSo c.prepare.new.links.links full failed changes prepared.links = subst (λ (ls : LinkMap). NextSo ls full failed changes prepared.links) (sym same_links) p.next in
-    let links = c.put_links.ensures.links full failed changes bound next in
-    let same = c.put_links.ensures.same in
+    let full = is_full (named_terms c.args.self.now.tags) in
+    let links = links_behind c.args.self.now.links.links c.is_some-failed.result changes in
     on_end c.ended.result _
-    (left_behind c.args.self.now c.put_links.new.self c.put_empty.new.self (graph_of c.args.g.now).nodes c.args.gathered.error c.in_ok-site.site failed full changes prepared.empty
-    c.in_ok-site.ensures c.is_some-failed.ensures (links.0 ∙ ap (λ (ls : LinkMap). links_behind ls failed changes) same_links) same.0 same.1 same.2 (ap (λ y. y.items) same.3 ∙ c.reserve-2.ensures.items) p.empty (c.put_empty.ensures.left full links.1))
+    (left_behind c.args.self.now _ c.keep.new.self (graph_of c.args.g.now).nodes c.args.gathered c.in_ok-site.site c.is_some-failed.result
+    c.in_ok-site.ensures c.is_some-failed.ensures c.prepare.ensures.pairs refl refl refl c.reserve-2.ensures.items
+    (c.keep.ensures.left changes full links (subst (λ (ls : LinkMap). PreparedSo ls changes full links c.in_ok-prepared.prepared) (sym c.prepare.ensures.links) c.in_ok-prepared.ensures.prepared)))
 
 pub returns-clause-put : goal.returns-clause-put
 returns-clause-put g c =
     on_end c.ended.result _
     (record {
       told = c.in_ok-make_puts.ensures.all.told;
-      files = ap (λ y. y.files) (c.put_empty.ensures.written ∙ c.put_links.ensures.same.4) ∙ (c.in_ok-make_puts.ensures.all.files ∙ ap (λ y. after_exports y (exports_of c.args.gathered.puts.items)) c.reserve.ensures.files);
+      files = ap (λ y. y.files) c.keep.ensures.written ∙ (c.in_ok-make_puts.ensures.all.files ∙ ap (λ y. after_exports y (exports_of c.args.gathered.puts.items)) c.reserve.ensures.files);
     })
 
 pub returns-clause-cut : goal.returns-clause-cut

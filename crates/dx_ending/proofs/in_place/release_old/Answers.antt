@@ -1,0 +1,6 @@
+use Rattle.dx_ending.proofs.CountLaws.{released}
+use Rattle.dx_ending.proofs.in_place.release_old.Goals as goal
+
+pub returns-in-Some-clause-bound : goal.returns-in-Some-clause-bound
+returns-in-Some-clause-bound c =
+    released c.args.links.now.links c.args.key.now c.in-Some.held.now c.tag.result c.args.bound.now c.release.new.self c.in-Some.ensures c.tag.ensures c.requires.bound c.release.ensures.counts c.release.ensures.values c.release.ensures.once

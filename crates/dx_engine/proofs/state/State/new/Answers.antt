@@ -1,0 +1,13 @@
+use Rattle.std.proofs.Common.{rules, sym, subst}
+use Rattle.dx_links.specs.LinkMap.{LinkMap}
+use Rattle.dx_getting.specs.Bound.{IsBound}
+use Rattle.dx_ending.proofs.CountLaws.{first_bound}
+use Rattle.dx_engine.proofs.state.State.new.Goals as goal
+
+pub returns-clause-fits : goal.returns-clause-fits
+returns-clause-fits c = record {
+  exact = search rules;
+  links = search rules;
+  bound = subst (λ (links : LinkMap). IsBound links c.new-3.result) (sym c.new-2.ensures) (first_bound c.new-3.result c.new-3.ensures.pairs c.new-3.ensures.counts);
+  entries = search rules;
+}
