@@ -14,11 +14,11 @@ ghost use Rattle.dx_compute_meaning.specs.Shown.{shown_arrays, Computes, code_in
 
 use crate::arrays::are_alike;
 use crate::given::Given;
-use crate::magnitudes::has_no_fault;
+use crate::runs::find_fault_in_runs;
 use dx_arrays::{Array, Shape};
 use dx_base::{Code, Fail};
 use dx_expr::{Expression, ItemFault, shape_of};
-use dx_expr_eval::{evaluate, find_fault};
+use dx_expr_eval::evaluate;
 use dx_objects::RunFail;
 use std::alloc::{AllocError, Global};
 
@@ -111,8 +111,7 @@ fn array_of(
     }
 }
 
-// More values than an object holds: only their first fault matters, which takes a look at all of them where it isn't
-// certain that there is none.
+// More values than an object holds: only their first fault matters.
 fn too_many(
     alloc: Global,
     e: &Expression,
@@ -123,10 +122,7 @@ fn too_many(
     requires many { 67108848 < inputs.now.items * product shape.now }
     ensures { Computes (spec.array_of e.now (shown_arrays inputs.now.arrays.now) inputs.now.items shape.now) result }
 {
-    if has_no_fault(alloc, e, inputs)? {
-        return Ok(None);
-    }
-    match find_fault(alloc, e, inputs, inputs.items) {
+    match find_fault_in_runs(alloc, e, inputs) {
         Ok(()) => Ok(None),
         Err(fail) => Err(failed(fail)),
     }

@@ -6,11 +6,12 @@ mod compute;
 mod expression;
 mod given;
 mod groups;
-mod magnitudes;
 mod members;
 mod operands;
 mod place;
+mod ranges;
 mod run;
+mod runs;
 mod source;
 
 pub use dx_base::Code;

@@ -20,6 +20,8 @@ mod numbers;
 #[cfg(test)]
 mod order;
 #[cfg(test)]
+mod runs;
+#[cfg(test)]
 mod shown;
 #[cfg(test)]
 mod stock;

@@ -179,8 +179,8 @@ fn a_member_that_is_too_large(rt: HostRuntime) -> Result<(), Fail> {
     Ok(())
 }
 
-// So many items of 65,536 sevens.
-fn sevens(alloc: Global, items: u64) -> Result<Rc<Object>, Fail> {
+/// So many items of 65,536 sevens.
+pub(crate) fn sevens(alloc: Global, items: u64) -> Result<Rc<Object>, Fail> {
     let shape = Shape::from_vec(Vec::from_slice(alloc, &[256, 256])?);
     let item = vec![in alloc; 7; 65_536]?;
     alone(alloc, Array::constant(ElemType::Int, shape, items, item)?)

@@ -1,7 +1,7 @@
 // Expressions that are vectors, by their components and by blocks of items.
 ghost use Rattle.std.specs.Prelude.{◌≤◌};
 ghost use Rattle.dx_base.specs.Answers.{Answers, refused};
-ghost use Rattle.dx_expr_eval.specs.Items.{all_values, faultless};
+ghost use Rattle.dx_expr_eval.specs.Items.{all_values, values_from, faultless};
 ghost use Rattle.dx_expr_eval.specs.Rows.{AreColumns};
 
 use crate::rows::block;
@@ -38,25 +38,27 @@ pub(crate) fn evaluate_components<I: Columns>(
     Ok(Items::from_vec(found))
 }
 
-/// Whether each of so many items has its values.
+/// Whether each item from one to before another has its values.
 pub(crate) fn find_fault_of_components<I: Columns>(
     alloc: Global,
     e: &Expression,
     columns: &[Expression],
     inputs: &I,
-    items: usize,
+    from: usize,
+    to: usize,
 ) -> Result<(), Fail<ItemFault>>
     requires columns { AreColumns (I.given inputs.now) e.now columns.now }
-    requires within { items ≤ I.items inputs.now }
-    ensures { Answers refused (faultless (all_values (I.given inputs.now) e.now items)) result }
+    requires order { from ≤ to }
+    requires within { to ≤ I.items inputs.now }
+    ensures { Answers refused (faultless (values_from (I.given inputs.now) e.now from to)) result }
 {
     let mut spare = Spare::new(alloc);
-    let mut from = 0;
-    'turns: while from < items {
-        let to = from.saturating_add(BLOCK).min(items);
-        let rows = block(alloc, &mut spare, e, columns, inputs, from, to)?;
+    let mut first = from;
+    'turns: while first < to {
+        let behind = first.saturating_add(BLOCK).min(to);
+        let rows = block(alloc, &mut spare, e, columns, inputs, first, behind)?;
         spare.keep_values(rows.values)?;
-        from += rows.count;
+        first += rows.count;
     }
     Ok(())
 }

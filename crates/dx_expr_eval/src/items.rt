@@ -6,7 +6,7 @@ ghost use Rattle.dx_base.specs.Elem.{in_range};
 ghost use Rattle.dx_base.specs.declared.elem.ElemType.TheVariants.{Int};
 ghost use Rattle.dx_expr.specs.Shape as shapes;
 ghost use Rattle.dx_expr.specs.Value as spec;
-ghost use Rattle.dx_expr_eval.specs.Items.{all_values, faultless};
+ghost use Rattle.dx_expr_eval.specs.Items.{all_values, values_from, faultless};
 
 use crate::columns::{columns_of, columns_of_number, is_number};
 use crate::components::{evaluate_components, find_fault_of_components};
@@ -49,16 +49,18 @@ pub fn evaluate<I: Columns>(
     }
 }
 
-/// Whether each of so many items has its values; where one has none, the first fault of the first such item.
+/// Whether each item from one to before another has its values; where one has none, the first fault of the first such item.
 pub fn find_fault<I: Columns>(
     alloc: Global,
     e: &Expression,
     inputs: &I,
-    items: u64,
+    from: u64,
+    to: u64,
 ) -> Result<(), Fail<ItemFault>>
     requires fits { IsSome (shapes.shape_of (I.given inputs.now).shape e.now) }
-    requires within { items ≤ I.items inputs.now }
-    ensures { Answers refused (faultless (all_values (I.given inputs.now) e.now items)) result }
+    requires order { from ≤ to }
+    requires within { to ≤ I.items inputs.now }
+    ensures { Answers refused (faultless (values_from (I.given inputs.now) e.now from to)) result }
 {
     let is_number = is_number(e, inputs);
     let columns = if is_number {
@@ -67,11 +69,12 @@ pub fn find_fault<I: Columns>(
         columns_of(alloc, e, inputs)?
     };
     if !columns.is_empty() {
-        return find_fault_of_components(alloc, e, columns.as_slice(), inputs, items as usize);
+        let columns = columns.as_slice();
+        return find_fault_of_components(alloc, e, columns, inputs, from as usize, to as usize);
     }
     if is_number {
-        find_fault_of_numbers(alloc, e, inputs, items as usize)
+        find_fault_of_numbers(alloc, e, inputs, from as usize, to as usize)
     } else {
-        find_fault_of_vectors(alloc, e, inputs, items)
+        find_fault_of_vectors(alloc, e, inputs, from, to)
     }
 }

@@ -2,7 +2,7 @@
 ghost use Rattle.std.specs.Prelude.{◌≡◌, ◌≤◌, [], length, Some, IfOk};
 ghost use Rattle.dx_base.specs.Answers.{Answers, refused};
 ghost use Rattle.dx_expr.specs.Shape.{shape_of as spec_shape_of};
-ghost use Rattle.dx_expr_eval.specs.Items.{all_values, faultless};
+ghost use Rattle.dx_expr_eval.specs.Items.{all_values, values_from, faultless};
 
 use dx_base::{Fail, Items};
 use dx_expr::{Expression, ItemFault};
@@ -40,27 +40,29 @@ pub(crate) fn evaluate_numbers<I: Columns>(
     Ok(Items::from_vec(found))
 }
 
-/// Whether each of so many items has its value.
+/// Whether each item from one to before another has its value.
 pub(crate) fn find_fault_of_numbers<I: Columns>(
     alloc: Global,
     e: &Expression,
     inputs: &I,
-    items: usize,
+    from: usize,
+    to: usize,
 ) -> Result<(), Fail<ItemFault>>
     requires single { spec_shape_of (I.given inputs.now).shape e.now ≡ Some [] }
-    requires within { items ≤ I.items inputs.now }
-    ensures { Answers refused (faultless (all_values (I.given inputs.now) e.now items)) result }
+    requires order { from ≤ to }
+    requires within { to ≤ I.items inputs.now }
+    ensures { Answers refused (faultless (values_from (I.given inputs.now) e.now from to)) result }
 {
     let mut spare = Spare::new(alloc);
-    let mut from = 0;
-    'turns: while from < items {
-        let to = from.saturating_add(BLOCK).min(items);
-        let block = evaluate_range(alloc, &mut spare, e, inputs, from, to)?;
+    let mut first = from;
+    'turns: while first < to {
+        let behind = first.saturating_add(BLOCK).min(to);
+        let block = evaluate_range(alloc, &mut spare, e, inputs, first, behind)?;
         if let Some(fault) = block.fault {
             return Err(Fail::Refused(fault));
         }
         spare.keep_values(block.values)?;
-        from = to;
+        first = behind;
     }
     Ok(())
 }

@@ -3,7 +3,7 @@ ghost use Rattle.std.specs.Prelude.{◌≡◌, ◌≤◌, ◌<◌, ◌*◌, leng
 ghost use Rattle.dx_base.specs.Answers.{Answers, refused};
 ghost use Rattle.dx_expr.specs.Shape as shapes;
 ghost use Rattle.dx_expr.specs.Value as spec;
-ghost use Rattle.dx_expr_eval.specs.Items.{all_values, faultless};
+ghost use Rattle.dx_expr_eval.specs.Items.{all_values, values_from, faultless};
 
 use dx_base::{Fail, Items};
 use dx_expr::{EvalFail, Expression, Inputs, ItemFault, Values, values_of};
@@ -32,18 +32,20 @@ pub(crate) fn evaluate_vectors<I: Inputs>(
     Ok(Items::from_vec(found))
 }
 
-/// Whether each of so many items has its values; where one has none, the first fault of the first such item.
+/// Whether each item from one to before another has its values; where one has none, the first fault of the first such item.
 pub(crate) fn find_fault_of_vectors<I: Inputs>(
     alloc: Global,
     e: &Expression,
     inputs: &I,
-    items: u64,
+    from: u64,
+    to: u64,
 ) -> Result<(), Fail<ItemFault>>
     requires fits { IsSome (shapes.shape_of (I.given inputs.now).shape e.now) }
-    requires within { items ≤ I.items inputs.now }
-    ensures { Answers refused (faultless (all_values (I.given inputs.now) e.now items)) result }
+    requires order { from ≤ to }
+    requires within { to ≤ I.items inputs.now }
+    ensures { Answers refused (faultless (values_from (I.given inputs.now) e.now from to)) result }
 {
-    for item in 0..items {
+    for item in from..to {
         item_values(alloc, e, inputs, item)?;
     }
     Ok(())

@@ -1,8 +1,8 @@
-use Rattle.std.proofs.Common.{◌≡◌, Ok, Err, length, sym, ap, subst, ◌∙◌}
+use Rattle.std.proofs.Common.{◌≡◌, Ok, Err, sym, ap, subst, ◌∙◌}
 use Rattle.std.proofs.lemmas.List.{length-map}
 use Rattle.std.specs.declared.rc.Rc.{Rc}
 use Rattle.std.specs.declared.alloc.Global.{Global}
-use Rattle.dx_base.specs.Object.{Tree, PartList, parts, attributes, part_count}
+use Rattle.dx_base.specs.Object.{Tree, parts, attributes, part_count}
 use Rattle.dx_base.specs.ObjectLimits.{all_fields}
 use Rattle.dx_base.specs.ObjectMembers.{placed}
 use Rattle.dx_objects.specs.Makes.{Makes}

@@ -1,4 +1,4 @@
-use Rattle.std.proofs.Common.{◌≡◌, Ok, Err, sym, ap, subst, ◌∙◌}
+use Rattle.std.proofs.Common.{◌≡◌, Ok, Err, ap, subst, ◌∙◌}
 use Rattle.dx_base.specs.Object.{array, attributes}
 use Rattle.dx_base.specs.ObjectLimits.{unplaced}
 use Rattle.dx_objects.specs.Makes.{Makes}
