@@ -10,9 +10,17 @@ use dx_objects::{Array, ArrayClass};
 pub(crate) fn first_stray(array: &Array, items: u64) -> Option<u64>
     ensures { result ≡ spec.first_stray array.now items }
 {
-    if let Some(Values::Wide(values)) = array.plain_values() {
-        return first_stored_stray(array, values, items);
+    match array.plain_values() {
+        Some(Values::Wide(values)) => first_stored_stray(array, values, items),
+        Some(Values::Ints(values)) => first_stray_int(array, values, items),
+        None => first_told_stray(array, items),
     }
+}
+
+// Of an array whose values are told by a few.
+fn first_told_stray(array: &Array, items: u64) -> Option<u64>
+    ensures { result ≡ spec.first_stray array.now items }
+{
     if joins_few(array, items) {
         return None;
     }
@@ -48,6 +56,20 @@ fn first_stored_stray(array: &Array, values: &[i64], items: u64) -> Option<u64>
     for (i, value) in values.iter().enumerate() {
         if !names_item(items, *value) {
             return Some(i as u64);
+        }
+    }
+    None
+}
+
+// Of a plain array, which stores these ints in 4 bytes each.
+fn first_stray_int(array: &Array, values: &[i32], items: u64) -> Option<u64>
+    requires { plain_of array.now.class ≡ Some values.now }
+    ensures { result ≡ spec.first_stray array.now items }
+{
+    let _items = array.items();
+    for (number, value) in values.iter().enumerate() {
+        if !names_item(items, i64::from(*value)) {
+            return Some(number as u64);
         }
     }
     None

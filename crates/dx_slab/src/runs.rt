@@ -49,11 +49,12 @@ pub(crate) fn values_of(alloc: Global, array: &Array, runs: Runs) -> Result<Vec<
 {
     match array.plain_values() {
         Some(Values::Wide(stored)) => copied_values(alloc, array, stored, runs),
-        _ => told_values(alloc, array, runs),
+        Some(Values::Ints(stored)) => copied_ints(alloc, array, stored, runs),
+        None => told_values(alloc, array, runs),
     }
 }
 
-// The values of these items of a plain array, which has all its values in a list.
+// The values of these items of a plain array, which has all its values in a list, in 8 bytes each.
 fn copied_values(
     alloc: Global,
     array: &Array,
@@ -102,7 +103,41 @@ fn push_each(row: &[i64], out: &mut Vec<i64>)
     }
 }
 
-// The values of these items of an array whose values are told by a few, or stored in 4 bytes each.
+// The values of these items of a plain array, which has all its values in a list of ints, in 4 bytes each.
+fn copied_ints(
+    alloc: Global,
+    array: &Array,
+    stored: &[i32],
+    runs: Runs,
+) -> Result<Vec<i64>, AllocError>
+    requires within { AreWithin runs (items array.now) }
+    requires stored { plain_of array.now.class ≡ Some stored.now }
+    ensures { IfOk result (λ values. values.items ≡ run_values array.now runs runs.count) }
+{
+    let width = array.width();
+    let len = runs.count * runs.len * width;
+    let mut values = Vec::with_capacity(alloc, len as usize)?;
+    for run in 0..runs.count {
+        let first = (run * runs.stride + runs.start) * width;
+        let end = (run * runs.stride + runs.start + runs.len) * width;
+        push_ints(&stored[first as usize..end as usize], &mut values);
+    }
+    Ok(values)
+}
+
+// Puts these ints behind the others, one by one.
+fn push_ints(row: &[i32], out: &mut Vec<i64>)
+    requires room { vec_len out.old + length row.now ≤ vec_capacity out.old }
+    ensures items { out.new.items ≡ out.old.items ++ row.now }
+    ensures len { vec_len out.new ≡ vec_len out.old + length row.now }
+    ensures capacity { vec_capacity out.new ≡ vec_capacity out.old }
+{
+    for value in row {
+        out.push_reserved(i64::from(*value));
+    }
+}
+
+// The values of these items of an array whose values are told by a few.
 fn told_values(alloc: Global, array: &Array, runs: Runs) -> Result<Vec<i64>, AllocError>
     requires { AreWithin runs (items array.now) }
     ensures { IfOk result (λ values. values.items ≡ run_values array.now runs runs.count) }

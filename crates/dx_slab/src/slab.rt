@@ -25,8 +25,9 @@ use std::alloc::{AllocError, Global};
 /// position, a number, or NULL for each; and the thickness, a number, or NULL for 0. A slab at position q and of
 /// thickness t keeps the points whose index in the dimension is q to q + t, and the cells between them; of thickness 0 it
 /// keeps the cells behind its points, or before them at the last index. What depends on points or cells is cut with them
-/// and becomes a plain array; a component that depends on another one, or on nothing, stays as it is. Dimensions of one
-/// point are no dimensions of the cells; where no dimension is left, there are no cells. All attributes stay.
+/// and becomes a plain array; `data` that names nothing depends on the points; another component that depends on a third
+/// one, or on nothing, stays as it is. Dimensions of one point are no dimensions of the cells; where no dimension is left,
+/// there are no cells. All attributes stay.
 ///
 /// BadArgument where the first input is no field; then BadField where the field has a fault; then NotRegular where it is no
 /// regular grid, or a component but `connections` refers to another one; then BadField where `data` depends on nothing and

@@ -32,7 +32,8 @@ count_in b vs k = count_by (falls_in b k) vs
 abbrev pub bin_counts : Bins → List ℤ → List ℤ
 bin_counts b vs = map (λ k. pos (count_in b vs k)) (range_with_len 0 b.count)
 
--- the least number of bin k, and behind the last bin the number that follows: the least one plus k spans divided by the bins, rounded up
+-- where bin k begins: the least whole number, of those from the least one on, that falls into no bin before it, and behind
+-- the last bin the number that follows the greatest one; it is the least one plus k spans divided by the bins, rounded up
 abbrev pub border : Bins → ℕ → ℤ
 border b k = b.low +ℤ pos (div_ceil (span b * k) b.count)
 

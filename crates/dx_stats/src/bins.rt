@@ -55,7 +55,8 @@ impl Bins {
         (u128::from(value.abs_diff(self.low)) * slope / SCALE) as u64
     }
 
-    // The least number of a bin, and behind the last bin the number that follows.
+    // Where a bin begins: the least whole number, of those from `low` on, that falls into no bin before it. Behind the last
+    // bin it is the number that follows `high`.
     fn border(self, k: u64) -> i64
         requires bins { AreBins self }
         requires within { k ≤ self.count }
