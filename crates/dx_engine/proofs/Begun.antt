@@ -9,9 +9,10 @@ use Rattle.dx_tags.specs.declared.term.Term.{Term}
 use Rattle.dx_tags.specs.Closed.{heads_of}
 use Rattle.dx_machine.specs.Machine.{State as Machine, tasks_of}
 use Rattle.dx_getting.specs.Told.{Told}
-use Rattle.dx_getting.proofs.TellLaws.{adds_none, grows_nothing, some_all}
+use Rattle.dx_getting.proofs.TellLaws.{adds_none, grows_nothing}
 use Rattle.std.specs.Result.{IsErr}
 use Rattle.dx_performing.specs.Execution.{execution}
+use Rattle.dx_engine.proofs.Fronts.{front_all}
 use Rattle.dx_engine.proofs.Coursing.{course_more}
 use Rattle.dx_effects.proofs.NextInput.{by_budget}
 use Rattle.dx_getting.specs.Stands.{Answers, EntriesRight, KnownRight, FormedCalls, World, known_calls, world}
@@ -126,7 +127,7 @@ nothing_done x st all nodes base before (Err short) e st' =
     let m = course_more x (kept_of st) all (begins (kept_of st)) in
     record {
       printed = ([], (execution (world_of x (kept_of st)) all).printed, refl, grows_nothing before);
-      told = some_all base base [] m.more (tasks_of (course x (kept_of st) all (begins (kept_of st))).state.events) (adds_none base) m.runs;
+      told = front_all _ base base [] m.more (tasks_of (course x (kept_of st) all (begins (kept_of st))).state.events) (adds_none base) m.runs;
     }
 
 -- ---- what fits

@@ -13,8 +13,8 @@ use Rattle.dx_links.specs.declared.held.Change.{Change}
 use Rattle.dx_links.specs.Holding.{Holding}
 use Rattle.dx_machine.specs.Machine.{State, Task, tasks_of}
 use Rattle.dx_machine.proofs.Grows.{RunsGrow, all_grow, grows_then, grows_none}
-use Rattle.dx_getting.specs.Told.{Told, AddsSome}
-use Rattle.dx_getting.proofs.TellLaws.{grows_more, grows_nothing, some_all, some_later}
+use Rattle.dx_getting.specs.Told.{Told}
+use Rattle.dx_getting.proofs.TellLaws.{grows_more, grows_nothing, some_later}
 use Rattle.dx_demand.proofs.Growing.{term_grows}
 use Rattle.dx_meaning.specs.Forming.{Formings}
 use Rattle.dx_meaning.specs.Scan.{Scanned, Forms, Ends}
@@ -31,9 +31,11 @@ use Rattle.dx_looking.specs.declared.progress.Progress.{Progress}
 use Rattle.dx_effects.specs.Coming.{node_trees}
 use Rattle.dx_engine.specs.Gathering.{ahead, text_in, puts_in, changes_in, is_end, Gathering, nothing, gathered_with, error_of}
 use Rattle.dx_engine.specs.Doing.{HoldingFits, DoneSo, node_looked, node_got, place_of_node}
+use Rattle.dx_engine.specs.Fronts.{AddsFront}
 use Rattle.dx_engine.specs.Running.{from_state, ChangesFit, AreCutShort}
 use Rattle.dx_engine.specs.declared.done.Done.{Done}
 use Rattle.dx_engine.specs.declared.done.Done.TheVariants as done
+use Rattle.dx_engine.proofs.Fronts.{front_all, front_later, front_some}
 
 -- ---- the course only adds runs
 
@@ -159,12 +161,12 @@ module _ (setup : Setup) (x : Fixed) (k : Kept) (base : Told) (all rest : List C
   ends = ends_by e place (came (around_of x k) looked.terms)
 
   -- cut short while it is performed
-  pub cut_there : (now' : Told) → IsCutIn base now' (node_got setup x k n o.state o.formed) → AreCutShort x k base all s f before now' written
+  pub cut_there : (now' : Told) → IsCutIn base now' (node_got setup x k n o.state o.formed) → AreCutShort true x k base all s f before now' written
   cut_there now' h =
       let m = behind_worked ends behind (course x k rest behind) (course_more x k rest behind) in
       record {
         printed = (o.text, (execution (world_of x k) (TreeCall (function.Effect e) place (node_trees setup n) ∷ rest)).printed, o.printed, o.wrote);
-        told = subst (λ (a : At). AddsSome base now' (tasks_of a.state.events)) (sym o.course) (some_later base now' (tasks_of behind.state.events) m.more (tasks_of (unless ends behind (course x k rest behind)).state.events) h m.runs);
+        told = subst (λ (a : At). AddsFront true base now' (tasks_of a.state.events)) (sym o.course) (front_some base now' (tasks_of (unless ends behind (course x k rest behind)).state.events) (some_later base now' (tasks_of behind.state.events) m.more (tasks_of (unless ends behind (course x k rest behind)).state.events) h m.runs));
       }
 
   module _ (d : Done) (at' : Progress) (now' : Told) (so : DoneSo setup x k base n e o.state o.formed d at' now') (on : GoesOn at.tags at'.tags) (fits : ChangesFit at.tags g.changes) where
@@ -178,13 +180,13 @@ module _ (setup : Setup) (x : Fixed) (k : Kept) (base : Told) (all rest : List C
     decided = ap (λ (y : Execution). y.printed) (so.decides (execution (world_of x k) rest))
 
     -- cut short while its text is printed
-    pub cut_printing : (written' : Option (List ℕ)) → GrowsInto written written' (text_in d) → AreCutShort x k base all s f before now' written'
-    cut_printing written' p =
+    pub cut_printing : (ahead : Bool) (written' : Option (List ℕ)) → GrowsInto written written' (text_in d) → AreCutShort ahead x k base all s f before now' written'
+    cut_printing ahead written' p =
         let m = behind_worked ends behind (course x k rest behind) (course_more x k rest behind) in
         let a = ahead_front (nodes_in setup) place.site d (execution (world_of x k) rest) in
         record {
           printed = (o.text ++ p.0, p.1 ++ a.0, o.printed ∙ ap (λ y. o.text ++ y) (decided ∙ a.1 ∙ ap (λ y. y ++ a.0) p.2 ∙ append_assoc p.0 p.1 a.0) ∙ sym (append_assoc o.text p.0 (p.1 ++ a.0)), grows_more before written written' o.text p.0 o.wrote p.3);
-          told = subst (λ (y : At). AddsSome base now' (tasks_of y.state.events)) (sym o.course) (some_later base now' (tasks_of behind.state.events) m.more (tasks_of (unless ends behind (course x k rest behind)).state.events) (some_all base now' (tasks_of behind.state.events) [] (tasks_of behind.state.events) so.stands.work.told (sym (append-nil (tasks_of behind.state.events)))) m.runs);
+          told = subst (λ (y : At). AddsFront ahead base now' (tasks_of y.state.events)) (sym o.course) (front_all ahead base now' (tasks_of behind.state.events) m.more (tasks_of (unless ends behind (course x k rest behind)).state.events) so.stands.work.told m.runs);
         }
 
     -- it goes on with the others

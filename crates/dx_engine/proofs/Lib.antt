@@ -1,3 +1,4 @@
+pub mod Fronts
 pub mod Coursing
 pub mod NextEffect
 pub mod Begun

@@ -1,10 +1,9 @@
 -- The next effect of an execution, and what fits behind it.
-use Rattle.std.proofs.Common.{false, ◌≡◌, ℕ, ◌+◌, ◌<◌, ◌≤◌, List, [], ◌∷◌, ◌++◌, length, map, drop, get_or, Option, Some, None, sym, ap, ◌∙◌, subst, true≢false}
+use Rattle.std.proofs.Common.{false, ◌≡◌, ℕ, ◌+◌, ◌<◌, ◌≤◌, List, [], ◌∷◌, ◌++◌, length, map, drop, get_or, Option, Some, None, Bool, true, refl, sym, ap, ◌∙◌, subst}
 use Rattle.std.proofs.lemmas.List.{at_drop_more, at_drop_all}
 use Rattle.std.proofs.Math.Logic.{∥∥₁_elim, ∥∥₁_map}
 use Rattle.std.proofs.Props.{props}
-use Rattle.std.specs.Prelude.{Result, Ok, Err}
-use Rattle.std.specs.Result.{IsErr}
+use Rattle.std.specs.Prelude.{Result, Ok, Err, IsErrAnd}
 use Rattle.dx_base.specs.declared.code.Code.{Code}
 use Rattle.dx_base.specs.declared.function.Effect.{Effect}
 use Rattle.dx_base.specs.declared.function.Function.{Function}
@@ -32,7 +31,10 @@ use Rattle.dx_effects.specs.Coming.{node_trees}
 use Rattle.dx_engine.specs.Gathering.{gathers, Gathering, gathered_with, changes_in, is_end, error_with}
 use Rattle.dx_engine.specs.Doing.{HoldingFits, DoneFits, PerformsSo, place_of_node}
 use Rattle.dx_looking.specs.declared.cut.Cut.{Cut}
+use Rattle.dx_looking.specs.declared.cut.Cut.TheVariants as cut
+use Rattle.dx_engine.specs.Fronts.{reads_ahead}
 use Rattle.dx_engine.specs.Running.{ErrorFits, ChangesFit, GatheredFits, AreRun, AreCutShort, RunsSo}
+use Rattle.dx_engine.specs.Shortened.{cut_short}
 use Rattle.dx_engine.specs.declared.done.Done.{Done}
 use Rattle.dx_engine.specs.declared.done.Done.TheVariants as done
 use Rattle.dx_engine.specs.declared.gathered.Gathered.{Gathered}
@@ -126,9 +128,14 @@ gathered_fits setup at at' d g g' e on h f n = record {
 
 -- ---- the ends
 
-pub runs_cut : (setup : Setup) (x : Fixed) (k : Kept) (base : Told) (all : List CallTree) (s : State) (f : Formings) (before : Option (List ℕ)) (r : Result Gathered Short) → IsErr r → (at : Progress) (now : Told) (written : Option (List ℕ)) → AreCutShort x k base all s f before now written → RunsSo setup x k base all s f before r at now written
-runs_cut setup x k base all s f before (Ok g) e at now written h = absurd (true≢false (sym e))
-runs_cut setup x k base all s f before (Err short) e at now written h = h
+-- looking may be cut short between the reading of a file and its run
+looking_reads_ahead : (c : Cut) → true ≡ reads_ahead (cut_short c)
+looking_reads_ahead cut.ReadFault = refl
+looking_reads_ahead cut.Memory = refl
+
+pub runs_cut : (setup : Setup) (x : Fixed) (k : Kept) (base : Told) (all : List CallTree) (s : State) (f : Formings) (before : Option (List ℕ)) (r : Result Gathered Short) (c : Cut) → IsErrAnd r (λ short. short ≡ cut_short c) → (at : Progress) (now : Told) (written : Option (List ℕ)) → AreCutShort true x k base all s f before now written → RunsSo setup x k base all s f before r at now written
+runs_cut setup x k base all s f before (Ok g) c e at now written h = absurd e
+runs_cut setup x k base all s f before (Err short) c e at now written h = subst (λ ahead. AreCutShort ahead x k base all s f before now written) (looking_reads_ahead c ∙ ap reads_ahead (sym e)) h
 
 pub are_run : (setup : Setup) (x : Fixed) (k : Kept) (base : Told) (all : List CallTree) (s : State) (f : Formings) (before : Option (List ℕ)) (g : Gathered) (at : Progress) (now : Told) (written : Option (List ℕ)) → IsDone setup x k base all s f before (gathers g) at now written → AreRun setup x k base all s f before g at now written
 are_run setup x k base all s f before g at now written d = record { printed = d.printed; exports = d.exports; error = d.error; sets = d.sets; stands = d.stands }

@@ -1,18 +1,19 @@
 -- What the effects of an execution come to, from what is kept.
-use Rattle.std.specs.Prelude.{◌≡◌, ◌<◌, ℕ, List, [], map, length, Option, Some, None, Result, Ok, Err}
+use Rattle.std.specs.Prelude.{◌≡◌, ◌<◌, ℕ, List, [], map, length, Option, Some, None, Bool, Result, Ok, Err}
 use Rattle.dx_io.specs.Devices.{FileMap as InputFiles, Grows, GrowsInto}
 use Rattle.dx_graph.specs.Graph.{Node}
 use Rattle.dx_macros.specs.Tree.{CallTree}
 use Rattle.dx_tags.specs.Closed.{heads_of}
 use Rattle.dx_machine.specs.Machine.{tasks_of}
 use Rattle.dx_machine.specs.Sound.{IsSound}
-use Rattle.dx_getting.specs.Told.{Told, Adds, AddsSome}
+use Rattle.dx_getting.specs.Told.{Told, Adds}
 use Rattle.dx_getting.specs.Stands.{Answers, EntriesRight, named, shown_event, world}
 use Rattle.dx_demand.specs.Forming.{named_terms}
 use Rattle.dx_performing.specs.Execution.{execution}
 use Rattle.dx_performing.specs.Course.{Fixed, At, world_of, around_of, begins, course}
 use Rattle.dx_ending.specs.Terms.{set_terms_of}
 use Rattle.dx_looking.specs.Setting.{fixed}
+use Rattle.dx_engine.specs.Fronts.{AddsFront, reads_ahead}
 use Rattle.dx_engine.specs.Gathering.{gathers, error_of}
 use Rattle.dx_engine.specs.Running.{ChangesFit}
 use Rattle.dx_engine.specs.Keeping.{kept_of, setting_of, IsSoundState}
@@ -46,13 +47,13 @@ pub record EffectsAre (x : Fixed) (st : State) (effects : List CallTree) (nodes 
   pub sound : IsSound (around_of x (kept_of st)) x.budget (course_of x st effects).state
 
 -- a front was printed, and of the machine's runs a front was told
-pub record EffectsCut (x : Fixed) (st : State) (effects : List CallTree) (base : Told) (before : Option (List ℕ)) (now : Told) (written : Option (List ℕ)) : Type 0 where
+pub record EffectsCut (ahead : Bool) (x : Fixed) (st : State) (effects : List CallTree) (base : Told) (before : Option (List ℕ)) (now : Told) (written : Option (List ℕ)) : Type 0 where
   pub printed : GrowsInto before written (execution (world_of x (kept_of st)) effects).printed
-  pub told : AddsSome base now (tasks_of (course_of x st effects).state.events)
+  pub told : AddsFront ahead base now (tasks_of (course_of x st effects).state.events)
 
 abbrev pub EffectsSo : Fixed → State → List CallTree → List Node → Told → Option (List ℕ) → Result Gathered Short → State → Told → Option (List ℕ) → Type 0
 EffectsSo x st effects nodes base before (Ok g) st' now written = EffectsAre x st effects nodes base before g st' now written
-EffectsSo x st effects nodes base before (Err short) st' now written = EffectsCut x st effects base before now written
+EffectsSo x st effects nodes base before (Err short) st' now written = EffectsCut (reads_ahead short) x st effects base before now written
 
 -- ---- what fits at all times
 

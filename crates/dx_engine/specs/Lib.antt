@@ -1,6 +1,7 @@
 pub mod Shortened
 pub mod Gathering
 pub mod Doing
+pub mod Fronts
 pub mod Running
 pub mod Keeping
 pub mod Beginning

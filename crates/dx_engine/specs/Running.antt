@@ -1,5 +1,5 @@
 -- What the effects of an execution come to, one behind the other.
-use Rattle.std.specs.Prelude.{◌≡◌, ◌<◌, ℕ, List, [], ◌∷◌, length, Option, Some, None, Result, Ok, Err}
+use Rattle.std.specs.Prelude.{◌≡◌, ◌<◌, ℕ, List, [], ◌∷◌, length, Option, Some, None, Bool, Result, Ok, Err}
 use Rattle.dx_base.specs.declared.code.Code.{Code}
 use Rattle.dx_io.specs.Devices.{Grows, GrowsInto}
 use Rattle.dx_macros.specs.Tree.{CallTree}
@@ -7,7 +7,7 @@ use Rattle.dx_tags.specs.Closed.{heads_of}
 use Rattle.dx_tags.specs.declared.term.Term.{Term}
 use Rattle.dx_links.specs.declared.held.Change.{Change}
 use Rattle.dx_machine.specs.Machine.{State, tasks_of}
-use Rattle.dx_getting.specs.Told.{Told, AddsSome}
+use Rattle.dx_getting.specs.Told.{Told}
 use Rattle.dx_meaning.specs.Forming.{Formings}
 use Rattle.dx_performing.specs.Execution.{execution}
 use Rattle.dx_performing.specs.Kept.{Kept}
@@ -18,6 +18,7 @@ use Rattle.dx_looking.specs.Looking.{StandsAt}
 use Rattle.dx_looking.specs.declared.setup.Setup.{Setup}
 use Rattle.dx_looking.specs.declared.progress.Progress.{Progress}
 use Rattle.dx_engine.specs.Doing.{HoldingFits}
+use Rattle.dx_engine.specs.Fronts.{AddsFront, reads_ahead}
 use Rattle.dx_engine.specs.Gathering.{gathers, error_of}
 use Rattle.dx_engine.specs.declared.gathered.Gathered.{Gathered}
 use Rattle.dx_engine.specs.declared.short.Short.{Short}
@@ -35,13 +36,13 @@ pub record AreRun (setup : Setup) (x : Fixed) (k : Kept) (base : Told) (effects 
   pub stands : StandsAt setup x k base at now (course x k effects (from_state s f)).state (course x k effects (from_state s f)).formings
 
 -- a front was printed, and a front of the machine's runs was told
-pub record AreCutShort (x : Fixed) (k : Kept) (base : Told) (effects : List CallTree) (s : State) (f : Formings) (before : Option (List ℕ)) (now : Told) (written : Option (List ℕ)) : Type 0 where
+pub record AreCutShort (ahead : Bool) (x : Fixed) (k : Kept) (base : Told) (effects : List CallTree) (s : State) (f : Formings) (before : Option (List ℕ)) (now : Told) (written : Option (List ℕ)) : Type 0 where
   pub printed : GrowsInto before written (execution (world_of x k) effects).printed
-  pub told : AddsSome base now (tasks_of (course x k effects (from_state s f)).state.events)
+  pub told : AddsFront ahead base now (tasks_of (course x k effects (from_state s f)).state.events)
 
 abbrev pub RunsSo : Setup → Fixed → Kept → Told → List CallTree → State → Formings → Option (List ℕ) → Result Gathered Short → Progress → Told → Option (List ℕ) → Type 0
 RunsSo setup x k base effects s f before (Ok g) at now written = AreRun setup x k base effects s f before g at now written
-RunsSo setup x k base effects s f before (Err short) at now written = AreCutShort x k base effects s f before now written
+RunsSo setup x k base effects s f before (Err short) at now written = AreCutShort (reads_ahead short) x k base effects s f before now written
 
 -- ---- what fits at all times
 

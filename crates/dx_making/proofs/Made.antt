@@ -1,5 +1,5 @@
 -- What an execution of a graph is, is made of its statement.
-use Rattle.std.proofs.Common.{◌≡◌, inl, inr, ℕ, List, [], Option, Some, None, refl, sym, ap, subst}
+use Rattle.std.proofs.Common.{◌≡◌, inl, inr, ℕ, List, [], true, Option, Some, None, refl, sym, ap, subst}
 use Rattle.std.specs.Prelude.{Result, Ok, Err, option_map}
 use Rattle.dx_ast.specs.declared.sequencing.Frames.{Frames}
 use Rattle.dx_ast.specs.Syntax.{Stmt}
@@ -11,7 +11,7 @@ use Rattle.dx_macros.specs.Tree.{CallTree}
 use Rattle.dx_macros.specs.Walk.{Fault, first_fault}
 use Rattle.dx_signatures.specs.declared.fault.StaticFault.{StaticFault}
 use Rattle.dx_machine.specs.Machine.{tasks_of}
-use Rattle.dx_getting.proofs.TellLaws.{some_all, adds_none}
+use Rattle.dx_getting.proofs.TellLaws.{adds_none}
 use Rattle.dx_performing.specs.Course.{Fixed}
 use Rattle.dx_performing.specs.Execution as meant
 use Rattle.dx_engine.specs.Keeping.{kept_of, IsSoundState}
@@ -19,6 +19,7 @@ use Rattle.dx_engine.specs.Executing.{Devices, ExecutesSo}
 use Rattle.dx_engine.specs.declared.exec_error.ExecError.{ExecError}
 use Rattle.dx_engine.specs.declared.exec_error.ExecError.TheVariants as exec
 use Rattle.dx_engine.specs.declared.state.State.{State}
+use Rattle.dx_engine.proofs.Fronts.{front_all}
 use Rattle.dx_shown.specs.Made.{coursed, coursed_by, coursed_unless}
 use Rattle.dx_making.specs.Failing.{failing_of}
 use Rattle.dx_making.specs.Making.{MakesSo}
@@ -71,7 +72,7 @@ module _ (x : Fixed) (st : State) (was : Devices) where
       inl (
         record {
           printed = ([], made.0.execution.printed, refl, grows_by_nothing was.written);
-          told = some_all was.told was.told [] (tasks_of made.0.events) (tasks_of made.0.events) (adds_none was.told) refl;
+          told = front_all true was.told was.told [] (tasks_of made.0.events) (tasks_of made.0.events) (adds_none was.told) refl;
         },
         record { puts = refl; files = refl },
       )

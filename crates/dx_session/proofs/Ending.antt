@@ -1,10 +1,11 @@
 -- How a call ends: with a line alone, cut short in loading, or behind it.
-use Rattle.std.proofs.Common.{◌≡◌, ℕ, List, [], ◌∷◌, Option, Some, None, refl, sym, ap, ◌∙◌, subst, append-nil, arith}
+use Rattle.std.proofs.Common.{◌≡◌, ℕ, List, [], ◌∷◌, Bool, Option, Some, None, refl, sym, ap, ◌∙◌, subst, append-nil, arith}
 use Rattle.std.specs.Prelude.{Result, Ok, Err, IfOk}
 use Rattle.dx_ast.specs.declared.statements.Stmt.{Stmt}
 use Rattle.dx_engine.specs.Executing.{Devices}
 use Rattle.dx_getting.specs.Stands.{Answers}
-use Rattle.dx_getting.proofs.TellLaws.{adds_none, some_all}
+use Rattle.dx_engine.proofs.Fronts.{front_all}
+use Rattle.dx_getting.proofs.TellLaws.{adds_none}
 use Rattle.dx_include.specs.Answers.{LoadCause, Loads, Refuses}
 use Rattle.dx_include.specs.Loading.{Name, Loading}
 use Rattle.dx_include.specs.declared.fail.LoadFail.{LoadFail}
@@ -12,6 +13,7 @@ use Rattle.dx_include.specs.declared.fail.LoadFail.TheVariants as fail
 use Rattle.dx_include.specs.declared.loaded.Loaded.{Loaded}
 use Rattle.dx_io.specs.Devices.{FileMap, Grows, GrowsInto, Rose, Writes}
 use Rattle.dx_io.proofs.Growing.{with_more-nil, grows_by_nothing}
+use Rattle.dx_making.specs.Ends.{reads_ahead}
 use Rattle.dx_making.specs.declared.end.End.{End}
 use Rattle.dx_outcome.specs.Computed.{of_ends, of_loading}
 use Rattle.dx_outcome.specs.Ends.{IsWhole, IsCutShort, IsFront, in_loading, behind_loading, with_reads}
@@ -38,8 +40,8 @@ line_whole text was written h = record {
 none_whole : (was : Devices) → IsWhole [] was was
 none_whole was = record { printed = grows_by_nothing was.written; puts = grows_by_nothing was.puts; told = adds_none was.told }
 
-line_cut : (text : List ℕ) (was : Devices) (written : Option (List ℕ)) → GrowsInto was.written written text → IsCutShort (line_alone text ∷ []) was (with_written was written)
-line_cut text was written h = record {
+line_cut : (ahead : Bool) (text : List ℕ) (was : Devices) (written : Option (List ℕ)) → GrowsInto was.written written text → IsCutShort ahead (line_alone text ∷ []) was (with_written was written)
+line_cut ahead text was written h = record {
   before = [];
   next = line_alone text ∷ [];
   rest = [];
@@ -50,13 +52,13 @@ line_cut text was written h = record {
   part = record {
     printed = subst (GrowsInto was.written written) (sym (append-nil text)) h;
     puts = ([], [], refl, grows_by_nothing was.puts);
-    told = some_all was.told was.told [] [] [] (adds_none was.told) refl;
+    told = front_all ahead was.told was.told [] [] [] (adds_none was.told) refl;
   };
 }
 
 pub line_sees : (text : List ℕ) (status : ℕ) (was : Devices) (written : Option (List ℕ)) (r : Result ℕ End) → Writes was.written written text r → IfOk r (λ own. own ≡ status) → SeesSo r (line_alone text ∷ []) status was (with_written was written)
 line_sees text status was written (Ok own) h is = (is, line_whole text was written h)
-line_sees text status was written (Err end) h is = line_cut text was written h
+line_sees text status was written (Err end) h is = line_cut (reads_ahead end) text was written h
 
 -- ---- behind loading
 
@@ -111,7 +113,7 @@ module _ (answer : Answers) (files : FileMap) (said : Words) where
 
   -- it was cut short
   pub cut_ends : (l : Loading) (why : LoadFail) (end : End) (was : Devices) (asked : Option (List Name)) → end_of why ≡ Some end → Refuses l why was.told.asked asked
-      → IsFront (outcome answer files (of_loading said l)) was (devices was.told.done asked was.written was.puts)
+      → IsFront (reads_ahead end) (outcome answer files (of_loading said l)) was (devices was.told.done asked was.written was.puts)
   cut_ends l why end was asked is h =
       let part = front_asked l why end was.told.asked asked is h in
       in_loading part.0 part.1 (ends_reads l.reads l.ends ∙ part.2) (ap (λ (a : Option (List Name)). devices was.told.done a was.written was.puts) part.3)
@@ -124,8 +126,8 @@ usage_ends answer files r was written writes is =
     sees_ends r (outcome answer files NoLine) was (with_written was written)
     (subst (λ (d : Devices). SeesSo r (line_alone usage_line ∷ []) 3 d (with_written was written)) (sym (no_reads was)) (line_sees usage_line 3 was written r writes is))
 
-pub at_once : (o : Outcome) (was : Devices) → IsFront o was was
-at_once o was = in_loading [] o.reads refl (sym (no_reads was))
+pub at_once : (ahead : Bool) (o : Outcome) (was : Devices) → IsFront ahead o was was
+at_once ahead o was = in_loading [] o.reads refl (sym (no_reads was))
 
 -- ---- the text of a workload
 

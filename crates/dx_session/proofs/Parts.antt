@@ -3,29 +3,31 @@ use Rattle.std.proofs.Common.{◌≡◌, ◌⊎◌, inl, inr, ℕ, List, [], ◌
 use Rattle.std.specs.Bool.{MatchBool}
 use Rattle.std.proofs.lemmas.Bool.{eqb-true}
 use Rattle.dx_engine.specs.Executing.{Devices}
-use Rattle.dx_getting.specs.Told.{TellsRuns, Adds, AddsSome}
+use Rattle.dx_engine.specs.Fronts.{AddsFront}
+use Rattle.dx_engine.proofs.Fronts.{front_later}
+use Rattle.dx_getting.specs.Told.{TellsRuns, Adds}
 use Rattle.dx_include.specs.Loading.{Name}
 use Rattle.dx_io.specs.Devices.{Grows, GrowsInto}
-use Rattle.dx_getting.proofs.TellLaws.{tells_none, some_later}
+use Rattle.dx_getting.proofs.TellLaws.{tells_none}
 use Rattle.dx_machine.specs.Machine.{Task, runs_in}
-use Rattle.dx_outcome.specs.Ends.{IsWhole, IsCutShort, IsFront, in_loading, behind_loading, with_reads, is_cut, EndsAs, PrintsAs, RunsAs, ReadsAs, CompletesAs}
+use Rattle.dx_outcome.specs.Ends.{IsWhole, IsCutShort, IsFront, in_loading, behind_loading, with_reads, is_cut, may_read_ahead, EndsAs, PrintsAs, RunsAs, ReadsAs, CompletesAs}
 use Rattle.dx_outcome.specs.Outcome.{Seen, Outcome, texts_of, runs_of}
 use Rattle.dx_session.proofs.Meaning.{front_texts, runs_append}
-use Rattle.dx_sessions.proofs.Folding.{adds_some_on}
+use Rattle.dx_sessions.proofs.Folding.{adds_front_on}
 
 -- ---- runs and reads of a call that was cut short
 
-cut_told : (seen : List Seen) (was now : Devices) → IsCutShort seen was now → AddsSome was.told now.told (runs_of seen)
-cut_told seen was now cut =
+cut_told : (ahead : Bool) (seen : List Seen) (was now : Devices) → IsCutShort ahead seen was now → AddsFront ahead was.told now.told (runs_of seen)
+cut_told ahead seen was now cut =
     let before = runs_of cut.before in
     let next = runs_of cut.next in
-    some_later was.told now.told (before ++ next) (runs_of cut.rest) (runs_of seen)
-    (adds_some_on was.told cut.between.told now.told before next cut.whole.told cut.part.told)
+    front_later ahead was.told now.told (before ++ next) (runs_of cut.rest) (runs_of seen)
+    (adds_front_on ahead was.told cut.between.told now.told before next cut.whole.told cut.part.told)
     (ap runs_of cut.all ∙ runs_append cut.before (cut.next ++ cut.rest) ∙ ap (λ ts. before ++ ts) (runs_append cut.next cut.rest) ∙ sym (append_assoc before next (runs_of cut.rest)))
 
-front_runs : (o : Outcome) (was now : Devices) → IsFront o was now → (front rest : List Task) × (runs_of o.seen ≡ front ++ rest) × TellsRuns was.told.done now.told.done (runs_in front)
-front_runs o was now (in_loading front rest e is) = ([], runs_of o.seen, refl, subst (λ (d : Devices). TellsRuns was.told.done d.told.done []) (sym is) (tells_none was.told.done))
-front_runs o was now (behind_loading cut) = let some = cut_told o.seen (with_reads was o.reads) now cut in (some.front, some.rest, some.whole, some.done)
+front_runs : (ahead : Bool) (o : Outcome) (was now : Devices) → IsFront ahead o was now → (front rest : List Task) × (runs_of o.seen ≡ front ++ rest) × TellsRuns was.told.done now.told.done (runs_in front)
+front_runs ahead o was now (in_loading front rest e is) = ([], runs_of o.seen, refl, subst (λ (d : Devices). TellsRuns was.told.done d.told.done []) (sym is) (tells_none was.told.done))
+front_runs ahead o was now (behind_loading cut) = let some = (cut_told ahead o.seen (with_reads was o.reads) now cut).some in (some.front, some.rest, some.whole, some.done)
 
 -- ---- each part
 
@@ -35,26 +37,26 @@ Whole status o was now = (status ≡ o.status) × IsWhole o.seen (with_reads was
 pub prints_as : (status : ℕ) (o : Outcome) (was now : Devices) → EndsAs status o was now → PrintsAs status o.seen was.written now.written
 prints_as status o was now h = by (is_cut status) h
   where
-    by : (b : Bool) → MatchBool b (IsFront o was now) (Whole status o was now) → MatchBool b (GrowsInto was.written now.written (texts_of o.seen)) (Grows was.written now.written (texts_of o.seen))
-    by true front = front_texts o was now front
+    by : (b : Bool) → MatchBool b (IsFront (may_read_ahead status) o was now) (Whole status o was now) → MatchBool b (GrowsInto was.written now.written (texts_of o.seen)) (Grows was.written now.written (texts_of o.seen))
+    by true front = front_texts (may_read_ahead status) o was now front
     by false whole = whole.1.printed
 
 pub runs_as : (status : ℕ) (o : Outcome) (was now : Devices) → EndsAs status o was now → RunsAs status o.seen was.told.done now.told.done
 runs_as status o was now h = by (is_cut status) h
   where
-    by : (b : Bool) → MatchBool b (IsFront o was now) (Whole status o was now)
+    by : (b : Bool) → MatchBool b (IsFront (may_read_ahead status) o was now) (Whole status o was now)
         → MatchBool b ((front rest : List Task) × (runs_of o.seen ≡ front ++ rest) × TellsRuns was.told.done now.told.done (runs_in front)) (TellsRuns was.told.done now.told.done (runs_in (runs_of o.seen)))
-    by true front = front_runs o was now front
+    by true front = front_runs (may_read_ahead status) o was now front
     by false whole = whole.1.told.done
 
 pub reads_as : (status : ℕ) (o : Outcome) (was now : Devices) → EndsAs status o was now → ReadsAs status o was.told now.told
 reads_as status o was now h = by (is_cut status) h
   where
-    by : (b : Bool) → MatchBool b (IsFront o was now) (Whole status o was now)
-        → MatchBool b (((front rest : List Name) × (o.reads ≡ front ++ rest) × (now.told ≡ (with_reads was front).told)) ⊎ AddsSome (with_reads was o.reads).told now.told (runs_of o.seen))
+    by : (b : Bool) → MatchBool b (IsFront (may_read_ahead status) o was now) (Whole status o was now)
+        → MatchBool b (((front rest : List Name) × (o.reads ≡ front ++ rest) × (now.told ≡ (with_reads was front).told)) ⊎ AddsFront (may_read_ahead status) (with_reads was o.reads).told now.told (runs_of o.seen))
         (Adds (with_reads was o.reads).told now.told (runs_of o.seen))
     by true (in_loading front rest e is) = inl (front, rest, e, ap (λ (d : Devices). d.told) is)
-    by true (behind_loading cut) = inr (cut_told o.seen (with_reads was o.reads) now cut)
+    by true (behind_loading cut) = inr (cut_told (may_read_ahead status) o.seen (with_reads was o.reads) now cut)
     by false whole = whole.1.told
 
 -- ---- where no device failed
@@ -82,6 +84,6 @@ memory_alone status cut no_read no_write no_put = last (either ((status == 4) ||
 pub completes_as : (status : ℕ) (o : Outcome) (was now : Devices) → (status ≡ 4 → ⊥) → (status ≡ 5 → ⊥) → (status ≡ 6 → ⊥) → EndsAs status o was now → CompletesAs status o was now
 completes_as status o was now no_read no_write no_put h = by (is_cut status) refl h
   where
-    by : (b : Bool) → is_cut status ≡ b → MatchBool b (IsFront o was now) (Whole status o was now) → CompletesAs status o was now
+    by : (b : Bool) → is_cut status ≡ b → MatchBool b (IsFront (may_read_ahead status) o was now) (Whole status o was now) → CompletesAs status o was now
     by true cut front = inl (memory_alone status cut no_read no_write no_put)
     by false cut whole = inr whole

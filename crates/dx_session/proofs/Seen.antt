@@ -3,9 +3,11 @@ use Rattle.std.proofs.Common.{◌≡◌, ℕ, ◌≤◌, List, [], ◌∷◌, �
 use Rattle.std.specs.Prelude.{Result, Ok, Err, Bool}
 use Rattle.std.proofs.lemmas.List.{map-append, length-map}
 use Rattle.dx_engine.specs.Executing.{Devices}
-use Rattle.dx_getting.specs.Told.{Adds, AddsSome}
+use Rattle.dx_engine.specs.Fronts.{AddsFront}
+use Rattle.dx_getting.specs.Told.{Adds}
 use Rattle.dx_io.specs.Devices.{Grows, GrowsInto}
 use Rattle.dx_machine.specs.Machine.{tasks_of}
+use Rattle.dx_making.specs.Ends.{reads_ahead}
 use Rattle.dx_making.specs.declared.end.End.{End}
 use Rattle.dx_outcome.specs.Ends.{IsWhole, IsPart, IsCutShort}
 use Rattle.dx_outcome.specs.Outcome.{Seen, seen_of, texts_of, exports_of, runs_of, status_of}
@@ -49,15 +51,15 @@ whole_seen asked shown was now h = record {
   told = subst (Adds was.told now.told) (tasks_seen asked shown) h.told;
 }
 
-part_seen : (asked : Listings) (shown : List (Shown Coursed)) (was now : Devices) → does.IsFront asked shown was now → IsPart (all_seen asked shown) was now
-part_seen asked shown was now h = record {
+part_seen : (ahead : Bool) (asked : Listings) (shown : List (Shown Coursed)) (was now : Devices) → does.IsFront ahead asked shown was now → IsPart ahead (all_seen asked shown) was now
+part_seen ahead asked shown was now h = record {
   printed = subst (GrowsInto was.written now.written) (texts_seen asked shown) h.printed;
   puts = subst (GrowsInto was.puts now.puts) (exports_seen asked shown) h.puts;
-  told = subst (AddsSome was.told now.told) (tasks_seen asked shown) h.told;
+  told = subst (AddsFront ahead was.told now.told) (tasks_seen asked shown) h.told;
 }
 
-cut_seen : (asked : Listings) (shown : List (Shown Coursed)) (was now : Devices) → does.IsCutShort asked shown was now → IsCutShort (all_seen asked shown) was now
-cut_seen asked shown was now h = record {
+cut_seen : (ahead : Bool) (asked : Listings) (shown : List (Shown Coursed)) (was now : Devices) → does.IsCutShort ahead asked shown was now → IsCutShort ahead (all_seen asked shown) was now
+cut_seen ahead asked shown was now h = record {
   before = all_seen asked h.before;
   next = all_seen asked h.next;
   rest = all_seen asked h.rest;
@@ -65,7 +67,7 @@ cut_seen asked shown was now h = record {
   few = subst (λ (n : ℕ). n ≤ 1) (sym (length-map h.next (seen_of asked))) h.few;
   between = h.between;
   whole = whole_seen asked h.before was h.between h.whole;
-  part = part_seen asked h.next h.between now h.front;
+  part = part_seen ahead asked h.next h.between now h.front;
 }
 
 -- the status of a call that performed it
@@ -78,7 +80,7 @@ sees_shown asked at_hand shown was now r same h = sees_so r (subst (λ (l : List
   where
     sees_so : (r : Result Bool End) → PerformsSo asked shown was r now → SeesSo (with_status r) (all_seen asked shown) (status_of (any_error shown)) was now
     sees_so (Ok erred) h = (ap status_of h.1, whole_seen asked shown was now h.0)
-    sees_so (Err end) h = cut_seen asked shown was now h
+    sees_so (Err end) h = cut_seen (reads_ahead end) asked shown was now h
 
 pub sees_performed : (asked at_hand : Listings) (shown : List (Shown Coursed)) (was now : Devices) (erred : Bool) (status : ℕ) → at_hand ≡ asked → status ≡ status_of erred → PerformsSo at_hand shown was (Ok erred) now → SeesSo (Ok status) (all_seen asked shown) (status_of (any_error shown)) was now
 sees_performed asked at_hand shown was now erred status same is h =

@@ -66,7 +66,8 @@ pub fn run_dxi<F: Files, X: Exports, O: Sink, L: Library>(
     ensures runs { (map : FileMap) → F.content files.old ≡ Some map →
         (o : Outcome) × IsOutcome (texts words.now.items) map L.answer o × RunsAs result o.seen (L.done lib.old) (L.done lib.new) }
 
-    // The files asked for: those of loading, and then one for each run of Import whose name isn't written yet.
+    // The files asked for: those of loading, and then one for each run of Import whose name isn't written yet; a front of these where the
+    // call was cut short, with the next run's name at most where the status is 4 or 7.
     ensures reads { (map : FileMap) → F.content files.old ≡ Some map →
         (o : Outcome) × IsOutcome (texts words.now.items) map L.answer o × ReadsAs result o (told (L.done lib.old) (F.asked files.old)) (told (L.done lib.new) (F.asked files.new)) }
 

@@ -35,9 +35,9 @@ done_on x l first next mid new was between now erred failed a b =
     }
 
 -- nothing was done, and macros, definitions and what is kept are as before
-pub stays_at_once : (x : Fixed) (l : Listings) (shown : List (Shown Coursed)) (was : Devices) (st : State Kept) (new : Session) → state_of new ≡ st → IsSoundState x new.state → IsCutAt x l (here st) shown was new was
-stays_at_once x l shown was st new same sound = record {
-  short = cut_at_once l shown was;
+pub stays_at_once : (ahead : Bool) (x : Fixed) (l : Listings) (shown : List (Shown Coursed)) (was : Devices) (st : State Kept) (new : Session) → state_of new ≡ st → IsSoundState x new.state → IsCutAt ahead x l (here st) shown was new was
+stays_at_once ahead x l shown was st new same sound = record {
+  short = cut_at_once ahead l shown was;
   at = st;
   begins = (refl, refl);
   left = record {
@@ -50,9 +50,9 @@ stays_at_once x l shown was st new same sound = record {
 }
 
 -- a line was cut short
-pub stays_at_line : (x : Fixed) (l : Listings) (s : Shown Coursed) (was now : Devices) (st : State Kept) (new : Session) → LeavesCurrent l (s ∷ []) was now (current st.kept) (current (state_of new).kept) → IsFront l (s ∷ []) was now → state_of new ≡ st → IsSoundState x new.state → IsCutAt x l (here st) (s ∷ []) was new now
-stays_at_line x l s was now st new leaves front same sound = record {
-  short = cut_in_one l s was now front;
+pub stays_at_line : (ahead : Bool) (x : Fixed) (l : Listings) (s : Shown Coursed) (was now : Devices) (st : State Kept) (new : Session) → LeavesCurrent l (s ∷ []) was now (current st.kept) (current (state_of new).kept) → IsFront ahead l (s ∷ []) was now → state_of new ≡ st → IsSoundState x new.state → IsCutAt ahead x l (here st) (s ∷ []) was new now
+stays_at_line ahead x l s was now st new leaves front same sound = record {
+  short = cut_in_one ahead l s was now front;
   at = st;
   begins = (refl, refl);
   left = record {
@@ -65,15 +65,15 @@ stays_at_line x l s was now st new leaves front same sound = record {
 }
 
 -- the definition of a macro
-pub defining_cut : (x : Fixed) (l : Listings) (was : Devices) (st : State Kept) (new : Session) (t : Stmt) → IsDefining t → state_of new ≡ st → IsSoundState x new.state
-    → IsCutAt x l (in_statement (coursed x) st t) (statement (coursed x) st t).shown was new was
-defining_cut x l was st new (Defines m) d same sound = stays_at_once x l [] was st new same sound
-defining_cut x l was st new (Assigns targets e) d same sound = absurd d
-defining_cut x l was st new (Calls c) d same sound = absurd d
-defining_cut x l was st new (Includes name) d same sound = absurd d
-defining_cut x l was st new (Sets v e) d same sound = absurd d
-defining_cut x l was st new (Says w) d same sound = absurd d
-defining_cut x l was st new (Sequences c) d same sound = absurd d
+pub defining_cut : (ahead : Bool) (x : Fixed) (l : Listings) (was : Devices) (st : State Kept) (new : Session) (t : Stmt) → IsDefining t → state_of new ≡ st → IsSoundState x new.state
+    → IsCutAt ahead x l (in_statement (coursed x) st t) (statement (coursed x) st t).shown was new was
+defining_cut ahead x l was st new (Defines m) d same sound = stays_at_once ahead x l [] was st new same sound
+defining_cut ahead x l was st new (Assigns targets e) d same sound = absurd d
+defining_cut ahead x l was st new (Calls c) d same sound = absurd d
+defining_cut ahead x l was st new (Includes name) d same sound = absurd d
+defining_cut ahead x l was st new (Sets v e) d same sound = absurd d
+defining_cut ahead x l was st new (Says w) d same sound = absurd d
+defining_cut ahead x l was st new (Sequences c) d same sound = absurd d
 
 pub defining_stays : (t : Stmt) (s : seq.State) → IsDefining t → LeavesSequencer t s s
 defining_stays (Defines m) s d = refl

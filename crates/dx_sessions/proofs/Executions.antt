@@ -16,8 +16,7 @@ use Rattle.dx_macros.specs.Walk.{Fault, first_fault}
 use Rattle.dx_ast.specs.declared.sequencing.Frames.{Frames}
 use Rattle.dx_tags.specs.Closed.{Head, heads_of}
 use Rattle.dx_getting.specs.Stands.{Answers}
-use Rattle.dx_getting.specs.Told.{Told, Adds, AddsSome}
-use Rattle.dx_getting.proofs.TellLaws.{some_all, some_later}
+use Rattle.dx_getting.specs.Told.{Told, Adds}
 use Rattle.dx_looking.specs.Setting.{fixed, links_of}
 use Rattle.dx_performing.specs.Course.{Fixed}
 use Rattle.dx_performing.specs.Execution.{Current, Error, Export, Links}
@@ -26,11 +25,14 @@ use Rattle.dx_performing.specs.Kept.{Kept, current, objects_of}
 use Rattle.dx_engine.specs.Beginning.{FromState}
 use Rattle.dx_engine.specs.Keeping.{kept_of, IsSoundState}
 use Rattle.dx_engine.specs.Executing.{Devices, NonePut}
+use Rattle.dx_engine.specs.Fronts.{AddsFront}
+use Rattle.dx_engine.proofs.Fronts.{front_all, front_later}
 use Rattle.dx_engine.specs.declared.state.State.{State}
 use Rattle.dx_shown.specs.Made.{Coursed, coursed, coursed_unless}
 use Rattle.dx_sequencer.specs.Sequencer as seq
 use Rattle.dx_sequencer.specs.Sequencer.{frames_of}
 use Rattle.dx_shown.specs.Session.{Executes, executed, sequence_executed, with_kept, State as SessionState}
+use Rattle.dx_making.specs.Ends.{reads_ahead}
 use Rattle.dx_making.specs.Failing.{FailsAs}
 use Rattle.dx_making.specs.Making.{IsMade, IsCutLate, MakesSo}
 use Rattle.dx_making.specs.declared.end.End.{End}
@@ -90,24 +92,24 @@ made_whole x l st st' made was mid now failing ended m grown told puts error = r
 }
 
 -- a front of what is told of it was written
-made_front : (x : Fixed) (l : Listings) (st st' : State) (made : Coursed × Kept) (was mid now : Devices) (failing : Option Failing)
+made_front : (ahead : Bool) (x : Fixed) (l : Listings) (st st' : State) (made : Coursed × Kept) (was mid now : Devices) (failing : Option Failing)
     → IsMade x st made was failing st' mid → GrowsInto mid.written now.written (behind_of l made.0) → now.told ≡ mid.told → now.puts ≡ mid.puts
-    → IsFront l (Executes made.0 ∷ []) was now
-made_front x l st st' made was mid now failing m grown told puts = record {
+    → IsFront ahead l (Executes made.0 ∷ []) was now
+made_front ahead x l st st' made was mid now failing m grown told puts = record {
   printed = into_more was.written now.written (made.0.execution.printed ++ behind_of l made.0) [] (grows_on_into was.written mid.written now.written made.0.execution.printed (behind_of l made.0) m.printed grown);
   puts = subst (λ (p : Option (List Export)). GrowsInto was.puts p (made.0.execution.exports ++ [])) (sym puts) (grows_into was.puts mid.puts made.0.execution.exports [] m.puts);
-  told = subst (λ (t : Told). AddsSome was.told t (tasks_of made.0.events ++ [])) (sym told) (some_all was.told mid.told (tasks_of made.0.events) [] (tasks_of made.0.events ++ []) m.told refl);
+  told = subst (λ (t : Told). AddsFront ahead was.told t (tasks_of made.0.events ++ [])) (sym told) (front_all ahead was.told mid.told (tasks_of made.0.events) [] (tasks_of made.0.events ++ []) m.told refl);
 }
 
 -- ---- one that is cut short
 
-front_by : (l : Listings) (c : Coursed) (was now : Devices)
-    → GrowsInto was.written now.written c.execution.printed → GrowsInto was.puts now.puts c.execution.exports → AddsSome was.told now.told (tasks_of c.events)
-    → IsFront l (Executes c ∷ []) was now
-front_by l c was now printed puts told = record {
+front_by : (ahead : Bool) (l : Listings) (c : Coursed) (was now : Devices)
+    → GrowsInto was.written now.written c.execution.printed → GrowsInto was.puts now.puts c.execution.exports → AddsFront ahead was.told now.told (tasks_of c.events)
+    → IsFront ahead l (Executes c ∷ []) was now
+front_by ahead l c was now printed puts told = record {
   printed = into_more was.written now.written (c.execution.printed ++ behind_of l c) [] (into_more was.written now.written c.execution.printed (behind_of l c) printed);
   puts = into_more was.puts now.puts c.execution.exports [] puts;
-  told = some_later was.told now.told (tasks_of c.events) [] (tasks_of c.events ++ []) told refl;
+  told = front_later ahead was.told now.told (tasks_of c.events) [] (tasks_of c.events ++ []) told refl;
 }
 
 some_put : (c : Coursed) (st st' : State) (was now : Devices) → IsCutLate c st was st' now → GrowsInto was.puts now.puts c.execution.exports
@@ -116,19 +118,19 @@ some_put c st st' was now late = (late.puts.front, late.puts.failed ∷ late.put
 printed_whole : (c : Coursed) (was now : Devices) → Grows was.written now.written c.execution.printed → GrowsInto was.written now.written c.execution.printed
 printed_whole c was now grown = (c.execution.printed, [], sym (append-nil c.execution.printed), grown)
 
-told_whole : (c : Coursed) (was now : Devices) → Adds was.told now.told (tasks_of c.events) → AddsSome was.told now.told (tasks_of c.events)
-told_whole c was now told = some_all was.told now.told (tasks_of c.events) [] (tasks_of c.events) told (sym (append-nil (tasks_of c.events)))
+told_whole : (ahead : Bool) (c : Coursed) (was now : Devices) → Adds was.told now.told (tasks_of c.events) → AddsFront ahead was.told now.told (tasks_of c.events)
+told_whole ahead c was now told = front_all ahead was.told now.told (tasks_of c.events) [] (tasks_of c.events) told (sym (append-nil (tasks_of c.events)))
 
-late_front : (l : Listings) (st st' : State) (c : Coursed) (was now : Devices) → IsCutLate c st was st' now → IsFront l (Executes c ∷ []) was now
-late_front l st st' c was now late = front_by l c was now (printed_whole c was now late.printed) (some_put c st st' was now late) (told_whole c was now late.told)
+late_front : (ahead : Bool) (l : Listings) (st st' : State) (c : Coursed) (was now : Devices) → IsCutLate c st was st' now → IsFront ahead l (Executes c ∷ []) was now
+late_front ahead l st st' c was now late = front_by ahead l c was now (printed_whole c was now late.printed) (some_put c st st' was now late) (told_whole ahead c was now late.told)
 
 cut_front : (x : Fixed) (l : Listings) (st st' : State) (made : Coursed × Kept) (was now : Devices) (end : End)
-    → MakesSo x st made was (Err end) st' now → IsFront l (Executes made.0 ∷ []) was now
-cut_front x l st st' made was now ReadFault (early, none) = front_by l made.0 was now early.printed (into_by_nothing was.puts now.puts made.0.execution.exports none.puts) early.told
-cut_front x l st st' made was now WriteFault (early, none) = front_by l made.0 was now early.printed (into_by_nothing was.puts now.puts made.0.execution.exports none.puts) early.told
-cut_front x l st st' made was now ExportFault late = late_front l st st' made.0 was now late
-cut_front x l st st' made was now Memory (inl (early, none)) = front_by l made.0 was now early.printed (into_by_nothing was.puts now.puts made.0.execution.exports none.puts) early.told
-cut_front x l st st' made was now Memory (inr late) = late_front l st st' made.0 was now late
+    → MakesSo x st made was (Err end) st' now → IsFront (reads_ahead end) l (Executes made.0 ∷ []) was now
+cut_front x l st st' made was now ReadFault (early, none) = front_by true l made.0 was now early.printed (into_by_nothing was.puts now.puts made.0.execution.exports none.puts) early.told
+cut_front x l st st' made was now WriteFault (early, none) = front_by false l made.0 was now early.printed (into_by_nothing was.puts now.puts made.0.execution.exports none.puts) early.told
+cut_front x l st st' made was now ExportFault late = late_front false l st st' made.0 was now late
+cut_front x l st st' made was now Memory (inl (early, none)) = front_by true l made.0 was now early.printed (into_by_nothing was.puts now.puts made.0.execution.exports none.puts) early.told
+cut_front x l st st' made was now Memory (inr late) = late_front true l st st' made.0 was now late
 
 -- ---- where it is left
 
@@ -168,7 +170,7 @@ left_by x l st st' made was now Memory same (inl (early, none)) = before_unput l
 left_by x l st st' made was now Memory same (inr late) = before_put l made.0 st st' was now same late
 
 pub cut_in : (x : Fixed) (l : Listings) (st st' : State) (made : Coursed × Kept) (was now : Devices) (end : End)
-    → st'.links.links ≡ st.links.links → IsSoundState x st' → MakesSo x st made was (Err end) st' now → IsCutIn x l (kept_of st) made.0 was st' now
+    → st'.links.links ≡ st.links.links → IsSoundState x st' → MakesSo x st made was (Err end) st' now → IsCutIn (reads_ahead end) x l (kept_of st) made.0 was st' now
 cut_in x l st st' made was now end same sound h = record {
   front = cut_front x l st st' made was now end h;
   current = left_by x l st st' made was now end same h;
@@ -196,11 +198,11 @@ is_behind x l st st' made was mid now failing behind m (front, rest, split, grow
 }
 
 -- it was made, and what is told behind it was cut short
-pub cut_telling : (x : Fixed) (l : Listings) (st st' : State) (made : Coursed × Kept) (was mid now : Devices) (failing : Option Failing)
+pub cut_telling : (ahead : Bool) (x : Fixed) (l : Listings) (st st' : State) (made : Coursed × Kept) (was mid now : Devices) (failing : Option Failing)
     → current made.1 ≡ made.0.behind → IsMade x st made was failing st' mid → GrowsInto mid.written now.written (behind_of l made.0) → now.told ≡ mid.told → now.puts ≡ mid.puts
-    → IsCutIn x l (kept_of st) made.0 was st' now
-cut_telling x l st st' made was mid now failing behind m grown told puts = record {
-  front = made_front x l st st' made was mid now failing m grown told puts;
+    → IsCutIn ahead x l (kept_of st) made.0 was st' now
+cut_telling ahead x l st st' made was mid now failing behind m grown told puts = record {
+  front = made_front ahead x l st st' made was mid now failing m grown told puts;
   current = behind_puts (is_behind x l st st' made was mid now failing behind m grown told puts);
   sound = m.sound;
 }
@@ -208,9 +210,9 @@ cut_telling x l st st' made was mid now failing behind m grown told puts = recor
 -- ---- in a session
 
 -- the sequence call, which is there
-pub sequence_cut : (x : Fixed) (l : Listings) (st : SessionState Kept) (new : Session) (o : Option Stmt) (s : Stmt) (was now : Devices) → o ≡ Some s
-    → IsCutAt x l (here st) (executed (coursed x) st s).shown was new now → IsCutAt x l (here st) (sequence_executed (coursed x) o st).shown was new now
-sequence_cut x l st new o s was now is cut = subst (λ (y : Option Stmt). IsCutAt x l (here st) (sequence_executed (coursed x) y st).shown was new now) (sym is) cut
+pub sequence_cut : (ahead : Bool) (x : Fixed) (l : Listings) (st : SessionState Kept) (new : Session) (o : Option Stmt) (s : Stmt) (was now : Devices) → o ≡ Some s
+    → IsCutAt ahead x l (here st) (executed (coursed x) st s).shown was new now → IsCutAt ahead x l (here st) (sequence_executed (coursed x) o st).shown was new now
+sequence_cut ahead x l st new o s was now is cut = subst (λ (y : Option Stmt). IsCutAt ahead x l (here st) (sequence_executed (coursed x) y st).shown was new now) (sym is) cut
 
 pub sequence_done : (x : Fixed) (l : Listings) (st : SessionState Kept) (new : Session) (o : Option Stmt) (s : Stmt) (was now : Devices) (erred failed : Bool) → erred ≡ failed → o ≡ Some s
     → IsDone x l (executed (coursed x) st s) was failed new now → IsDone x l (sequence_executed (coursed x) o st) was erred new now
@@ -242,7 +244,7 @@ shows x l old new s was now (Ok ended) stay h = record {
         ∙ ap (λ (c : Option CodeStmt). let y : SessionState Kept = record { dictionary = dictionary_of old.dictionary; sequencer = old.sequencer; sequence = option_map plain_stmt c; kept = kept_of new.state } in y) stay.sequence
         ∙ ap (λ (k : Kept). with_kept k (state_of old)) kept
 shows x l old new s was now (Err end) stay h = record {
-  short = cut_in_one l (Executes (made_in x old s).0) was now h.front;
+  short = cut_in_one (reads_ahead end) l (Executes (made_in x old s).0) was now h.front;
   at = state_of old;
   begins = (refl, refl);
   left = record {

@@ -3,9 +3,11 @@ use Rattle.std.proofs.Common.{◌≡◌, ◌≤◌, length, List, [], ◌∷◌,
 use Rattle.dx_io.specs.Devices.{Grows}
 use Rattle.dx_io.proofs.Growing.{grows_by_nothing, grows_on}
 use Rattle.dx_machine.specs.Machine.{Task, runs_in, reads_in, tasks_of}
-use Rattle.dx_getting.specs.Told.{Told, TellsRuns, Adds, AddsSome}
+use Rattle.dx_getting.specs.Told.{Told, TellsRuns, Adds}
 use Rattle.dx_getting.proofs.TellLaws.{runs-append, reads-append, tells_then, grows_more, adds_none}
 use Rattle.dx_engine.specs.Executing.{Devices}
+use Rattle.dx_engine.specs.Fronts.{AddsFront}
+use Rattle.dx_engine.proofs.Fronts.{front_all}
 use Rattle.dx_shown.specs.Made.{Coursed}
 use Rattle.dx_shown.specs.Session.{Shown, Executes, PlayTooLong, FrameRange}
 use Rattle.dx_shown.specs.Listed.{of_executions, all_exports, all_tasks, is_error, any_error}
@@ -38,18 +40,23 @@ adds_on base mid now a b first second = record {
   asked = subst (Grows base.asked now.asked) (sym (reads-append a b)) (grows_more base.asked mid.asked now.asked (reads_in a) (reads_in b) first.asked second.asked);
 }
 
-pub adds_some_on : (base mid now : Told) (a b : List Task) → Adds base mid a → AddsSome mid now b → AddsSome base now (a ++ b)
-adds_some_on base mid now a b first second = record {
-  front = a ++ second.front;
-  rest = second.rest;
-  whole = ap (λ xs. a ++ xs) second.whole ∙ sym (append_assoc a second.front second.rest);
-  done = subst (TellsRuns base.done now.done) (sym (runs-append a second.front)) (tells_then base.done mid.done now.done (runs_in a) (runs_in second.front) first.done second.done);
-  next = second.next;
-  is_next = second.is_next;
-  asked = subst (λ ts. Grows base.asked now.asked (reads_in ts)) (sym (append_assoc a second.front second.next))
-      (subst (Grows base.asked now.asked) (sym (reads-append a (second.front ++ second.next)))
-      (grows_more base.asked mid.asked now.asked (reads_in a) (reads_in (second.front ++ second.next)) first.asked second.asked));
-}
+pub adds_front_on : (ahead : Bool) (base mid now : Told) (a b : List Task) → Adds base mid a → AddsFront ahead mid now b → AddsFront ahead base now (a ++ b)
+adds_front_on ahead base mid now a b first second =
+    let later = second.some in
+    record {
+      some = record {
+        front = a ++ later.front;
+        rest = later.rest;
+        whole = ap (λ xs. a ++ xs) later.whole ∙ sym (append_assoc a later.front later.rest);
+        done = subst (TellsRuns base.done now.done) (sym (runs-append a later.front)) (tells_then base.done mid.done now.done (runs_in a) (runs_in later.front) first.done later.done);
+        next = later.next;
+        is_next = later.is_next;
+        asked = subst (λ ts. Grows base.asked now.asked (reads_in ts)) (sym (append_assoc a later.front later.next))
+            (subst (Grows base.asked now.asked) (sym (reads-append a (later.front ++ later.next)))
+            (grows_more base.asked mid.asked now.asked (reads_in a) (reads_in (later.front ++ later.next)) first.asked later.asked));
+      };
+      no_name = λ e. second.no_name e;
+    }
 
 -- ---- all of it
 
@@ -65,19 +72,19 @@ whole_on l a b was mid now first second = record {
 
 -- ---- as much as was done before it was cut short
 
-pub front_of_none : (l : Listings) (was : Devices) → IsFront l [] was was
-front_of_none l was = record {
+pub front_of_none : (ahead : Bool) (l : Listings) (was : Devices) → IsFront ahead l [] was was
+front_of_none ahead l was = record {
   printed = ([], [], refl, grows_by_nothing was.written);
   puts = ([], [], refl, grows_by_nothing was.puts);
-  told = record { front = []; rest = []; whole = refl; done = (adds_none was.told).done; next = []; is_next = tt; asked = (adds_none was.told).asked };
+  told = front_all ahead was.told was.told [] [] [] (adds_none was.told) refl;
 }
 
 pub none_is_few : length {A = Shown Coursed} [] ≤ 1
 none_is_few = omega arith
 
 -- nothing was done
-abbrev pub cut_at_once : (l : Listings) (shown : List (Shown Coursed)) (was : Devices) → IsCutShort l shown was was
-cut_at_once l shown was = record {
+abbrev pub cut_at_once : (ahead : Bool) (l : Listings) (shown : List (Shown Coursed)) (was : Devices) → IsCutShort ahead l shown was was
+cut_at_once ahead l shown was = record {
   before = [];
   next = [];
   rest = shown;
@@ -85,14 +92,14 @@ cut_at_once l shown was = record {
   few = none_is_few;
   between = was;
   whole = none_whole l was;
-  front = front_of_none l was;
+  front = front_of_none ahead l was;
 }
 
 pub one_is_few : (s : Shown Coursed) → length (s ∷ []) ≤ 1
 one_is_few s = omega arith
 
-abbrev pub cut_in_one : (l : Listings) (s : Shown Coursed) (was now : Devices) → IsFront l (s ∷ []) was now → IsCutShort l (s ∷ []) was now
-cut_in_one l s was now front = record {
+abbrev pub cut_in_one : (ahead : Bool) (l : Listings) (s : Shown Coursed) (was now : Devices) → IsFront ahead l (s ∷ []) was now → IsCutShort ahead l (s ∷ []) was now
+cut_in_one ahead l s was now front = record {
   before = [];
   next = s ∷ [];
   rest = [];
@@ -103,8 +110,8 @@ cut_in_one l s was now front = record {
   front = front;
 }
 
-abbrev pub cut_later : (l : Listings) (a b : List (Shown Coursed)) (was mid now : Devices) → IsWhole l a was mid → IsCutShort l b mid now → IsCutShort l (a ++ b) was now
-cut_later l a b was mid now first second = record {
+abbrev pub cut_later : (ahead : Bool) (l : Listings) (a b : List (Shown Coursed)) (was mid now : Devices) → IsWhole l a was mid → IsCutShort ahead l b mid now → IsCutShort ahead l (a ++ b) was now
+cut_later ahead l a b was mid now first second = record {
   before = a ++ second.before;
   next = second.next;
   rest = second.rest;
@@ -115,8 +122,8 @@ cut_later l a b was mid now first second = record {
   front = second.front;
 }
 
-abbrev pub cut_with_more : (l : Listings) (a b : List (Shown Coursed)) (was now : Devices) → IsCutShort l a was now → IsCutShort l (a ++ b) was now
-cut_with_more l a b was now cut = record {
+abbrev pub cut_with_more : (ahead : Bool) (l : Listings) (a b : List (Shown Coursed)) (was now : Devices) → IsCutShort ahead l a was now → IsCutShort ahead l (a ++ b) was now
+cut_with_more ahead l a b was now cut = record {
   before = cut.before;
   next = cut.next;
   rest = cut.rest ++ b;

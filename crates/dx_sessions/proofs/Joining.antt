@@ -40,10 +40,10 @@ faulty_joins targets e st is = sym (joined_when targets e st true is)
 pub sound_joins : (targets : List Text) (e : Expr) (st : SessionState Kept) → is_some (first_fault st.dictionary (Assigns targets e)) ≡ false → with_assignment targets e st ≡ joined targets e st
 sound_joins targets e st is = sym (joined_when targets e st false is)
 
-pub cut_before_it : (x : Fixed) (l : Listings) (st : SessionState Kept) (done : Done Kept Coursed) (next : SessionState Kept → SessionState Kept) (was : Devices) (new : Session) (now : Devices)
-    → IsCutAt x l (here st) done.shown was new now → IsCutAt x l (here st) (and_then done (λ later. silently (next later))).shown was new now
-cut_before_it x l st done next was new now cut = record {
-  short = cut_with_more l done.shown [] was now cut.short;
+pub cut_before_it : (ahead : Bool) (x : Fixed) (l : Listings) (st : SessionState Kept) (done : Done Kept Coursed) (next : SessionState Kept → SessionState Kept) (was : Devices) (new : Session) (now : Devices)
+    → IsCutAt ahead x l (here st) done.shown was new now → IsCutAt ahead x l (here st) (and_then done (λ later. silently (next later))).shown was new now
+cut_before_it ahead x l st done next was new now cut = record {
+  short = cut_with_more ahead l done.shown [] was now cut.short;
   at = cut.at;
   begins = cut.begins;
   left = cut.left;

@@ -6,7 +6,7 @@ use Rattle.dx_io.specs.declared.fails.SinkFail.{SinkFail}
 use Rattle.dx_io.specs.Devices.{Grows, GrowsInto}
 use Rattle.dx_io.proofs.Growing.{grows_by_nothing}
 use Rattle.dx_ast.specs.declared.sequencing.FrameVar.{FrameVar}
-use Rattle.dx_getting.specs.Told.{Told, Adds, AddsSome}
+use Rattle.dx_getting.specs.Told.{Told, Adds}
 use Rattle.dx_getting.proofs.TellLaws.{adds_none}
 use Rattle.dx_sequencer.specs.declared.sequencer.FrameRange.{FrameRange as RangeError}
 use Rattle.dx_sequencer.specs.Sequencer as seq
@@ -17,6 +17,8 @@ use Rattle.dx_performing.specs.Execution.{Export}
 use Rattle.dx_performing.specs.Kept.{Kept, current}
 use Rattle.dx_engine.specs.Keeping.{IsSoundState}
 use Rattle.dx_engine.specs.Executing.{Devices}
+use Rattle.dx_engine.specs.Fronts.{AddsFront}
+use Rattle.dx_engine.proofs.Fronts.{front_all}
 use Rattle.dx_shown.specs.Made.{Coursed, coursed}
 use Rattle.dx_shown.specs.Session.{Done, Making, Shown, Executes, PlayTooLong, FrameRange, State, refused, silently, with_sequencer, set, played, stepped_often}
 use Rattle.dx_shown.specs.Listed.{any_error}
@@ -46,8 +48,8 @@ none_told was now same = subst (λ (t : Told). Adds was t []) (sym same) (adds_n
 none_put : (was now : Option (List Export)) → now ≡ was → Grows was now []
 none_put was now same = subst (λ (p : Option (List Export)). Grows was p []) (sym same) (grows_by_nothing was)
 
-some_told : (was now : Told) → now ≡ was → AddsSome was now []
-some_told was now same = let none = none_told was now same in record { front = []; rest = []; whole = refl; done = none.done; next = []; is_next = tt; asked = none.asked }
+front_told : (ahead : Bool) (was now : Told) → now ≡ was → AddsFront ahead was now []
+front_told ahead was now same = front_all ahead was now [] [] [] (none_told was now same) refl
 
 -- a line
 pub line_whole : (l : Listings) (s : Shown Coursed) (was now : Devices) → IsRefusal s → Grows was.written now.written (shown_texts l (s ∷ [])) → TextAlone was now → IsWhole l (s ∷ []) was now
@@ -55,10 +57,10 @@ line_whole l (Executes c) was now r grown alone = absurd r
 line_whole l PlayTooLong was now r grown alone = record { printed = grown; puts = none_put was.puts now.puts alone.puts; told = none_told was.told now.told alone.told }
 line_whole l FrameRange was now r grown alone = record { printed = grown; puts = none_put was.puts now.puts alone.puts; told = none_told was.told now.told alone.told }
 
-pub line_front : (l : Listings) (s : Shown Coursed) (was now : Devices) → IsRefusal s → GrowsInto was.written now.written (shown_texts l (s ∷ [])) → TextAlone was now → IsFront l (s ∷ []) was now
-line_front l (Executes c) was now r grown alone = absurd r
-line_front l PlayTooLong was now r grown alone = record { printed = grown; puts = ([], [], refl, none_put was.puts now.puts alone.puts); told = some_told was.told now.told alone.told }
-line_front l FrameRange was now r grown alone = record { printed = grown; puts = ([], [], refl, none_put was.puts now.puts alone.puts); told = some_told was.told now.told alone.told }
+pub line_front : (ahead : Bool) (l : Listings) (s : Shown Coursed) (was now : Devices) → IsRefusal s → GrowsInto was.written now.written (shown_texts l (s ∷ [])) → TextAlone was now → IsFront ahead l (s ∷ []) was now
+line_front ahead l (Executes c) was now r grown alone = absurd r
+line_front ahead l PlayTooLong was now r grown alone = record { printed = grown; puts = ([], [], refl, none_put was.puts now.puts alone.puts); told = front_told ahead was.told now.told alone.told }
+line_front ahead l FrameRange was now r grown alone = record { printed = grown; puts = ([], [], refl, none_put was.puts now.puts alone.puts); told = front_told ahead was.told now.told alone.told }
 
 -- ---- plays
 
@@ -81,11 +83,11 @@ places_by make st long before at = MatchBool long (here st before at) (IsAmongSt
 abbrev played_so : Making Kept Coursed → State Kept → Bool → Done Kept Coursed
 played_so make st long = if long then refused PlayTooLong st else stepped_often make (play_steps (at_play st.sequencer)) (with_sequencer (at_play st.sequencer) st)
 
-pub long_cut : (x : Fixed) (l : Listings) (st : State Kept) (was now : Devices) (new : Session) → IsLongPlay (at_play st.sequencer) → state_of new ≡ st → IsSoundState x new.state
-    → GrowsInto was.written now.written (shown_texts l (PlayTooLong ∷ [])) → TextAlone was now → IsCutAt x l (in_play (coursed x) st) (played (coursed x) st).shown was new now
-long_cut x l st was now new long same sound grown alone =
-    subst (λ (b : Bool). IsCutAt x l (places_by (coursed x) st b) (played_so (coursed x) st b).shown was new now) (sym (is_long (at_play st.sequencer) long))
-    (stays_at_line x l PlayTooLong was now st new (ap (λ (s : State Kept). current s.kept) same) (line_front l PlayTooLong was now tt grown alone) same sound)
+pub long_cut : (ahead : Bool) (x : Fixed) (l : Listings) (st : State Kept) (was now : Devices) (new : Session) → IsLongPlay (at_play st.sequencer) → state_of new ≡ st → IsSoundState x new.state
+    → GrowsInto was.written now.written (shown_texts l (PlayTooLong ∷ [])) → TextAlone was now → IsCutAt ahead x l (in_play (coursed x) st) (played (coursed x) st).shown was new now
+long_cut ahead x l st was now new long same sound grown alone =
+    subst (λ (b : Bool). IsCutAt ahead x l (places_by (coursed x) st b) (played_so (coursed x) st b).shown was new now) (sym (is_long (at_play st.sequencer) long))
+    (stays_at_line ahead x l PlayTooLong was now st new (ap (λ (s : State Kept). current s.kept) same) (line_front ahead l PlayTooLong was now tt grown alone) same sound)
 
 pub short_does : (x : Fixed) (l : Listings) (st started : State Kept) (new : Session) (n : ℕ) (was now : Devices) (r : Result Bool End)
     → IsPlay (at_play st.sequencer) n → n ≤ max_steps → started ≡ with_sequencer (at_play st.sequencer) st
@@ -118,11 +120,11 @@ set_done_so x l v n st new was now failed is state sound grown alone = record {
   sound = sound;
 }
 
-set_cut : (x : Fixed) (l : Listings) (v : FrameVar) (n : ℤ) (st : State Kept) (new : Session) (was now : Devices) → is_refused v n ≡ true → state_of new ≡ st → IsSoundState x new.state
-    → GrowsInto was.written now.written (shown_texts l (FrameRange ∷ [])) → TextAlone was now → IsCutAt x l (here st) (set {K = Kept} {X = Coursed} v n st).shown was new now
-set_cut x l v n st new was now is same sound grown alone =
-    subst (λ (b : Bool). IsCutAt x l (here st) (set_by b st (with_sequencer (seq.with_var v n st.sequencer) st)).shown was new now) (sym is)
-    (stays_at_line x l FrameRange was now st new (ap (λ (s : State Kept). current s.kept) same) (line_front l FrameRange was now tt grown alone) same sound)
+set_cut : (ahead : Bool) (x : Fixed) (l : Listings) (v : FrameVar) (n : ℤ) (st : State Kept) (new : Session) (was now : Devices) → is_refused v n ≡ true → state_of new ≡ st → IsSoundState x new.state
+    → GrowsInto was.written now.written (shown_texts l (FrameRange ∷ [])) → TextAlone was now → IsCutAt ahead x l (here st) (set {K = Kept} {X = Coursed} v n st).shown was new now
+set_cut ahead x l v n st new was now is same sound grown alone =
+    subst (λ (b : Bool). IsCutAt ahead x l (here st) (set_by b st (with_sequencer (seq.with_var v n st.sequencer) st)).shown was new now) (sym is)
+    (stays_at_line ahead x l FrameRange was now st new (ap (λ (s : State Kept). current s.kept) same) (line_front ahead l FrameRange was now tt grown alone) same sound)
 
 abbrev SettingResult : Type 0
 SettingResult = Result (Unit {0}) RangeError
@@ -142,10 +144,10 @@ pub err_refused : (b : Bool) (r : SettingResult) (f : RangeError) → r ≡ Err 
 err_refused b r f err is = subst (λ (q : SettingResult). IsErrThen q b) (sym is ∙ err) (by_result b)
 
 -- a setting that was cut short
-pub set_cut_from : (x : Fixed) (v : FrameVar) (n : ℤ) (old new : Session) (was now : Devices) (fail : SinkFail) → SetsSo v n old new was.written now.written (Err fail) → IsSoundState x old.state → TextAlone was now
-    → IsCutAt x old.listings (here (state_of old)) (set {K = Kept} {X = Coursed} v n (state_of old)).shown was new now
-set_cut_from x v n old new was now fail (refused, state, listings, same, grown) sound alone =
-    set_cut x old.listings v n (state_of old) new was now refused same (subst (λ (s : EngineState). IsSoundState x s) (sym state) sound) grown alone
+pub set_cut_from : (ahead : Bool) (x : Fixed) (v : FrameVar) (n : ℤ) (old new : Session) (was now : Devices) (fail : SinkFail) → SetsSo v n old new was.written now.written (Err fail) → IsSoundState x old.state → TextAlone was now
+    → IsCutAt ahead x old.listings (here (state_of old)) (set {K = Kept} {X = Coursed} v n (state_of old)).shown was new now
+set_cut_from ahead x v n old new was now fail (refused, state, listings, same, grown) sound alone =
+    set_cut ahead x old.listings v n (state_of old) new was now refused same (subst (λ (s : EngineState). IsSoundState x s) (sym state) sound) grown alone
 
 -- a setting that is refused leaves the sequencer, and its line is shown
 pub refused_sets : (l : Listings) (v : FrameVar) (n : ℤ) (st : State Kept) (s : seq.State) (was now : Option (List ℕ)) → is_refused v n ≡ true

@@ -46,13 +46,13 @@ goes_on x l whole rest one next erred failed old new was between now is done so_
 }
 
 -- one was cut short
-pub is_cut : (x : Fixed) (l : Listings) (whole rest one : Done Kept Coursed) (next : State Kept → Done Kept Coursed) (erred : Bool) (old : Session) (was between now : Devices)
-    → rest ≡ and_then one next → IsCutShort l one.shown between now → SoFar x l whole rest was erred old between → IsCutShort l whole.shown was now
-is_cut x l whole rest one next erred old was between now is cut so_far =
+pub is_cut : (ahead : Bool) (x : Fixed) (l : Listings) (whole rest one : Done Kept Coursed) (next : State Kept → Done Kept Coursed) (erred : Bool) (old : Session) (was between now : Devices)
+    → rest ≡ and_then one next → IsCutShort ahead l one.shown between now → SoFar x l whole rest was erred old between → IsCutShort ahead l whole.shown was now
+is_cut ahead x l whole rest one next erred old was between now is cut so_far =
     let more = (next one.state).shown in
     let split : whole.shown ≡ so_far.front ++ (one.shown ++ more) = ap (λ (d : Done Kept Coursed). d.shown) (so_far.left ∙ ap (behind so_far.front) is) in
-    subst (λ (shown : List (Shown Coursed)). IsCutShort l shown was now) (sym split)
-    (cut_later l so_far.front (one.shown ++ more) was between now so_far.done (cut_with_more l one.shown more between now cut))
+    subst (λ (shown : List (Shown Coursed)). IsCutShort ahead l shown was now) (sym split)
+    (cut_later ahead l so_far.front (one.shown ++ more) was between now so_far.done (cut_with_more ahead l one.shown more between now cut))
 
 -- nothing is left
 pub is_done : (x : Fixed) (l : Listings) (whole rest : Done Kept Coursed) (erred : Bool) (new : Session) (was now : Devices) (st : State Kept)

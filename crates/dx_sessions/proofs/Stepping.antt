@@ -53,10 +53,10 @@ step_more x l n old mid new was between now erred failed first next =
     (done_on x l (stepped_often (coursed x) n old) (stepped (coursed x)) mid new was between now erred failed first next)
 
 -- one of them was cut short
-pub step_cut : (x : Fixed) (l : Listings) (n all : ℕ) (old : State Kept) (mid new : Session) (was between now : Devices) (erred : Bool) → n < all
-    → IsDone x l (stepped_often (coursed x) n old) was erred mid between → IsCutAt x l (here (moved (state_of mid))) (stepped (coursed x) (state_of mid)).shown between new now
-    → IsCutAt x l (IsAmongSteps (coursed x) all old) (stepped_often (coursed x) all old).shown was new now
-step_cut x l n all old mid new was between now erred lt first cut =
+pub step_cut : (ahead : Bool) (x : Fixed) (l : Listings) (n all : ℕ) (old : State Kept) (mid new : Session) (was between now : Devices) (erred : Bool) → n < all
+    → IsDone x l (stepped_often (coursed x) n old) was erred mid between → IsCutAt ahead x l (here (moved (state_of mid))) (stepped (coursed x) (state_of mid)).shown between new now
+    → IsCutAt ahead x l (IsAmongSteps (coursed x) all old) (stepped_often (coursed x) all old).shown was new now
+step_cut ahead x l n all old mid new was between now erred lt first cut =
     let left : suc n + (all - suc n) ≡ all = omega arith in
     let more = fewer (coursed x) old (suc n) (all - suc n) all left in
     let so_far = (stepped_often (coursed x) n old).shown in

@@ -6,17 +6,19 @@ use Rattle.dx_io.specs.declared.fails.SinkFail.{SinkFail}
 use Rattle.dx_io.specs.Devices.{FileMap as InputFiles, Grows, GrowsInto}
 use Rattle.dx_objects.specs.Runs.{Ran}
 use Rattle.dx_getting.specs.Stands.{Answers}
-use Rattle.dx_getting.specs.Told.{Adds, AddsSome, told}
+use Rattle.dx_getting.specs.Told.{Adds, told}
 use Rattle.dx_performing.specs.Course.{Fixed}
 use Rattle.dx_performing.specs.Execution.{Export}
 use Rattle.dx_performing.specs.Kept.{Kept}
 use Rattle.dx_engine.specs.Keeping.{IsSoundState}
 use Rattle.dx_engine.specs.Executing.{Devices}
+use Rattle.dx_engine.specs.Fronts.{AddsFront}
 use Rattle.dx_engine.specs.declared.state.State.{State}
 use Rattle.dx_shown.specs.Made.{Coursed}
 use Rattle.dx_shown.specs.Listed.{all_exports, all_tasks, any_error}
 use Rattle.dx_sequencer.specs.Sequencer.{is_refused}
 use Rattle.dx_shown.specs.Session.{Shown, FrameRange, Done, State as SessionState, with_assignment, set}
+use Rattle.dx_making.specs.Ends.{reads_ahead}
 use Rattle.dx_making.specs.declared.end.End.{End}
 use Rattle.dx_telling.specs.Shown.{shown_texts}
 use Rattle.dx_telling.specs.declared.listings.Listings.{Listings}
@@ -41,14 +43,14 @@ pub record IsWhole (listings : Listings) (shown : List (Shown Coursed)) (was now
   pub puts : Grows was.puts now.puts (all_exports shown)
   pub told : Adds was.told now.told (all_tasks shown)
 
--- a front of it was printed, a front put, and a front told
-pub record IsFront (listings : Listings) (shown : List (Shown Coursed)) (was now : Devices) : Type 0 where
+-- a front of it was printed, a front put, and a front told, with one name more at most where it may be read ahead
+pub record IsFront (ahead : Bool) (listings : Listings) (shown : List (Shown Coursed)) (was now : Devices) : Type 0 where
   pub printed : GrowsInto was.written now.written (shown_texts listings shown)
   pub puts : GrowsInto was.puts now.puts (all_exports shown)
-  pub told : AddsSome was.told now.told (all_tasks shown)
+  pub told : AddsFront ahead was.told now.told (all_tasks shown)
 
 -- so much was shown whole, and a front of what comes next, if anything does
-pub record IsCutShort (listings : Listings) (shown : List (Shown Coursed)) (was now : Devices) : Type 0 where
+pub record IsCutShort (ahead : Bool) (listings : Listings) (shown : List (Shown Coursed)) (was now : Devices) : Type 0 where
   pub before : List (Shown Coursed)
   pub next : List (Shown Coursed)
   pub rest : List (Shown Coursed)
@@ -56,7 +58,7 @@ pub record IsCutShort (listings : Listings) (shown : List (Shown Coursed)) (was 
   pub few : length next ≤ 1
   pub between : Devices
   pub whole : IsWhole listings before was between
-  pub front : IsFront listings next between now
+  pub front : IsFront ahead listings next between now
 
 -- all of it was done, and the state behind it is sound again
 pub record IsDone (x : Fixed) (listings : Listings) (done : Done Kept Coursed) (was : Devices) (failed : Bool) (new : Session) (now : Devices) : Type 0 where
@@ -66,8 +68,8 @@ pub record IsDone (x : Fixed) (listings : Listings) (done : Done Kept Coursed) (
   pub sound : IsSoundState x new.state
 
 -- it was cut short, where what is shown next began at one of these places; the session is left there, and is sound again
-pub record IsCutAt (x : Fixed) (listings : Listings) (places : List (Shown Coursed) → SessionState Kept → Type 0) (shown : List (Shown Coursed)) (was : Devices) (new : Session) (now : Devices) : Type 0 where
-  pub short : IsCutShort listings shown was now
+pub record IsCutAt (ahead : Bool) (x : Fixed) (listings : Listings) (places : List (Shown Coursed) → SessionState Kept → Type 0) (shown : List (Shown Coursed)) (was : Devices) (new : Session) (now : Devices) : Type 0 where
+  pub short : IsCutShort ahead listings shown was now
   pub at : SessionState Kept
   pub begins : places short.before at
   pub left : IsLeft listings short.next short.between now at (state_of new)
@@ -75,12 +77,12 @@ pub record IsCutAt (x : Fixed) (listings : Listings) (places : List (Shown Cours
 
 abbrev pub DoesSo : Fixed → Listings → (List (Shown Coursed) → SessionState Kept → Type 0) → Done Kept Coursed → Devices → Result Bool End → Session → Devices → Type 0
 DoesSo x listings places done was (Ok erred) new now = IsDone x listings done was erred new now
-DoesSo x listings places done was (Err end) new now = IsCutAt x listings places done.shown was new now
+DoesSo x listings places done was (Err end) new now = IsCutAt (reads_ahead end) x listings places done.shown was new now
 
 -- the same of an execution
 abbrev pub ShowsSo : Fixed → Listings → SessionState Kept → Done Kept Coursed → Devices → Result Ended End → Session → Devices → Type 0
 ShowsSo x listings old done was (Ok ended) new now = IsDone x listings done was (is_error ended) new now
-ShowsSo x listings old done was (Err end) new now = IsCutAt x listings (here old) done.shown was new now
+ShowsSo x listings old done was (Err end) new now = IsCutAt (reads_ahead end) x listings (here old) done.shown was new now
 
 -- macros, definitions, the sequencer and the sequence call are as before
 pub record OthersStay (old new : Session) : Type 0 where
@@ -107,4 +109,4 @@ SetsSo v n old new was now (Err fail) = (is_refused v n ≡ true) × (new.state 
 -- the same of a whole session, of which no state is left
 abbrev pub PerformsSo : Listings → List (Shown Coursed) → Devices → Result Bool End → Devices → Type 0
 PerformsSo listings shown was (Ok erred) now = IsWhole listings shown was now × (erred ≡ any_error shown)
-PerformsSo listings shown was (Err end) now = IsCutShort listings shown was now
+PerformsSo listings shown was (Err end) now = IsCutShort (reads_ahead end) listings shown was now

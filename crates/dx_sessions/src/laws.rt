@@ -1,5 +1,5 @@
 //! A law of sessions that are cut short.
-ghost use Rattle.std.specs.Prelude.{List};
+ghost use Rattle.std.specs.Prelude.{Bool, List};
 ghost use Rattle.dx_engine.specs.Executing.{Devices};
 ghost use Rattle.dx_shown.specs.Made.{Coursed};
 ghost use Rattle.dx_shown.specs.Session.{Shown};
@@ -8,5 +8,5 @@ ghost use Rattle.dx_sessions.specs.Does.{IsCutShort, IsFront};
 
 /// Where a session is cut short, a front of what it shows was printed, a front put and a front of its runs made.
 pub fn cuts_leave_fronts()
-    ensures { (listings : Listings) (shown : List (Shown Coursed)) (was now : Devices) → IsCutShort listings shown was now → IsFront listings shown was now }
+    ensures { (ahead : Bool) (listings : Listings) (shown : List (Shown Coursed)) (was now : Devices) → IsCutShort ahead listings shown was now → IsFront ahead listings shown was now }
 {}

@@ -55,7 +55,7 @@ returns-in_err-done-clause-runs g c = λ map ec k right base s f st.
     let lt : i < length (graph_of setup.graph.now).effects = subst (λ xs. i < length xs) c.effects-n-items.ensures c.loop-n-test.true in
     let o = next_effect setup x k base all s f before got at now written i n e lt (ap (λ xs. get_or xs i 0) c.effects-n-items.ensures) c.effect_at-effect.ensures (c.loop-n.invariant.course map ec k right base s f st) in
     let performed = by_budget setup g.L.Library.answer (g.F.Files.content c.loop-n.files) at now (PerformsHere setup n e c.perform.result at' now') c.perform.ensures.performs map (c.loop-n.invariant.same ∙ ec) c.args.at.now.work.cache.budget c.loop-n.invariant.budget k right base o.state o.formed o.stands in
-    runs_cut setup x k base all s f before c.from_residual.result c.from_residual.ensures.0 at' now' written
+    runs_cut setup x k base all s f before c.from_residual.result c.in_err-done.field-0.0 c.from_residual.ensures.1 at' now' written
     (cut_there setup x k base all rest s f before got at now written n e o now' (subst (λ r. PerformsHere setup n e r at' now' x k base o.state o.formed) c.in_err-done.was performed))
 
 pub returns-in-Err-clause-runs : goal.returns-in-Err-clause-runs
@@ -79,7 +79,7 @@ returns-in-Err-clause-runs g c = λ map ec k right base s f st.
     let o = next_effect setup x k base all s f before got at now written i n e lt (ap (λ xs. get_or xs i 0) c.effects-n-items.ensures) c.effect_at-effect.ensures (c.loop-n.invariant.course map ec k right base s f st) in
     let performed = by_budget setup g.L.Library.answer (g.F.Files.content c.loop-n.files) at now (PerformsHere setup n e c.perform.result at' now') c.perform.ensures.performs map (c.loop-n.invariant.same ∙ ec) c.args.at.now.work.cache.budget c.loop-n.invariant.budget k right base o.state o.formed o.stands in
     let so = subst (λ r. PerformsHere setup n e r at' now' x k base o.state o.formed) c.in_ok-done.was performed in
-    cut_printing setup x k base all rest s f before got at now written n e o c.in_ok-done.done at' now' so c.in_ok-done.ensures.goes_on c.loop-n.invariant.fits (g.O.Sink.written c.take.new.out) c.in-Err.ensures.writes
+    cut_printing setup x k base all rest s f before got at now written n e o c.in_ok-done.done at' now' so c.in_ok-done.ensures.goes_on c.loop-n.invariant.fits _ (g.O.Sink.written c.take.new.out) c.in-Err.ensures.writes
 
 pub returns-then-ends-clause-fits : goal.returns-then-ends-clause-fits
 returns-then-ends-clause-fits g c =

@@ -1,4 +1,4 @@
-use Rattle.std.proofs.Common.{◌≡◌, None, ℕ, List, rules, sym, ap, subst}
+use Rattle.std.proofs.Common.{◌≡◌, None, ℕ, List, true, rules, sym, ap, subst}
 use Rattle.dx_io.specs.Devices.{Writes}
 use Rattle.dx_outcome.specs.Computed.{of_words, plan_of}
 use Rattle.dx_outcome.specs.Outcome.{outcome}
@@ -20,5 +20,5 @@ returns-in-Err-Refused-clause-ends g c = λ map told.
 
 pub returns-in-Err-Memory-clause-ends : goal.returns-in-Err-Memory-clause-ends
 returns-in-Err-Memory-clause-ends g c = λ map told.
-    at_once (outcome g.L.Library.answer map (plan_of (texts c.args.words.now.items) map))
+    at_once true (outcome g.L.Library.answer map (plan_of (texts c.args.words.now.items) map))
     (devices (g.L.Library.done c.args.lib.now) (g.F.Files.asked c.args.files.now) (g.O.Sink.written c.args.out.now) (g.X.Exports.puts c.args.exports.now))

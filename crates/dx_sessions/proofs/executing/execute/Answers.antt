@@ -16,7 +16,7 @@ returns-in_err-failing-clause-executes g c = λ x answers files sound.
     let was = devices (g.L.Library.done c.args.lib.now) (g.F.Files.asked c.args.files.now) (g.O.Sink.written c.args.out.now) (g.X.Exports.puts c.args.exports.now) in
     let now = devices (g.L.Library.done c.make.new.lib) (g.F.Files.asked c.make.new.files) (g.O.Sink.written c.make.new.out) (g.X.Exports.puts c.make.new.exports) in
     let p = err_from_is_err_and c.from_residual.result c.from_residual.ensures.1 in
-    rw p.1
+    rw (p.1, p.2)
     (cut_in x c.args.listings c.args.state.now c.make.new.state (coursed x (dictionary_of c.args.d.now) c.args.frames.now (plain_stmt c.args.s.now) (kept_of c.args.state.now)) was now c.in_err-failing.field-0.0
     c.in_err-failing.ensures.links
     (over_from g.L.Library.answer (g.F.Files.content c.args.files.now) c.args.state.now (λ (y : Fixed). IsSoundState y c.make.new.state) c.make.ensures.sound x answers files sound)
@@ -42,5 +42,5 @@ returns-clause-executes g c = λ x answers files sound.
     let made = coursed x (dictionary_of c.args.d.now) c.args.frames.now (plain_stmt c.args.s.now) (kept_of c.args.state.now) in
     let m = over_from g.L.Library.answer (g.F.Files.content c.args.files.now) c.args.state.now (λ (y : Fixed). MakesSo y c.args.state.now (coursed y (dictionary_of c.args.d.now) c.args.frames.now (plain_stmt c.args.s.now) (kept_of c.args.state.now)) was (Ok c.in_ok-failing.failing) c.make.new.state mid)
     c.in_ok-failing.ensures.makes x answers files sound in
-    cut_telling x c.args.listings c.args.state.now c.make.new.state made was mid now c.in_ok-failing.failing (behind_kept x (dictionary_of c.args.d.now) c.args.frames.now (plain_stmt c.args.s.now) (kept_of c.args.state.now)) m
+    cut_telling _ x c.args.listings c.args.state.now c.make.new.state made was mid now c.in_ok-failing.failing (behind_kept x (dictionary_of c.args.d.now) c.args.frames.now (plain_stmt c.args.s.now) (kept_of c.args.state.now)) m
     (c.in-Err.ensures.tells made.0 (made_tells x (dictionary_of c.args.d.now) c.args.frames.now (plain_stmt c.args.s.now) c.args.state.now c.make.new.state was mid c.in_ok-failing.failing m)) refl refl

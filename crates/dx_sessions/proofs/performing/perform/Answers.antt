@@ -11,6 +11,7 @@ use Rattle.dx_shown.specs.Session.{Done, State, initial, statement, statements}
 use Rattle.dx_telling.specs.declared.listings.Listings.{Listings}
 use Rattle.dx_sessions.specs.Does.{IsCutShort, IsDone, devices}
 use Rattle.dx_sessions.specs.SessionView.{state_of}
+use Rattle.dx_making.specs.Ends.{reads_ahead}
 use Rattle.dx_making.specs.declared.end.End.{End}
 use Rattle.dx_making.specs.declared.end.End.TheVariants.{ReadFault, WriteFault, ExportFault}
 use Rattle.dx_sessions.proofs.Causes.{cause_after}
@@ -101,11 +102,11 @@ returns-in_err-erred-clause-performs g c = λ map files.
     let so_far = at.invariant.so_far map files in
     let one = statement (coursed x) (state_of at.session) (plain_stmt c.in-Some.statement) in
     let p = err_from_is_err_and c.from_residual.result c.from_residual.ensures.1 in
-    rw p.1
-    (is_cut x c.args.listings (statements (coursed x) (initial none_kept) (plain_stmts c.args.statements)) (statements (coursed x) (state_of at.session) (plain_stmts (into_iter_items at.statement-iterator))) one
+    rw (p.1, p.2)
+    (is_cut (reads_ahead c.in_err-erred.field-0.0) x c.args.listings (statements (coursed x) (initial none_kept) (plain_stmts c.args.statements)) (statements (coursed x) (state_of at.session) (plain_stmts (into_iter_items at.statement-iterator))) one
     (λ (next : State Kept). statements (coursed x) next (plain_stmts rest)) at.erred at.session was mid now
     (next_statement (coursed x) (state_of at.session) (into_iter_items at.statement-iterator) c.in-Some.statement rest steps)
-    (subst (λ (l : Listings). IsCutShort l one.shown mid now) at.invariant.listings (c.in_err-erred.ensures.does x refl (at.invariant.same ∙ files) so_far.sound).short)
+    (subst (λ (l : Listings). IsCutShort (reads_ahead c.in_err-erred.field-0.0) l one.shown mid now) at.invariant.listings (c.in_err-erred.ensures.does x refl (at.invariant.same ∙ files) so_far.sound).short)
     so_far)
 
 pub returns-clause-performs : goal.returns-clause-performs

@@ -10,4 +10,4 @@ pub returns-in_err-add-clause-does : goal.returns-in_err-add-clause-does
 returns-in_err-add-clause-does g c = λ x answers files sound.
     let p = err_from_is_err_and c.from_residual.result c.from_residual.ensures.1 in
     let st = state_of c.args.self.now in
-    rw p.1 (stays_at_once x c.args.self.now.listings _ _ st _ (ap (λ (d : Dictionary). with_dictionary d st) c.in_err-add.ensures.err) sound)
+    rw p.1 (stays_at_once _ x c.args.self.now.listings _ _ st _ (ap (λ (d : Dictionary). with_dictionary d st) c.in_err-add.ensures.err) sound)

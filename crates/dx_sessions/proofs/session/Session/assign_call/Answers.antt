@@ -9,6 +9,7 @@ use Rattle.dx_macros.specs.DictionaryView.{dictionary_of}
 use Rattle.dx_macros.specs.Walk.{first_fault}
 use Rattle.dx_shown.specs.Made.{coursed}
 use Rattle.dx_shown.specs.Session.{executed, joined, with_dictionary}
+use Rattle.dx_making.specs.Ends.{reads_ahead}
 use Rattle.dx_sessions.specs.Does.{IsCutAt, IsDone, devices, joining}
 use Rattle.dx_sessions.specs.Places.{here}
 use Rattle.dx_sessions.specs.Ended.{is_error}
@@ -22,7 +23,7 @@ pub returns-in_err-reserve-clause-does : goal.returns-in_err-reserve-clause-does
 returns-in_err-reserve-clause-does g c = λ x answers files sound.
     let p = err_from_is_err_and c.from_residual.result c.from_residual.ensures.1 in
     let st = state_of c.args.self.now in
-    rw p.1 (stays_at_once x c.args.self.now.listings _ _ st _ (ap (λ (d : Dictionary). with_dictionary d st) c.reserve.ensures.same) sound)
+    rw p.1 (stays_at_once _ x c.args.self.now.listings _ _ st _ (ap (λ (d : Dictionary). with_dictionary d st) c.reserve.ensures.same) sound)
 
 pub returns-in_err-ended-clause-does : goal.returns-in_err-ended-clause-does
 returns-in_err-ended-clause-does g c = λ x answers files sound.
@@ -32,10 +33,10 @@ returns-in_err-ended-clause-does g c = λ x answers files sound.
     let was = devices (g.L.Library.done c.args.lib.now) (g.F.Files.asked c.args.files.now) (g.O.Sink.written c.args.out.now) (g.X.Exports.puts c.args.exports.now) in
     let now = devices (g.L.Library.done c.execute.new.lib) (g.F.Files.asked c.execute.new.files) (g.O.Sink.written c.execute.new.out) (g.X.Exports.puts c.execute.new.exports) in
     let p = err_from_is_err_and c.from_residual-in_err-ended.result c.from_residual-in_err-ended.ensures.1 in
-    rw p.1
-    (cut_before_it x l st (executed (coursed x) st s) (joined c.args.a.targets (plain_expr c.args.a.value)) was c.execute.new.self now
-    (subst (λ (d : Dictionary). IsCutAt x l (here (with_dictionary d st)) (executed (coursed x) (with_dictionary d st) s).shown was c.execute.new.self now) c.in_ok-reserve.ensures.same
-    (subst (λ (t : Stmt). IsCutAt x l (here (with_dictionary (dictionary_of c.reserve.new.self) st)) (executed (coursed x) (with_dictionary (dictionary_of c.reserve.new.self) st) t).shown was c.execute.new.self now) (assign_is (code.Assign c.args.a) c.args.a refl) (c.in_err-ended.ensures.does x answers files sound))))
+    rw (p.1, p.2)
+    (cut_before_it (reads_ahead c.in_err-ended.field-0.0) x l st (executed (coursed x) st s) (joined c.args.a.targets (plain_expr c.args.a.value)) was c.execute.new.self now
+    (subst (λ (d : Dictionary). IsCutAt (reads_ahead c.in_err-ended.field-0.0) x l (here (with_dictionary d st)) (executed (coursed x) (with_dictionary d st) s).shown was c.execute.new.self now) c.in_ok-reserve.ensures.same
+    (subst (λ (t : Stmt). IsCutAt (reads_ahead c.in_err-ended.field-0.0) x l (here (with_dictionary (dictionary_of c.reserve.new.self) st)) (executed (coursed x) (with_dictionary (dictionary_of c.reserve.new.self) st) t).shown was c.execute.new.self now) (assign_is (code.Assign c.args.a) c.args.a refl) (c.in_err-ended.ensures.does x answers files sound))))
 
 pub returns-then-is_faulty-clause-does : goal.returns-then-is_faulty-clause-does
 returns-then-is_faulty-clause-does g c = λ x answers files sound.

@@ -30,7 +30,7 @@ returns-in-Err-clause-does g c = λ x answers files sound.
     let old = c.args.self.now in
     let was = devices (g.L.Library.done c.args.lib.now) (g.F.Files.asked c.args.files.now) (g.O.Sink.written c.args.out.now) (g.X.Exports.puts c.args.exports.now) in
     let now = devices (g.L.Library.done c.execute.new.lib) (g.F.Files.asked c.execute.new.files) (g.O.Sink.written c.execute.new.out) (g.X.Exports.puts c.execute.new.exports) in
-    sequence_cut x old.listings (state_of old) _ (option_map plain_stmt old.sequence) (plain_stmt c.in-Some.s) was now (ap (option_map plain_stmt) c.in-Some.is)
+    sequence_cut _ x old.listings (state_of old) _ (option_map plain_stmt old.sequence) (plain_stmt c.in-Some.s) was now (ap (option_map plain_stmt) c.in-Some.is)
     (shows x old.listings old _ (plain_stmt c.in-Some.s) was now (Err c.in-Err.end) (record { dictionary = refl; sequencer = refl; sequence = refl; listings = refl })
     (subst (λ (f : Frames). ExecutesSo x old.listings (kept_of old.state) (coursed x (dictionary_of old.dictionary) f (plain_stmt c.in-Some.s) (kept_of old.state)) was (Err c.in-Err.end) c.execute.new.state now)
     c.frames-frames.ensures (c.in-Err.ensures.executes x answers files sound)))

@@ -30,6 +30,6 @@ returns-in-Err-clause-does g c = λ x answers files sound.
     let st = state_of c.args.self.now in
     let was = devices (g.L.Library.done c.args.lib.now) (g.F.Files.asked c.args.files.now) (g.O.Sink.written c.args.out.now) (g.X.Exports.puts c.args.exports.now) in
     let now = devices (g.L.Library.done c.args.lib.now) (g.F.Files.asked c.args.files.now) (g.O.Sink.written c.write_all.new.out) (g.X.Exports.puts c.args.exports.now) in
-    long_cut x c.args.self.now.listings st was now _ c.in-None.ensures.refused (ap (λ (s : seq.State). with_sequencer s st) c.in-None.ensures.unchanged) sound
+    long_cut _ x c.args.self.now.listings st was now _ c.in-None.ensures.refused (ap (λ (s : seq.State). with_sequencer s st) c.in-None.ensures.unchanged) sound
     (subst (GrowsInto (g.O.Sink.written c.args.out.now) (g.O.Sink.written c.write_all.new.out)) (c.play_too_long.ensures ∙ sym (append-nil play_too_long)) c.in-Err.ensures.writes)
     (record { told = refl; puts = refl })

@@ -8,6 +8,7 @@ use Rattle.dx_sequencer.specs.Sequencer.{frames_of}
 use Rattle.dx_shown.specs.Made.{coursed}
 use Rattle.dx_shown.specs.Session.{State, executed, setting, statement, with_dictionary}
 use Rattle.dx_macros.specs.Dictionary.{Dictionary}
+use Rattle.dx_making.specs.Ends.{reads_ahead}
 use Rattle.dx_sessions.specs.Does.{DoesSo, IsCutAt, devices}
 use Rattle.dx_sessions.specs.Places.{here, in_statement}
 use Rattle.dx_sessions.specs.Sequence.{IsSequenceCall}
@@ -35,15 +36,15 @@ returns-in_err-define-in-Macro-clause-does g c = λ x answers files sound.
     let st = state_of c.args.self.now in
     let was = devices (g.L.Library.done c.args.lib.now) (g.F.Files.asked c.args.files.now) (g.O.Sink.written c.args.out.now) (g.X.Exports.puts c.args.exports.now) in
     rw p.1
-    (defining_cut x c.args.self.now.listings was st _ _ (macro_is c.args.s c.in-Macro.m c.in-Macro.is) (ap (λ (d : Dictionary). with_dictionary d st) c.in_err-define-in-Macro.ensures.err) sound)
+    (defining_cut _ x c.args.self.now.listings was st _ _ (macro_is c.args.s c.in-Macro.m c.in-Macro.is) (ap (λ (d : Dictionary). with_dictionary d st) c.in_err-define-in-Macro.ensures.err) sound)
 
 pub returns-in-SetFrame-clause-does : goal.returns-in-SetFrame-clause-does
 returns-in-SetFrame-clause-does g c = λ x answers files sound.
     let old = c.args.self.now in
     let was = devices (g.L.Library.done c.args.lib.now) (g.F.Files.asked c.args.files.now) (g.O.Sink.written c.args.out.now) (g.X.Exports.puts c.args.exports.now) in
     let now = devices (g.L.Library.done c.args.lib.now) (g.F.Files.asked c.args.files.now) (g.O.Sink.written c.set.new.out) (g.X.Exports.puts c.args.exports.now) in
-    subst (λ (s : Stmt). IsCutAt x old.listings (in_statement (coursed x) (state_of old) s) (statement (coursed x) (state_of old) s).shown was c.set.new.self now) (sym (setting_is c.args.s c.in-SetFrame.v c.in-SetFrame.e c.in-SetFrame.is))
-    (set_cut_from x c.in-SetFrame.v (setting (frames_of old.sequencer) (plain_expr c.in-SetFrame.e)) old c.set.new.self was now c.in-Err.fail c.in-Err.ensures.sets sound (record { told = refl; puts = refl }))
+    subst (λ (s : Stmt). IsCutAt (reads_ahead c.from.result) x old.listings (in_statement (coursed x) (state_of old) s) (statement (coursed x) (state_of old) s).shown was c.set.new.self now) (sym (setting_is c.args.s c.in-SetFrame.v c.in-SetFrame.e c.in-SetFrame.is))
+    (set_cut_from (reads_ahead c.from.result) x c.in-SetFrame.v (setting (frames_of old.sequencer) (plain_expr c.in-SetFrame.e)) old c.set.new.self was now c.in-Err.fail c.in-Err.ensures.sets sound (record { told = refl; puts = refl }))
 
 pub returns-in-Word-clause-does : goal.returns-in-Word-clause-does
 returns-in-Word-clause-does g c = λ x answers files sound.

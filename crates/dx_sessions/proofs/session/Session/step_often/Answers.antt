@@ -3,6 +3,7 @@ use Rattle.std.proofs.lemmas.Result.{err_from_is_err_and}
 use Rattle.dx_shown.specs.Made.{coursed}
 use Rattle.dx_shown.specs.Session.{stepped}
 use Rattle.dx_telling.specs.declared.listings.Listings.{Listings}
+use Rattle.dx_making.specs.Ends.{reads_ahead}
 use Rattle.dx_sessions.specs.Does.{IsDone, IsCutAt, devices}
 use Rattle.dx_sessions.specs.Places.{here, moved}
 use Rattle.dx_sessions.specs.SessionView.{state_of}
@@ -19,9 +20,9 @@ returns-in_err-erred-clause-does g c = λ x answers files sound.
     let now = devices (g.L.Library.done c.step.new.lib) (g.F.Files.asked c.step.new.files) (g.O.Sink.written c.step.new.out) (g.X.Exports.puts c.step.new.exports) in
     let before = c.loop.invariant.done x answers files sound in
     let p = err_from_is_err_and c.from_residual.result c.from_residual.ensures.1 in
-    rw p.1
-    (step_cut x c.args.self.now.listings c.loop.counter c.args.steps (state_of c.args.self.now) c.loop.self c.step.new.self was mid now c.loop.erred c.loop-test.true before
-    (subst (λ (l : Listings). IsCutAt x l (here (moved (state_of c.loop.self))) (stepped (coursed x) (state_of c.loop.self)).shown mid c.step.new.self now) c.loop.invariant.listings (c.in_err-erred.ensures.does x answers (c.loop.invariant.same ∙ files) before.sound)))
+    rw (p.1, p.2)
+    (step_cut (reads_ahead c.in_err-erred.field-0.0) x c.args.self.now.listings c.loop.counter c.args.steps (state_of c.args.self.now) c.loop.self c.step.new.self was mid now c.loop.erred c.loop-test.true before
+    (subst (λ (l : Listings). IsCutAt (reads_ahead c.in_err-erred.field-0.0) x l (here (moved (state_of c.loop.self))) (stepped (coursed x) (state_of c.loop.self)).shown mid c.step.new.self now) c.loop.invariant.listings (c.in_err-erred.ensures.does x answers (c.loop.invariant.same ∙ files) before.sound)))
 
 pub returns-in_err-erred-clause-stays : goal.returns-in_err-erred-clause-stays
 returns-in_err-erred-clause-stays g c = stays_on (state_of c.args.self.now) (state_of c.loop.self) (state_of c.step.new.self) c.loop.invariant.stays c.step.ensures.stays
