@@ -20,15 +20,23 @@ use dx_macros::{CheckFail, Dictionary};
 use std::alloc::{AllocError, Global};
 use std::marker::Model;
 
+/// How often a definition may be looked at again, for each definition that there is.
+const MOST_LOOKS: u64 = 16;
+
+/// How many calls a walk may have.
+const MOST_CALLS: u64 = 65_536;
+
 /// A dictionary, which contracts see as that. It keeps beside it of how many definitions it knows that their own calls have no
 /// fault under the macros that there are. An assignment whose own calls have none, over definitions all of which are known, has no
 /// fault itself, as long as all these calls together are no more than a walk may have: so a script of many definitions that each
-/// use the one before isn't walked from the start at each of them.
+/// use the one before isn't walked from the start at each of them. Definitions are looked at before an assignment that is executed,
+/// and no more than the length of the script warrants, since each macro that is defined makes all of them unknown.
 #[derive(Drop)]
 pub struct CheckedDictionary {
     alloc: Global,
     dictionary: Dictionary,
     known: Known,
+    looked: u64,
 }
 
 impl Model for CheckedDictionary {
@@ -55,6 +63,7 @@ impl CheckedDictionary {
             alloc,
             dictionary: Dictionary::new(alloc),
             known: NOTHING,
+            looked: 0,
         }
     }
 
@@ -69,12 +78,32 @@ impl CheckedDictionary {
         self.dictionary.define(m)
     }
 
-    /// Makes room for one more definition, and changes nothing else.
+    /// Makes room for one more definition, and looks at those that aren't known. It changes nothing else.
     pub fn reserve(&mut self) -> Result<(), AllocError>
         ensures same { dictionary_of self.new ≡ dictionary_of self.old }
         ensures room { OnOk result (0 < room_of self.new) }
     {
-        self.dictionary.reserve()
+        self.dictionary.reserve()?;
+        self.know_more();
+        Ok(())
+    }
+
+    // Looks at the definitions that aren't known yet, unless too much was looked at already.
+    fn know_more(&mut self)
+        ensures same { dictionary_of self.new ≡ dictionary_of self.old }
+        ensures room { room_of self.new ≡ room_of self.old }
+    {
+        let definitions = self.dictionary.len();
+        let most = (definitions as u64)
+            .saturating_add(MOST_CALLS)
+            .saturating_mul(MOST_LOOKS);
+        if self.looked < most {
+            let known = more_known(self.alloc, &self.dictionary, self.known);
+            self.looked = self
+                .looked
+                .saturating_add(looks(self.known, known, definitions));
+            self.known = known;
+        }
     }
 
     /// The definition joins behind the others. Where memory runs out the dictionary stays as it was; where there is room it
@@ -85,9 +114,7 @@ impl CheckedDictionary {
         ensures err { OnErr result (dictionary_of self.new ≡ dictionary_of self.old) }
         ensures room { 0 < room_of self.old → IsOk result }
     {
-        self.dictionary.add(s)?;
-        self.known = more_known(self.alloc, &self.dictionary, self.known);
-        Ok(())
+        self.dictionary.add(s)
     }
 
     // Whether this is an assignment over definitions that are known, and none of its own calls has a fault.
@@ -117,4 +144,16 @@ impl CheckedDictionary {
         }
         check_and_expand(alloc, &self.dictionary, s, f)
     }
+}
+
+// How much was looked at: each definition and each of its own calls, and as much as a walk may have where one stays unknown.
+fn looks(before: Known, now: Known, definitions: usize) -> u64 {
+    let seen = now.definitions.saturating_sub(before.definitions) as u64;
+    let calls = now.calls.saturating_sub(before.calls) as u64;
+    let stopped = if now.definitions < definitions {
+        MOST_CALLS
+    } else {
+        0
+    };
+    seen.saturating_add(calls).saturating_add(stopped)
 }
