@@ -61,6 +61,7 @@ fn all_come_so(alloc: Global, rows: &[Row]) -> Result<(), Fail> {
             read: *read,
             write: *write,
             put: *put,
+            slow: false,
         };
         let got = run_line(alloc, &["s.net"], &[("s.net", text), ("i", NATIVE)], fail)?;
         let same = got.printed.as_slice() == printed.as_bytes()
@@ -126,5 +127,41 @@ fn a_workload_asks_for_no_file(rt: HostRuntime) -> Result<(), Fail> {
     assert!(rt; got.printed.as_slice() == b"array plain int rank 0 items 1\n68\n".as_slice());
     let refused = run_line(alloc, &["--workload", "0"], &texts, NONE)?;
     assert!(rt; refused.status == 3);
+    Ok(())
+}
+
+const ALL_DEVICES: &str =
+    "Echo(\"a\"); Export(7, \"o\"); Echo(Import(\"v.dx\")); Export(\"t\", \"p\");";
+
+// Each write takes one byte, so the text is written in four calls; behind the one that fails nothing is written, read or put.
+#[test]
+fn a_slow_output_fails_at_each_call(rt: HostRuntime) -> Result<(), Fail> {
+    let alloc = rt.alloc();
+    let texts = [
+        ("s.net", ALL_DEVICES),
+        ("v.dx", "object 1 class string \"t\""),
+    ];
+    let seven = format!(in alloc; "o:{NATIVE}")?;
+    for (call, printed, asked, puts) in [
+        (1, "", 1, ""),
+        (2, "a", 1, ""),
+        (3, "a\n", 2, seven.as_str()),
+        (4, "a\nt", 2, seven.as_str()),
+    ] {
+        let fail = Failing {
+            write: call,
+            slow: true,
+            ..NONE
+        };
+        let got = run_line(alloc, &["s.net"], &texts, fail)?;
+        let same = got.printed.as_slice() == printed.as_bytes()
+            && got.puts.as_slice() == puts.as_bytes();
+        if got.status != 5 || got.asked != asked || !same {
+            return Err(Fail::from(printed));
+        }
+    }
+    let whole = run_line(alloc, &["s.net"], &texts, Failing { slow: true, ..NONE })?;
+    assert!(rt; whole.status == 0 && whole.asked == 2);
+    assert!(rt; whole.printed.as_slice() == b"a\nt\n".as_slice());
     Ok(())
 }

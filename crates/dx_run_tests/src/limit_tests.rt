@@ -57,3 +57,26 @@ fn contents_of_files_count_as_terms(rt: HostRuntime) -> Result<(), Fail> {
     assert!(rt; got.printed.as_slice() == all.as_bytes());
     Ok(())
 }
+
+// A chain of so many calls, and a Print of the last.
+fn chain(alloc: Global, count: u32) -> Result<String, Fail> {
+    let mut all = String::from_str(alloc, "x0 = 0;")?;
+    for k in 0..count {
+        let next = k + 1;
+        all.push_str(&format!(in alloc; "x{next} = Compute(\"$0 + 1\", x{k});")?)?;
+    }
+    all.push_str(&format!(in alloc; "Print(x{count}, \"d\");")?)?;
+    Ok(all)
+}
+
+#[test]
+fn a_chain_of_2000_calls_with_and_without_a_cache(rt: HostRuntime) -> Result<(), Fail> {
+    let alloc = rt.alloc();
+    let text = chain(alloc, 2000)?;
+    for line in [["s.net"].as_slice(), ["--memory", "0", "s.net"].as_slice()] {
+        let got = run_line(alloc, line, &[("s.net", &*text)], NONE)?;
+        assert!(rt; got.status == 0);
+        assert!(rt; got.printed.as_slice() == b"array plain int rank 0 items 1\n2000\n".as_slice());
+    }
+    Ok(())
+}

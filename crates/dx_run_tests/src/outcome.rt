@@ -6,18 +6,20 @@ use dx_session::run_dxi;
 use std::alloc::{AllocError, Global};
 use std::test::Fail;
 
-// The number of the read, of the write and of the put that fail; 0 for none.
+// The number of the read, of the write and of the put that fail, 0 for none; and whether a write takes one byte alone.
 #[derive(Clone, Copy)]
 pub struct Failing {
     pub read: u64,
     pub write: u64,
     pub put: u64,
+    pub slow: bool,
 }
 
 pub const NONE: Failing = Failing {
     read: 0,
     write: 0,
     put: 0,
+    slow: false,
 };
 
 // What comes of a line: the status, what is printed, how many names are asked for, and the files that are put, in order.
@@ -66,7 +68,8 @@ fn listed(alloc: Global, exports: &MemExports) -> Result<Vec<u8>, AllocError> {
 // A folder to put into and a sink, of which these calls fail.
 pub fn devices(alloc: Global, fail: Failing) -> Result<(MemExports, MemSink), AllocError> {
     let exports = MemExports::new(alloc, numbers(alloc, fail.put)?);
-    let out = MemSink::new(alloc, numbers(alloc, fail.write)?);
+    let limit = if fail.slow { 1 } else { u64::MAX };
+    let out = MemSink::slow(alloc, limit, numbers(alloc, fail.write)?);
     Ok((exports, out))
 }
 
@@ -113,6 +116,7 @@ pub fn outcome(
             read,
             write,
             put: 0,
+            slow: false,
         },
     )?;
     let Seen {
