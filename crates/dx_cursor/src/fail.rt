@@ -1,3 +1,4 @@
+// Why a text gives no statements.
 use dx_base::SyntaxError;
 use dx_lexer::LexFail;
 use std::alloc::{AllocError, AllocFailed};

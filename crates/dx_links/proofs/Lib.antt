@@ -2,5 +2,4 @@ pub mod HeldHere
 pub mod LinkLaws
 pub mod MapLaws
 pub mod Reading
-pub mod Reordering
 pub mod SlotLaws

@@ -1,3 +1,4 @@
+// Why a run gives nothing.
 use dx_base::Code;
 use std::alloc::AllocError;
 use thiserror::Error;

@@ -1,3 +1,4 @@
+// The sequencer: its variables and switches, and the steps of a play.
 ghost use Rattle.std.specs.Prelude.{◌≡◌, ◌<◌, ◌≤◌, ◌-◌, ◌*◌, ◌^◌, ◌+ℤ◌, ◌≤ℤ◌, ℕ, pos, negsuc, IsTrue, true, false, not, ◌||◌, int_lt, IfSome, IfNone, if◌then◌else◌};
 ghost use Rattle.dx_sequencer.specs.Sequencer as spec;
 ghost use Rattle.dx_sequencer.specs.Sequencer.{IsPlay};
