@@ -15,5 +15,6 @@ mod runs;
 mod source;
 
 pub use dx_base::Code;
+pub use dx_compute_meaning::expression_law;
 pub use dx_objects::{Outs, RunFail};
 pub use run::run_compute;

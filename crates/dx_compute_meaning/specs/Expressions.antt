@@ -14,7 +14,7 @@ abbrev pub read : Outcome Expression → Result Expression ℕ
 read (Ok found) = Ok found.0
 read (Err refused) = Err refused.0
 
--- The expression that a text is, or the offset of its first error; a law of this crate says so in the words of the grammar.
+-- The expression that a text is, or the offset of its first error: `expression_law` says so in the words of the grammar.
 unfoldable pub parsed : List ℕ → Result Expression ℕ
 parsed text = read (expression (tokens_of text))
 
