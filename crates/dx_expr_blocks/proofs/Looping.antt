@@ -1,5 +1,5 @@
 -- The loop over a block's values, at each kind of step.
-use Rattle.std.proofs.Common.{◌≡◌, ℕ, zero, suc, ◌+◌, ℤ, pos, List, [], ◌∷◌, ◌++◌, length, take, drop, get_or, ◌<◌, refl, sym, ap, ◌∙◌, add-one, arith, Option, false, drop-cons, append-nil, append_assoc}
+use Rattle.std.proofs.Common.{◌≡◌, ℕ, zero, suc, ◌+◌, ℤ, pos, List, [], ◌∷◌, ◌++◌, length, take, drop, replicate, get_or, ◌<◌, refl, sym, ap, ◌∙◌, add-one, arith, Option, false, drop-cons, append-nil, append_assoc}
 use Rattle.std.proofs.lemmas.Grind.{common_steps}
 use Rattle.std.specs.Prelude.{slice_index_or, slice_index, slice_set, map, Ok, if◌then◌else◌}
 use Rattle.dx_expr.specs.declared.fault.ItemFault.{ItemFault}
@@ -45,6 +45,14 @@ steps_each_from u (v ∷ vs) k = ap (λ l. u v ∷ l) (steps_each_from u vs (k +
 
 pub steps_each : (u : ℤ → Outcome ℤ) (vs : List ℤ) → steps (λ place v. u v) 0 vs ≡ map u vs
 steps_each u vs = steps_each_from u vs 0
+
+-- a step that looks at the value and at one that is the same everywhere
+steps_same_from : (h : ℤ → ℤ → Outcome ℤ) (v : ℤ) (left : List ℤ) (k : ℕ) → steps (λ place x. h x v) k left ≡ beside h left (replicate (length left) v)
+steps_same_from h v [] k = refl
+steps_same_from h v (x ∷ left) k = ap (λ l. h x v ∷ l) (steps_same_from h v left (k + 1))
+
+pub steps_same : (h : ℤ → ℤ → Outcome ℤ) (v : ℤ) (left : List ℤ) → steps (λ place x. h x v) 0 left ≡ beside h left (replicate (length left) v)
+steps_same h v left = steps_same_from h v left 0
 
 -- ---- where the values of a side end
 

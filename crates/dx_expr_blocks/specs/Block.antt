@@ -1,5 +1,5 @@
 -- What a block of items gives: the values of its items up to the first one that has a fault, and that fault.
-use Rattle.std.specs.Prelude.{◌≡◌, ℕ, ◌+◌, Bool, true, false, not, List, [], ◌∷◌, ◌++◌, length, map, take, Option, Some, None, Ok, Err, if◌then◌else◌, ℤ, pos}
+use Rattle.std.specs.Prelude.{ℕ, ◌+◌, Bool, true, false, not, List, [], ◌∷◌, ◌++◌, map, Option, Some, None, Ok, Err, if◌then◌else◌, ℤ}
 use Rattle.dx_expr_grammar.specs.declared.tree.Expression.{Expression}
 use Rattle.dx_expr.specs.declared.fault.ItemFault.{ItemFault}
 use Rattle.dx_expr.specs.Value.{Inputs, Outcome, Values, value_of, is_zero, truth, the_value, ◌>>=◌}

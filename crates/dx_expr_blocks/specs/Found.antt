@@ -1,6 +1,5 @@
 -- What the code answers for a block.
-use Rattle.std.specs.Prelude.{◌≡◌, ℕ, List, ℤ, take, Option}
-use Rattle.dx_expr.specs.declared.fault.ItemFault.{ItemFault}
+use Rattle.std.specs.Prelude.{◌≡◌, List, ℤ, take}
 use Rattle.dx_expr_blocks.specs.declared.found.Found.{Found}
 use Rattle.dx_expr_blocks.specs.declared.found.Stop.{Stop}
 use Rattle.dx_expr_blocks.specs.Block.{Run, run_of}

@@ -7,9 +7,9 @@ ghost use Rattle.dx_expr_blocks.specs.Block.{block_of};
 ghost use Rattle.dx_expr_blocks.specs.Found.{IsFound};
 ghost use Rattle.dx_expr_blocks.specs.Items.{items_of, all_below};
 
-use crate::binary::on_both;
+use crate::binary::{on_both, on_one_value};
 use crate::block::{Block, count, first, item_at};
-use crate::load::{constant, input_run};
+use crate::load::{constant, input_run, same_value};
 use crate::parts::part_run;
 use crate::sides::{chosen, picks};
 use crate::unary::{decisions, on_each};
@@ -123,6 +123,9 @@ pub fn evaluate<I: Columns>(
             Binary::Dot => one_by_one(alloc, spare, e, inputs, block),
             other => {
                 let left = evaluate(alloc, spare, a.get(), inputs, block)?;
+                if let Some(value) = same_value(b.get(), inputs) {
+                    return Ok(on_one_value(other, left, value));
+                }
                 let reached = first(block, left.values.len());
                 let right = evaluate(alloc, spare, b.get(), inputs, reached)?;
                 on_both(spare, other, left, right)

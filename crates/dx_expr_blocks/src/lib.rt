@@ -11,13 +11,14 @@ mod ints;
 mod load;
 mod operators;
 mod parts;
+mod side;
 mod sides;
 mod spare;
 mod steps;
 mod sure;
 mod unary;
 
-pub use binary::{on_both, operate};
+pub use binary::{on_both, on_one_value};
 pub use block::{Block, count, first, item_at};
 pub use dx_expr::{Binary, EvalFail, Expression, ItemFault, Unary};
 pub use eval::{evaluate, evaluate_range};

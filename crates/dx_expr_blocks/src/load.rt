@@ -1,8 +1,9 @@
 //! Operands without parts: numbers and inputs.
 
-ghost use Rattle.std.specs.Prelude.{◌≡◌, ◌<◌, IfOk, [], length, map, replicate, pos, slice_index_or};
+ghost use Rattle.std.specs.Prelude.{◌≡◌, ◌<◌, ℕ, List, IfOk, IfSome, None, Some, [], length, map, replicate, pos, slice_index_or};
+ghost use Rattle.dx_expr.specs.Shape as shapes;
 ghost use Rattle.dx_expr.specs.Value as spec;
-ghost use Rattle.dx_expr_blocks.specs.Block.{up_to};
+ghost use Rattle.dx_expr_blocks.specs.Block.{block_of, run_of, up_to};
 ghost use Rattle.dx_expr_blocks.specs.Found.{IsFound};
 ghost use Rattle.dx_expr_blocks.specs.Items.{items_of, all_below};
 
@@ -10,7 +11,7 @@ use crate::block::{Block, count, item_at};
 use crate::ints::loaded_ints;
 use crate::operators::checked;
 use crate::{Columns, Found, Source, Spare, Step, filled};
-use dx_expr::{Inputs, ItemFault};
+use dx_expr::{Expression, Inputs, ItemFault};
 use std::alloc::{AllocError, Global};
 
 /// The values of an array at the items of a block.
@@ -77,6 +78,21 @@ pub fn constant(
             values: spare.values(alloc, 0, 0)?,
             fault: if count == 0 { None } else { Some(fault) },
         }),
+    }
+}
+
+/// The value that an expression has at every item, where its form tells it.
+pub(crate) fn same_value<I: Columns>(e: &Expression, inputs: &I) -> Option<i32>
+    requires { shapes.shape_of (I.given inputs.now).shape e.now ≡ Some [] }
+    ensures { IfSome result (λ v. (items : List ℕ) → all_below (I.items inputs.now) items → block_of (I.given inputs.now) e.now items ≡ run_of (replicate (length items) v) None) }
+{
+    match e {
+        Expression::Number(n) => checked(i64::from(*n)).ok(),
+        Expression::Input(k) => match inputs.source(*k) {
+            Source::Same(v) => checked(v).ok(),
+            _ => None,
+        },
+        _ => None,
     }
 }
 

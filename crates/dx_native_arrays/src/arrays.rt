@@ -2,6 +2,7 @@
 
 ghost use Rattle.std.specs.Prelude.{◌≡◌, ◌<◌, ◌≤◌, [], length, IfOk};
 ghost use Rattle.dx_base.specs.Array.{plain, constant, regular};
+ghost use Rattle.dx_base.specs.declared.elem.ElemType.TheVariants.{Int};
 ghost use Rattle.dx_native_lex.specs.Token.{Reads};
 ghost use Rattle.dx_native_grammar.specs.Grammar as spec;
 ghost use Rattle.dx_native_grammar.specs.Words as words;
@@ -10,7 +11,7 @@ ghost use Rattle.dx_native_arrays.specs.Made.{MadeAt};
 use dx_arrays::{Array, ArrayError, has_room, point_count};
 use dx_base::{ElemType, Items, NativeKind};
 use dx_native_grammar::{Body, Content, Head};
-use dx_native_head::{head, natural, numbers, values};
+use dx_native_head::{head, int_values, natural, numbers, values};
 use dx_native_lex::{Cursor, Kind, Lexeme, NativeError, NativeFail, is_float, number_of};
 use dx_native_listing::attributes;
 use std::alloc::Global;
@@ -31,6 +32,18 @@ fn plain_of(at: u64, head: Head, values: Items<i64>) -> Result<Array, NativeErro
     ensures { MadeAt at (words.array_of head (plain values)) result }
 {
     match Array::plain(head.elem, head.extents, values.into_vec()) {
+        Ok(array) => Ok(array),
+        Err(e) => Err(array_error(at, e)),
+    }
+}
+
+/// The same of ints, which are kept in 4 bytes each.
+#[tactic(auto, unfolding(dx_native_grammar::specs::Words::array_fault))]
+fn ints_of(at: u64, head: Head, values: Items<i32>) -> Result<Array, NativeError>
+    requires { head.elem ≡ Int }
+    ensures { MadeAt at (words.array_of head (plain values)) result }
+{
+    match Array::ints(head.extents, values.into_vec()) {
         Ok(array) => Ok(array),
         Err(e) => Err(array_error(at, e)),
     }
@@ -98,8 +111,18 @@ fn plain_array(alloc: Global, cursor: &mut Cursor<'_>, at: u64) -> Result<Array,
 {
     cursor.key(b"array")?;
     let (head, width) = head(alloc, cursor)?;
-    let values = values(alloc, cursor, head.elem, head.items * width)?;
-    match plain_of(at, head, values) {
+    let count = head.items * width;
+    let made = match head.elem {
+        ElemType::Int => {
+            let values = int_values(alloc, cursor, count)?;
+            ints_of(at, head, values)
+        }
+        t => {
+            let values = values(alloc, cursor, t, count)?;
+            plain_of(at, head, values)
+        }
+    };
+    match made {
         Ok(array) => Ok(array),
         Err(e) => Err(NativeFail::Refused(e)),
     }

@@ -1,2 +1,3 @@
 pub mod Decode
-pub mod ManyLaws
+pub mod IntLaws
+mod ManyLaws

@@ -2,12 +2,15 @@
 
 ghost use Rattle.std.specs.Prelude.{◌≡◌, ◌*◌, ◌<◌, ◌≤◌, [], length, IfOk};
 ghost use Rattle.dx_base.specs.Elem.{byte_count};
+ghost use Rattle.dx_base.specs.declared.elem.ElemType.TheVariants.{Int};
 ghost use Rattle.dx_native_lex.specs.Token.{Reads};
 ghost use Rattle.dx_native_grammar.specs.Grammar as spec;
 ghost use Rattle.dx_native_grammar.specs.Words as words;
+ghost use Rattle.dx_native_head.specs.Many.{IsInt};
 
 use crate::array_head::is_word;
 use crate::bounds::refused;
+use crate::ints::int_numbers;
 use crate::many::numbers;
 use dx_arrays::ElemType;
 use dx_base::{Items, NativeKind};
@@ -117,7 +120,8 @@ fn joined(t: ElemType, msb: bool, bytes: &[u8]) -> u64
 
 fn complement(t: ElemType, n: u64) -> i64
     requires { n < 4294967296 }
-    ensures { result ≡ words.complement t n }
+    ensures value { result ≡ words.complement t n }
+    ensures int { t ≡ Int → IsInt result }
 {
     let n_signed = n as i64;
     match t {
@@ -171,6 +175,28 @@ fn decoded(
     Ok(found)
 }
 
+/// The int that four bytes stand for.
+fn int_of(msb: bool, bytes: &[u8]) -> i32
+    requires { length bytes.now ≡ 4 }
+    ensures { result ≡ words.complement Int (words.joined Int msb bytes.now) }
+{
+    complement(ElemType::Int, four_bytes(msb, bytes)) as i32
+}
+
+fn decoded_ints(alloc: Global, msb: bool, n: usize, bytes: &[u8]) -> Result<Items<i32>, AllocError>
+    requires { length bytes.now ≡ n * byte_count Int }
+    ensures { IfOk result (λ vs. vs ≡ words.decoded Int msb n bytes.now) }
+{
+    let mut found = Items::from_vec(Vec::with_capacity(alloc, n)?);
+    let mut rest = bytes;
+    for _i in 0..n {
+        let (one, more) = rest.split_at(4);
+        found.push(int_of(msb, one))?;
+        rest = more;
+    }
+    Ok(found)
+}
+
 #[tactic(auto, unfolding(dx_native_grammar::specs::Grammar::raw_values))]
 fn raw_values(
     alloc: Global,
@@ -186,13 +212,24 @@ fn raw_values(
     Ok(decoded(alloc, t, msb, n, bytes)?)
 }
 
-/// No values yet, with room for so many, as far as the bytes that are left may hold them: a value has a byte at least, and
-/// one between it and the next.
-fn room_for(alloc: Global, cursor: &Cursor<'_>, n: usize) -> Result<Items<i64>, AllocError>
-    ensures { IfOk result (λ found. found ≡ []) }
+#[tactic(auto, unfolding(dx_native_grammar::specs::Grammar::raw_values))]
+fn raw_ints(
+    alloc: Global,
+    cursor: &mut Cursor<'_>,
+    msb: bool,
+    n: usize,
+) -> Result<Items<i32>, NativeFail>
+    requires { n ≤ 134217728 }
+    ensures { Reads ((spec.raw_values Int msb n).read cursor.old) result cursor.new }
 {
-    let room = n.min(cursor.left() / 2 + 1);
-    Ok(Items::from_vec(Vec::with_capacity(alloc, room)?))
+    let bytes = cursor.raw(n * 4)?;
+    Ok(decoded_ints(alloc, msb, n, bytes)?)
+}
+
+/// For how many of so many values there is to be room, as far as the bytes that are left may hold them: a value has a byte at
+/// least, and one between it and the next.
+fn room_for(cursor: &Cursor<'_>, n: usize) -> usize {
+    n.min(cursor.left() / 2 + 1)
 }
 
 fn data_values(
@@ -209,8 +246,26 @@ fn data_values(
     if binary {
         raw_values(alloc, cursor, t, msb, n)
     } else {
-        let found = room_for(alloc, cursor, n)?;
+        let found = Items::from_vec(Vec::with_capacity(alloc, room_for(cursor, n))?);
         numbers(cursor, t, n, found)
+    }
+}
+
+fn data_ints(
+    alloc: Global,
+    cursor: &mut Cursor<'_>,
+    binary: bool,
+    msb: bool,
+    n: usize,
+) -> Result<Items<i32>, NativeFail>
+    requires { n ≤ 134217728 }
+    ensures { Reads ((spec.data_values binary Int msb n).read cursor.old) result cursor.new }
+{
+    if binary {
+        raw_ints(alloc, cursor, msb, n)
+    } else {
+        let found = Items::from_vec(Vec::with_capacity(alloc, room_for(cursor, n))?);
+        int_numbers(alloc, cursor, n, found)
     }
 }
 
@@ -229,4 +284,16 @@ pub fn values(
     let binary = form(cursor)?;
     data_follows(cursor)?;
     data_values(alloc, cursor, binary, t, msb, n as usize)
+}
+
+/// The mode and so many ints, which are kept in 4 bytes each.
+#[tactic(auto, unfolding(dx_native_grammar::specs::Grammar::values))]
+pub fn int_values(alloc: Global, cursor: &mut Cursor<'_>, n: u64) -> Result<Items<i32>, NativeFail>
+    requires { n ≤ 134217728 }
+    ensures { Reads ((spec.values Int n).read cursor.old) result cursor.new }
+{
+    let msb = order(cursor)?;
+    let binary = form(cursor)?;
+    data_follows(cursor)?;
+    data_ints(alloc, cursor, binary, msb, n as usize)
 }

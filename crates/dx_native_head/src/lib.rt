@@ -5,10 +5,11 @@
 mod array_head;
 mod bounds;
 mod data;
+mod ints;
 mod many;
 mod plain;
 
 pub use array_head::head;
 pub use bounds::{int, natural, refused};
-pub use data::values;
+pub use data::{int_values, values};
 pub use many::numbers;

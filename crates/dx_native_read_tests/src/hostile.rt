@@ -155,6 +155,36 @@ fn long_numbers(rt: HostRuntime) -> Result<(), Fail> {
     Ok(())
 }
 
+// An array of so many ints, one a line, of which this is the last.
+fn ints(alloc: Global, count: u64, last: &'static str) -> Result<Vec<u8>, Fail> {
+    let mut text = Vec::from_slice(alloc, b"object 1 class array type int rank 0 items ")?;
+    push_count(&mut text, count)?;
+    text.extend_from_slice(b" data follows\n")?;
+    for k in 1..count {
+        text.push(b'-')?;
+        push_count(&mut text, k)?;
+        text.push(b'\n')?;
+    }
+    text.extend_from_slice(last.as_bytes())?;
+    Ok(text)
+}
+
+// They are read 1,024 at a time.
+#[test]
+fn many_ints(rt: HostRuntime) -> Result<(), Fail> {
+    let alloc = rt.alloc();
+    for count in [1, 1023, 1024, 1025, 2048, 3000] {
+        let text = ints(alloc, count, "2147483647\nend\n")?;
+        assert!(rt; means(alloc, &text, &text)?);
+        let wide = ints(alloc, count, "2147483648\n")?;
+        let at = wide.len().saturating_sub(11);
+        assert!(rt; is_refused(alloc, &wide, None, error(NativeKind::ValueRange, at))?);
+        let few = ints(alloc, count, "")?;
+        assert!(rt; is_refused(alloc, &few, None, error(NativeKind::Truncated, few.len()))?);
+    }
+    Ok(())
+}
+
 #[test]
 fn many_objects_and_members(rt: HostRuntime) -> Result<(), Fail> {
     let alloc = rt.alloc();

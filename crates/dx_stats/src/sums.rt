@@ -29,6 +29,14 @@ pub(crate) fn square(value: i64) -> i128
     value as i128 * value as i128
 }
 
+/// The square of an int, which 64 bits hold.
+fn square_of_int(value: i32) -> i128
+    ensures { result ≡ value *ℤ value }
+{
+    let wide = i64::from(value);
+    (wide * wide) as u64 as i128
+}
+
 impl Sums {
     /// The sums of no numbers.
     fn none() -> Sums
@@ -48,9 +56,10 @@ impl Sums {
         }
     }
 
-    // The sums with one number more.
+    // The sums with one number more, whose square this is.
     #[inline]
-    fn and(self, value: i64) -> Sums
+    fn and(self, value: i64, square: i128) -> Sums
+        requires square { square ≡ value *ℤ value }
         requires few { self.count < most_numbers }
         requires small { IsSmall value }
         requires held { AreHeld self }
@@ -60,7 +69,7 @@ impl Sums {
         Sums {
             count: self.count + 1,
             total: self.total + value,
-            squares: self.squares + square(value),
+            squares: self.squares + square,
             least: self.least.min(value),
             greatest: self.greatest.max(value),
         }
@@ -77,7 +86,7 @@ impl Sums {
     {
         let mut sums = self;
         for value in values {
-            sums = sums.and(*value);
+            sums = sums.and(*value, square(*value));
         }
         sums
     }
@@ -93,7 +102,7 @@ impl Sums {
     {
         let mut sums = self;
         for value in values {
-            sums = sums.and(i64::from(*value));
+            sums = sums.and(i64::from(*value), square_of_int(*value));
         }
         sums
     }

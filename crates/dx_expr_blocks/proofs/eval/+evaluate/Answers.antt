@@ -1,16 +1,16 @@
-use Rattle.std.proofs.Common.{◌≡◌, ℕ, ◌-◌, ◌≤◌, pos, [], ◌∷◌, true, false, length, take, replicate, refl, rules, arith, sym, ap, subst, ◌∙◌}
+use Rattle.std.proofs.Common.{◌≡◌, true, false, None, length, take, replicate, refl, rules, arith, sym, ap, subst, ◌∙◌}
 use mir.Val.{SFits}
-use Rattle.std.proofs.Common.{w64, to_z-of_z}
-use Rattle.std.specs.Prelude.{IfOk, map}
-use Rattle.dx_expr_grammar.specs.declared.tree.Binary.TheVariants as binary
+use Rattle.std.proofs.Common.{w32, w64, to_z-of_z}
+use Rattle.std.specs.Prelude.{IfOk}
 use Rattle.dx_expr.specs.declared.operators.Sides.TheVariants as sides
 use Rattle.dx_expr.specs.Value.{sides_of, checked, binary_value}
 use Rattle.dx_expr.proofs.Fitting as fitting
 use Rattle.dx_expr.proofs.Nodes as nodes
-use Rattle.dx_expr_blocks.specs.Block.{Run, block_of, picked, passes, up_to, both}
+use Rattle.dx_expr_blocks.specs.Block.{run_of, picked, passes, up_to, both}
 use Rattle.dx_expr_blocks.specs.Found.{IsFound, run_found}
 use Rattle.dx_expr_blocks.specs.Items.{items_of, all_below}
 use Rattle.dx_expr_blocks.proofs.Evaluation as evaluation
+use Rattle.dx_expr_blocks.proofs.Same as same
 use Rattle.dx_expr_blocks.proofs.eval.+evaluate.Goals as goal
 
 pub input_run-requires-clause-single : goal.input_run-requires-clause-single
@@ -61,9 +61,13 @@ pub first-reached-requires : goal.first-reached-requires
 first-reached-requires g t c =
     let n : c.len-in_default.result ≡ length c.in_ok-left-in_default.left.values.items = omega (arith, c.len-in_default.ensures, c.in_ok-left-in_default.left.values.ok.0) in omega (arith, n, evaluation.reached_le (g.I.Inputs.given c.args.inputs.now) c.get-in_default.result.now (items_of c.args.block) (run_found c.in_ok-left-in_default.left) c.in_ok-left-in_default.left.values.items c.in_ok-left-in_default.ensures refl)
 
+pub same_value-requires : goal.same_value-requires
+same_value-requires g t c =
+    fitting.fit_right (g.I.Inputs.given c.args.inputs.now).shape c.args.e.now sides.Both c.in-Binary.operator c.in-Binary.a c.in-Binary.b c.get-in_default-2.result.now c.in-Binary.is (sym (evaluation.both_of c.in-Binary.operator c.in_default.not-Or c.in_default.not-And c.in_default.not-Dot)) refl c.get-in_default-2.ensures c.requires.single
+
 pub evaluate-requires-in_default-2 : goal.evaluate-requires-in_default-2
 evaluate-requires-in_default-2 g t c κs within =
-    (omega (arith, c.decreases, nodes.in_right c.args.e.now c.in-Binary.operator c.in-Binary.a c.in-Binary.b c.get-in_default-2.result.now c.in-Binary.is c.get-in_default-2.ensures), (search rules, ((fitting.fit_right (g.I.Inputs.given c.args.inputs.now).shape c.args.e.now sides.Both c.in-Binary.operator c.in-Binary.a c.in-Binary.b c.get-in_default-2.result.now c.in-Binary.is (sym (evaluation.both_of c.in-Binary.operator c.in_default.not-Or c.in_default.not-And c.in_default.not-Dot)) refl c.get-in_default-2.ensures c.requires.single), evaluation.first_below (g.I.Inputs.items c.args.inputs.now) c.len-in_default.result (items_of c.args.block) (items_of c.first-reached.result) c.requires.within c.first-reached.ensures)))
+    (omega (arith, c.decreases, nodes.in_right c.args.e.now c.in-Binary.operator c.in-Binary.a c.in-Binary.b c.get-in_default-3.result.now c.in-Binary.is c.get-in_default-3.ensures), (search rules, ((fitting.fit_right (g.I.Inputs.given c.args.inputs.now).shape c.args.e.now sides.Both c.in-Binary.operator c.in-Binary.a c.in-Binary.b c.get-in_default-3.result.now c.in-Binary.is (sym (evaluation.both_of c.in-Binary.operator c.in_default.not-Or c.in_default.not-And c.in_default.not-Dot)) refl c.get-in_default-3.ensures c.requires.single), evaluation.first_below (g.I.Inputs.items c.args.inputs.now) c.len-in_default.result (items_of c.args.block) (items_of c.first-reached.result) c.requires.within c.first-reached.ensures)))
 
 pub evaluate-requires-in-Choice : goal.evaluate-requires-in-Choice
 evaluate-requires-in-Choice g t c κs within =
@@ -102,10 +106,24 @@ pub returns-in_ok-found-in-Unary : goal.returns-in_ok-found-in-Unary
 returns-in_ok-found-in-Unary g t c =
     sym (evaluation.at_unary (g.I.Inputs.given c.args.inputs.now) c.args.e.now (items_of c.args.block) c.in-Unary.operator c.in-Unary.a c.get.result.now (run_found c.in_ok-found-in-Unary.found) c.in-Unary.is c.get.ensures (fitting.fit_unary (g.I.Inputs.given c.args.inputs.now).shape c.args.e.now c.in-Unary.operator c.in-Unary.a c.get.result.now c.in-Unary.is c.get.ensures c.requires.single) c.in_ok-found-in-Unary.ensures) ∙ c.on_each.ensures
 
+pub returns-in-Some : goal.returns-in-Some
+returns-in-Some g t c =
+    let inputs = g.I.Inputs.given c.args.inputs.now in
+    let items = items_of c.args.block in
+    let left = run_found c.in_ok-left-in_default.left in
+    let reached = take (length left.values) items in
+    let fits : SFits w32 c.in-Some.value = search rules in
+    let both_sides = evaluation.both_of c.in-Binary.operator c.in_default.not-Or c.in_default.not-And c.in_default.not-Dot in
+    let below : all_below (g.I.Inputs.items c.args.inputs.now) reached = evaluation.first_below (g.I.Inputs.items c.args.inputs.now) (length left.values) items reached c.requires.within refl in
+    let beside = same.beside_left inputs c.get-in_default.result.now c.get-in_default-2.result.now items left c.in-Some.value c.in_ok-left-in_default.ensures (c.in-Some.ensures reached below) in
+    sym (evaluation.at_both inputs c.args.e.now items c.in-Binary.operator c.in-Binary.a c.in-Binary.b c.get-in_default.result.now c.get-in_default-2.result.now left (run_of (replicate (length left.values) c.in-Some.value) None) reached c.in-Binary.is both_sides c.get-in_default.ensures c.get-in_default-2.ensures (fitting.fit_left inputs.shape c.args.e.now sides.Both c.in-Binary.operator c.in-Binary.a c.in-Binary.b c.get-in_default.result.now c.in-Binary.is (sym both_sides) refl c.get-in_default.ensures c.requires.single) (fitting.fit_right inputs.shape c.args.e.now sides.Both c.in-Binary.operator c.in-Binary.a c.in-Binary.b c.get-in_default-2.result.now c.in-Binary.is (sym both_sides) refl c.get-in_default-2.ensures c.requires.single) c.in_ok-left-in_default.ensures refl beside)
+    ∙ ap (λ v. both (binary_value c.in-Binary.operator) left (run_of (replicate (length left.values) v) None)) (sym (to_z-of_z fits))
+    ∙ c.on_one_value.ensures
+
 pub returns-in_ok-right-in_default : goal.returns-in_ok-right-in_default
 returns-in_ok-right-in_default g t c =
     let n : c.len-in_default.result ≡ length c.in_ok-left-in_default.left.values.items = omega (arith, c.len-in_default.ensures, c.in_ok-left-in_default.left.values.ok.0) in
-    subst (λ run. IfOk c.on_both.result (λ found. IsFound run found)) (evaluation.at_both (g.I.Inputs.given c.args.inputs.now) c.args.e.now (items_of c.args.block) c.in-Binary.operator c.in-Binary.a c.in-Binary.b c.get-in_default.result.now c.get-in_default-2.result.now (run_found c.in_ok-left-in_default.left) (run_found c.in_ok-right-in_default.right) (items_of c.first-reached.result) c.in-Binary.is (evaluation.both_of c.in-Binary.operator c.in_default.not-Or c.in_default.not-And c.in_default.not-Dot) c.get-in_default.ensures c.get-in_default-2.ensures (fitting.fit_left (g.I.Inputs.given c.args.inputs.now).shape c.args.e.now sides.Both c.in-Binary.operator c.in-Binary.a c.in-Binary.b c.get-in_default.result.now c.in-Binary.is (sym (evaluation.both_of c.in-Binary.operator c.in_default.not-Or c.in_default.not-And c.in_default.not-Dot)) refl c.get-in_default.ensures c.requires.single) (fitting.fit_right (g.I.Inputs.given c.args.inputs.now).shape c.args.e.now sides.Both c.in-Binary.operator c.in-Binary.a c.in-Binary.b c.get-in_default-2.result.now c.in-Binary.is (sym (evaluation.both_of c.in-Binary.operator c.in_default.not-Or c.in_default.not-And c.in_default.not-Dot)) refl c.get-in_default-2.ensures c.requires.single) c.in_ok-left-in_default.ensures (c.first-reached.ensures ∙ ap (λ n. take n (items_of c.args.block)) n) c.in_ok-right-in_default.ensures) c.on_both.ensures
+    subst (λ run. IfOk c.on_both.result (λ found. IsFound run found)) (evaluation.at_both (g.I.Inputs.given c.args.inputs.now) c.args.e.now (items_of c.args.block) c.in-Binary.operator c.in-Binary.a c.in-Binary.b c.get-in_default.result.now c.get-in_default-3.result.now (run_found c.in_ok-left-in_default.left) (run_found c.in_ok-right-in_default.right) (items_of c.first-reached.result) c.in-Binary.is (evaluation.both_of c.in-Binary.operator c.in_default.not-Or c.in_default.not-And c.in_default.not-Dot) c.get-in_default.ensures c.get-in_default-3.ensures (fitting.fit_left (g.I.Inputs.given c.args.inputs.now).shape c.args.e.now sides.Both c.in-Binary.operator c.in-Binary.a c.in-Binary.b c.get-in_default.result.now c.in-Binary.is (sym (evaluation.both_of c.in-Binary.operator c.in_default.not-Or c.in_default.not-And c.in_default.not-Dot)) refl c.get-in_default.ensures c.requires.single) (fitting.fit_right (g.I.Inputs.given c.args.inputs.now).shape c.args.e.now sides.Both c.in-Binary.operator c.in-Binary.a c.in-Binary.b c.get-in_default-3.result.now c.in-Binary.is (sym (evaluation.both_of c.in-Binary.operator c.in_default.not-Or c.in_default.not-And c.in_default.not-Dot)) refl c.get-in_default-3.ensures c.requires.single) c.in_ok-left-in_default.ensures (c.first-reached.ensures ∙ ap (λ n. take n (items_of c.args.block)) n) c.in_ok-right-in_default.ensures) c.on_both.ensures
 
 pub returns-in_ok-keep_items-in-Choice-2 : goal.returns-in_ok-keep_items-in-Choice-2
 returns-in_ok-keep_items-in-Choice-2 g t c =

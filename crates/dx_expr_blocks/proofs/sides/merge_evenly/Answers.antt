@@ -1,4 +1,4 @@
-use Rattle.std.proofs.Common.{◌≡◌, ℕ, ℤ, pos, List, [], drop, get_or, length, false, arith, rules, sym, ap, ◌∙◌}
+use Rattle.std.proofs.Common.{◌≡◌, pos, [], drop, get_or, false, arith, sym, ap, ◌∙◌}
 use Rattle.std.proofs.lemmas.Grind.{common_steps}
 use Rattle.dx_expr.specs.Value.{is_zero}
 use Rattle.dx_expr_blocks.specs.Block.{merged}

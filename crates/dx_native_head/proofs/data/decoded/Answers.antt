@@ -18,7 +18,7 @@ loop-i-preserved c =
     let back = c.split_at.ensures.back in
     let front = c.split_at.ensures.front in
     record {
-      same = next_item c.args.t c.args.msb c.args.n c.loop-i._i c.loop-i.found (words.decoded c.args.t c.args.msb c.args.n c.args.bytes.now) c.push.new.self c.loop-i.rest.now c.split_at.result.0.now c.split_at.result.1.now _ c.loop-i.invariant.same c.loop-i-test.true (front ∙ ap (λ k. take k c.loop-i.rest.now) c.width.ensures.value) (back ∙ ap (λ k. drop k c.loop-i.rest.now) c.width.ensures.value) (to_z-of_z w64 _ f ∙ c.complement.ensures ∙ ap (words.complement c.args.t) c.joined.ensures.value) c.in_ok-push.ensures.ok;
+      same = next_item c.args.t c.args.msb c.args.n c.loop-i._i c.loop-i.found (words.decoded c.args.t c.args.msb c.args.n c.args.bytes.now) c.push.new.self c.loop-i.rest.now c.split_at.result.0.now c.split_at.result.1.now _ c.loop-i.invariant.same c.loop-i-test.true (front ∙ ap (λ k. take k c.loop-i.rest.now) c.width.ensures.value) (back ∙ ap (λ k. drop k c.loop-i.rest.now) c.width.ensures.value) (to_z-of_z w64 _ f ∙ c.complement.ensures.value ∙ ap (words.complement c.args.t) c.joined.ensures.value) c.in_ok-push.ensures.ok;
       rest = omega (arith, row, c.width.ensures.value, c.split_at.ensures.back_len);
     }
 

@@ -6,13 +6,12 @@ use Rattle.dx_stats.proofs.sums.Sums.and.Goals as goal
 pub returns-clause-next : goal.returns-clause-next
 returns-clause-next c =
     let v = c.args.value in
-    let square : c.square.result ≡ v *ℤ v = rw (to_z-of_z w64 v c.ranges.value) at c.square.ensures in
     let low : FitsSigned w64 c.args.self.least = search rules in
     let high : FitsSigned w64 c.args.self.greatest = search rules in
     record {
       count = omega arith;
       total = omega (arith, ints);
-      squares = plus_is c.args.self.squares (v *ℤ v) c.square.result square c.requires.held.some (omega (arith, ints, c.requires.held.squares)) (square_up_to v c.requires.small);
+      squares = plus_is c.args.self.squares (v *ℤ v) c.args.square c.requires.square c.requires.held.some (omega (arith, ints, c.requires.held.squares)) (square_up_to v c.requires.small);
       least = to_z-of_z w64 c.min.result (record { sfits = c.min.type_inv }) ∙ (rw (to_z-of_z w64 c.args.self.least low, to_z-of_z w64 v c.ranges.value) at c.min.ensures.value);
       greatest = to_z-of_z w64 c.max.result (record { sfits = c.max.type_inv }) ∙ (rw (to_z-of_z w64 c.args.self.greatest high, to_z-of_z w64 v c.ranges.value) at c.max.ensures.value);
     }
