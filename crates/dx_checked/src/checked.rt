@@ -14,7 +14,7 @@ ghost use Rattle.dx_macros.specs.Walk.{first_fault};
 use crate::known::{Known, NOTHING, more_known};
 use crate::own::definition_calls;
 use dx_ast::{Assign, Frames, MacroDef, Stmt};
-use dx_expansion::{check_and_expand, expand_silent};
+use dx_expansion::{check_and_expand, expand_flat, expand_silent};
 use dx_graph::Graph;
 use dx_macros::{CheckFail, Dictionary};
 use std::alloc::{AllocError, Global};
@@ -137,6 +137,9 @@ impl CheckedDictionary {
         ensures fault { Checks (first_fault (dictionary_of self.now) (plain_stmt s.now)) result }
         ensures means { IfOk result (λ g. unfolded (graph_of g) ≡ effects (dictionary_of self.now) f.now (plain_stmt s.now)) }
     {
+        if let Some(graph) = expand_flat(alloc, &self.dictionary, s, f) {
+            return Ok(graph);
+        }
         if self.has_no_fault(s) {
             if let Some(graph) = expand_silent(alloc, &self.dictionary, s, f) {
                 return Ok(graph);

@@ -1,2 +1,3 @@
 pub mod PlainInts
 pub mod Members
+pub mod LawfulConst

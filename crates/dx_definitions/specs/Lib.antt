@@ -1,3 +1,4 @@
 pub mod TopTexts
+pub mod Constants
 pub mod Index
 pub mod Held

@@ -1,11 +1,12 @@
 //! The definitions of the top level, and under each name the places of its definitions.
-ghost use Rattle.std.specs.Prelude.{◌≡◌, ◌<◌, ◌≤◌, ◌∷◌, ◌++◌, [], List, map, length, nat_lt, true, false, OnOk, OnErr, IfSome, IsOk};
+ghost use Rattle.std.specs.Prelude.{◌≡◌, ◌<◌, ◌≤◌, ◌∷◌, ◌++◌, [], ℕ, List, Some, map, slice_get, length, nat_lt, true, false, OnOk, OnErr, IfSome, IsOk};
 ghost use Rattle.std.specs.List.Sorted.{IsNonDecreasing, IsPartitionPoint};
 ghost use Rattle.dx_base.specs.NameLists.{has};
-ghost use Rattle.dx_definitions.specs.TopTexts.{TopText, last_named};
+ghost use Rattle.dx_definitions.specs.Constants.{StandsIn, IsDefined, constant_at};
+ghost use Rattle.dx_definitions.specs.TopTexts.{TopText, definition, last_named};
 ghost use Rattle.dx_definitions.specs.Index.{text_of, index_of, with_place, noted, ArePlaces, Indexes, IsIndexed, IsLastFrom};
 
-use dx_ast::Assign;
+use dx_ast::{Assign, Const, Expr};
 use dx_base::Bytes;
 use indexmap::IndexMap;
 use std::alloc::{AllocError, Global};
@@ -19,6 +20,9 @@ pub struct Definitions {
     places: IndexMap<Vec<u8>, Vec<usize>>,
     /// How many definitions are noted: all, unless memory ran out when the last ones joined.
     noted: usize,
+    /// For each definition the place of the one in which the constant stands that it assigns, where that is seen from assignments
+    /// alone; it lacks the last ones where memory ran out when they joined.
+    constants: Vec<Option<usize>>,
 }
 
 impl Model for Definitions {
@@ -30,10 +34,29 @@ impl Model for Definitions {
 
     ghost use Rattle.std.specs.Prelude.{map, length, ◌-◌, vec_capacity};
     ghost use Rattle.dx_definitions.specs.Index.{text_of, index_of, IsIndexed};
+    ghost use Rattle.dx_definitions.specs.Constants.{AreNoted};
 
     ghost view = { λ d. record { items = d.list.items; room = vec_capacity d.list - length d.list.items } };
 
-    ghost invariant = { λ d. IsIndexed d.noted (index_of d.places) (map text_of d.list.items) };
+    ghost invariant = { λ d. IsIndexed d.noted (index_of d.places) (map text_of d.list.items) × AreNoted (map text_of d.list.items) d.constants.items };
+}
+
+fn is_one(names: &[Bytes]) -> bool
+    ensures { result ≡ true → (name : List ℕ) × (names.now ≡ name ∷ []) }
+{
+    match names {
+        [_] => true,
+        _ => false,
+    }
+}
+
+fn noted_at(constants: &[Option<usize>], i: usize) -> Option<usize>
+    ensures { (j : ℕ) → result ≡ Some j → slice_get constants.now i ≡ Some (Some j) }
+{
+    match constants.get(i) {
+        Some(Some(j)) => Some(*j),
+        _ => None,
+    }
 }
 
 fn has_text(names: &[Bytes], name: &[u8]) -> bool
@@ -198,6 +221,7 @@ impl Definitions {
             list: Vec::new(alloc),
             places: IndexMap::new(alloc),
             noted: 0,
+            constants: Vec::new(alloc),
         }
     }
 
@@ -223,7 +247,56 @@ impl Definitions {
     {
         self.list.push(a)?;
         self.noted = note_new(alloc, &self.list, &mut self.places, self.noted);
+        self.note_constant();
         Ok(())
+    }
+
+    // Notes where the constant stands that the first definition assigns for which that isn't noted.
+    fn note_constant(&mut self)
+        ensures { self.new ≡ self.old }
+    {
+        let place = self.constants.len();
+        if place < self.list.len() {
+            let constant = self.constant_place(place);
+            match self.constants.push(constant) {
+                Ok(()) => {}
+                Err(_) => {}
+            }
+        }
+    }
+
+    // The place where the constant stands that the definition at a place assigns, as far as that is noted for those before it.
+    fn constant_place(&self, place: usize) -> Option<usize>
+        requires { place < length self.now.items }
+        ensures { (j : ℕ) → result ≡ Some j → StandsIn (map text_of self.now.items) place j }
+    {
+        let a = self.at(place);
+        if !is_one(a.targets.as_slice()) {
+            return None;
+        }
+        match &a.value {
+            Expr::Constant(_) => Some(place),
+            Expr::Name(name) => {
+                let named = self.last_before(place, name.bytes())?;
+                self.noted_constant(named)
+            }
+            _ => None,
+        }
+    }
+
+    // The place that is noted for the constant of a definition.
+    fn noted_constant(&self, i: usize) -> Option<usize>
+        ensures { (j : ℕ) → result ≡ Some j → StandsIn (map text_of self.now.items) i j }
+    {
+        noted_at(&self.constants, i)
+    }
+
+    // Definition number i.
+    fn at(&self, i: usize) -> &Assign
+        requires { i < length self.now.items }
+        ensures { text_of result.now ≡ definition (map text_of self.now.items) i }
+    {
+        &self.as_slice()[i]
     }
 
     /// The place of the last definition of a name before a place.
@@ -237,6 +310,20 @@ impl Definitions {
         match last_from(&self.list, self.noted, place, name) {
             Some(i) => Some(i),
             None => last_noted(&self.list, &self.places, self.noted, self.noted, name),
+        }
+    }
+
+    /// The constant that a name means at a place, where that is seen at once: its last definition before the place assigns it to
+    /// this name alone, as it stands or by a name that means it so. None where it is anything else.
+    pub fn constant_before(&self, place: usize, name: &[u8]) -> Option<&Const>
+        ensures means { IfSome result (λ c. constant_at (map text_of self.now.items) place name.now ≡ Some c.now) }
+        ensures defined { IfSome result (λ c. IsDefined (map text_of self.now.items) c.now) }
+    {
+        let i = self.last_before(place, name)?;
+        let j = self.noted_constant(i)?;
+        match &self.at(j).value {
+            Expr::Constant(c) => Some(c),
+            _ => None,
         }
     }
 }

@@ -42,7 +42,7 @@ pub fn look_all<F: Files, L: Library>(
     ensures looks { FromHere setup.now L.answer (F.content files.old) at.old (told (L.done lib.old) (F.asked files.old)) (λ x k base s f. AllLookSo setup.now x k base (input_trees setup.now inputs.now) s f result at.new (told (L.done lib.new) (F.asked files.new))) }
     ensures alike { FromHere setup.now L.answer (F.content files.old) at.old (told (L.done lib.old) (F.asked files.old)) (λ x k base s f. AllNeedAlike setup.now x k (input_trees setup.now inputs.now) result at.new) }
 {
-    let mut terms = Items::new(setup.alloc);
+    let mut terms = Items::from_vec(Vec::with_capacity(setup.alloc, inputs.len())?);
     for i in inputs {
         match look(i, setup, at, files, lib)? {
             Looked::Value(t) => terms.push(t)?,

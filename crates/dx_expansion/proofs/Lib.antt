@@ -12,3 +12,4 @@ pub mod Measures
 pub mod Driving
 pub mod Marked
 pub mod Silence
+pub mod FlatCalls

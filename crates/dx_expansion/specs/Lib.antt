@@ -1,4 +1,5 @@
 pub mod Expanding
 pub mod Marks
 pub mod Driving
+pub mod Flat
 pub mod Silence

@@ -64,7 +64,7 @@ fn add_node<'a>(
 }
 
 /// A call of a function.
-fn call_function<'a>(
+pub(crate) fn call_function<'a>(
     alloc: Global,
     graph: &mut Graph,
     f: Function,

@@ -1,7 +1,3 @@
-pub mod Lexer
-pub mod Shown
-pub mod Cursor
-pub mod Answer
 pub mod Shape
 pub mod Shapes
 pub mod Value

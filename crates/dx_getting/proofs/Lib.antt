@@ -1,7 +1,6 @@
 pub mod BoundValues
 pub mod EmptyLaws
 pub mod Getting
-pub mod LawfulConst
 pub mod Names
 pub mod NextLaws
 pub mod RunSteps

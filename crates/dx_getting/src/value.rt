@@ -1,14 +1,18 @@
 //! Values that need no get, and results of known calls.
-ghost use Rattle.std.specs.Prelude.{◌≡◌, ◌<◌, Some, None, true, length, is_some, nat_eq, IfOk, IfErr, OnErr};
+ghost use Rattle.std.specs.Prelude.{◌≡◌, ◌<◌, Some, None, true, length, is_some, slice_get, nat_eq, IfOk, IfErr, OnErr};
 ghost use Rattle.std.specs.Map.{lookup};
 ghost use Rattle.dx_objects.specs.Values.{value_of, value_at};
 ghost use Rattle.dx_objects.specs.Runs.{Values};
+ghost use Rattle.dx_ast.specs.Lawful.{IsLawfulConst};
+ghost use Rattle.dx_ast.specs.Value.{value_of as constant_of};
 ghost use Rattle.dx_tags.specs.Closed.{head_at, heads_of};
+ghost use Rattle.dx_tags.specs.declared.term.Term.TheVariants.{Constant};
 ghost use Rattle.dx_getting.specs.Stands.{setting_of, AreExact};
 ghost use Rattle.dx_getting.specs.Steps.{GivenBy};
 
 use crate::known::Known;
 use crate::scene::{Called, Scene, Sites};
+use dx_ast::Const;
 use dx_consts::object_of;
 use dx_objects::{Object, Outs, Value};
 use dx_tags::{Tag, Term, ValueTag};
@@ -39,6 +43,19 @@ pub(crate) fn value_in(outs: &Outs, i: usize) -> Result<Value, AllocError>
     }
 }
 
+// The value of a constant that a tag names: its object is shared where the terms keep it, and else made.
+#[tactic(auto, using(dx_tags::proofs::MadeLaws::made_value))]
+fn constant_value(scene: &Scene, tag: Tag, c: &Const) -> Result<Value, AllocError>
+    requires named { slice_get scene.now.tags.now tag ≡ Some (Constant c.now) }
+    requires lawful { IsLawfulConst c.now }
+    ensures { IfOk result (λ v. value_of v ≡ constant_of c.now) }
+{
+    match scene.tags.object(tag) {
+        Some(object) => shared(object),
+        None => object_of(scene.alloc, c),
+    }
+}
+
 /// The value of a constant, of a held value, or of the links whose term it is.
 pub(crate) fn value_given(scene: &Scene, t: ValueTag) -> Result<Given, AllocError>
     requires within { t.tag < length scene.now.tags.now }
@@ -46,7 +63,7 @@ pub(crate) fn value_given(scene: &Scene, t: ValueTag) -> Result<Given, AllocErro
     ensures { IfOk result (λ g. (formed : _) → GivenBy (setting_of scene.now formed) t (head_at (heads_of scene.now.tags.now) t.tag) g) }
 {
     match scene.tags.term(t.tag) {
-        Term::Constant(c) => Ok(Given::Ready(object_of(scene.alloc, c)?)),
+        Term::Constant(c) => Ok(Given::Ready(constant_value(scene, t.tag, c)?)),
         Term::Held(n) => Ok(Given::Ready(value_in(scene.held, *n as usize)?)),
         Term::File(_) => Ok(Given::Ready(None)),
         Term::Call(_, _) => match scene.links.get(t) {

@@ -49,7 +49,7 @@ fn named_inputs<'a>(
     ensures fits { IfOk result (λ inputs. (nodes : List Node) → All (GivenFits nodes) given.now → All (MayTake nodes (length nodes)) inputs.items) }
     ensures count { IfOk result (λ inputs. length inputs.items ≡ length names.now) }
 {
-    let mut inputs = Vec::new(alloc);
+    let mut inputs = Vec::with_capacity(alloc, names.len().max(given.len()))?;
     for (i, name) in names.iter().enumerate() {
         inputs.push(input_of(named_operand(given, i, name))?)?;
     }

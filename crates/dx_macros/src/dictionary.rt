@@ -1,13 +1,14 @@
 //! The dictionary: macros by their names, and the definitions of the top level.
-ghost use Rattle.std.specs.Prelude.{◌≡◌, ◌<◌, length, OnOk, OnErr, option_map, IfSome, IsOk};
-ghost use Rattle.dx_ast.specs.Lawful.{IsLawfulMacro, IsLawfulAssign};
+ghost use Rattle.std.specs.Prelude.{◌≡◌, ◌<◌, Some, length, OnOk, OnErr, option_map, IfSome, IsOk};
+ghost use Rattle.dx_ast.specs.Lawful.{IsLawfulMacro, IsLawfulAssign, IsLawfulConst};
 ghost use Rattle.dx_ast.specs.Plain.{plain_macro, plain_expr};
 ghost use Rattle.dx_macros.specs.Dictionary.{empty, defining, with_definition};
+ghost use Rattle.dx_definitions.specs.Constants.{constant_at};
 ghost use Rattle.dx_definitions.specs.TopTexts.{definition, last_named};
 ghost use Rattle.dx_macros.specs.Shown.{AreLawfulMacros, AreLawfulDefinitions};
 ghost use Rattle.dx_definitions.specs.Index.{text_of};
 
-use dx_ast::{Assign, MacroDef};
+use dx_ast::{Assign, Const, MacroDef};
 use dx_definitions::Definitions;
 use indexmap::IndexMap;
 use std::alloc::{AllocError, Global};
@@ -95,5 +96,14 @@ impl Dictionary {
         ensures { text_of result.now ≡ definition (dictionary_of self.now).definitions i }
     {
         &self.definitions.as_slice()[i]
+    }
+
+    /// The constant that a name means behind all definitions, where that is seen at once: its last definition assigns it to this
+    /// name alone, as it stands or by a name that means it so. None where it is anything else.
+    pub fn constant(&self, name: &[u8]) -> Option<&Const>
+        ensures means { IfSome result (λ c. constant_at (dictionary_of self.now).definitions (length (dictionary_of self.now).definitions) name.now ≡ Some c.now) }
+        ensures lawful { IfSome result (λ c. ∥ IsLawfulConst c.now ∥₁) }
+    {
+        self.definitions.constant_before(self.len(), name)
     }
 }

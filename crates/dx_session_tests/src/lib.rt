@@ -6,6 +6,8 @@ mod cache_tests;
 #[cfg(test)]
 mod composite_tests;
 #[cfg(test)]
+mod constant_tests;
+#[cfg(test)]
 mod fault_tests;
 #[cfg(test)]
 mod file_tests;

@@ -8,7 +8,7 @@ use Rattle.dx_ast.specs.Syntax as plain
 use Rattle.dx_ast.specs.Syntax.{Expr, Constant, Name, Frame, CallOf, Call, MakeCall, Args, NoArg, AndArg}
 use Rattle.dx_ast.specs.Plain.{plain_stmt}
 use Rattle.dx_ast.specs.Lawful.{HasName, IsLawfulArgName, AllNamed, IsInOrder, IsLawfulExpr, IsLawfulCall, AreLawfulArgs, IsLawful}
-use Rattle.dx_getting.proofs.LawfulConst.{lawful_of}
+use Rattle.dx_consts.proofs.LawfulConst.{lawful_of}
 use Rattle.dx_sessions.specs.Sequence.{IsSequence, IsSequenceCall}
 
 -- ---- calls

@@ -1,4 +1,5 @@
 pub mod Closed
 pub mod Digest
 pub mod Files
+pub mod Made
 pub mod Whole

@@ -2,6 +2,7 @@
 #![tactic(auto)]
 
 mod content;
+mod made;
 mod tags;
 mod term;
 mod written;

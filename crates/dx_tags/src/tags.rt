@@ -1,16 +1,31 @@
 // The table of terms, which is list and index at once.
-ghost use Rattle.std.specs.Prelude.{◌≡◌, ◌<◌, ◌++◌, ◌∷◌, [], ◌⊎◌, Some, slice_get, length, IfOk, OnOk, OnErr};
+ghost use Rattle.std.specs.Prelude.{◌≡◌, ◌<◌, ◌++◌, ◌∷◌, [], ◌⊎◌, Some, slice_get, length, IfOk, IfSome, OnOk, OnErr};
+ghost use Rattle.dx_ast.specs.Lawful.{IsLawfulConst};
+ghost use Rattle.dx_ast.specs.declared.constants.Const.{Const};
+ghost use Rattle.dx_tags.specs.declared.term.Term.TheVariants.{Constant};
 ghost use Rattle.dx_tags.specs.Closed.{AllFormed, AreDistinct, IsFormed, heads_of, NamesExactly};
+ghost use Rattle.dx_tags.specs.Made.{IsMade};
 
+use crate::made::{is_large, keep, object_at, tag_among};
 use crate::term::{Tag, Term};
+use dx_objects::Object;
 use indexmap::IndexSet;
 use std::alloc::{AllocError, Global};
 use std::marker::Model;
+use std::rc::Rc;
+
+/// Of how many large constants the objects are kept.
+const MOST_LARGE: usize = 4;
 
 /// Terms, each named by the number of its place. Each has earlier tags alone, and no term stands twice.
 #[derive(Drop)]
 pub struct Tags {
+    alloc: Global,
     terms: IndexSet<Term>,
+    /// At the places of constants their objects, as far as they are kept.
+    objects: Vec<Option<Rc<Object>>>,
+    /// The tags of the large constants that were named last, the latest one last.
+    large: Vec<Tag>,
 }
 
 impl Model for Tags {
@@ -20,6 +35,10 @@ impl Model for Tags {
     ghost Value = { List Term };
 
     ghost view = { λ a. a.terms.keys };
+
+    ghost use Rattle.dx_tags.specs.Made.{AreMade};
+
+    ghost invariant = { λ a. AreMade a.terms.keys a.objects.items };
 }
 
 impl Tags {
@@ -28,13 +47,54 @@ impl Tags {
         ensures { result ≡ [] }
     {
         Tags {
+            alloc,
             terms: IndexSet::new(alloc),
+            objects: Vec::new(alloc),
+            large: Vec::new(alloc),
         }
     }
 
     /// The tag of a term, which is new where no tag names the term. Equal terms have one tag and different terms two; the terms
     /// of earlier tags stay.
+    #[tactic(auto, using(crate::proofs::MadeLaws::lawful_in))]
     pub fn intern(&mut self, t: Term) -> Result<Tag, AllocError>
+        requires formed { IsFormed (heads_of self.old) (length self.old) t }
+        ensures named { IfOk result (λ tag. slice_get self.new tag ≡ Some t) }
+        ensures exact { IfOk result (λ tag. (other : _) → slice_get self.new other ≡ Some t → other ≡ tag) }
+        ensures kept { OnOk result ((self.new ≡ self.old) ⊎ (self.new ≡ self.old ++ t ∷ [])) }
+        ensures err { OnErr result (self.new ≡ self.old) }
+        ensures formed { AllFormed self.old → AllFormed self.new }
+        ensures distinct { AreDistinct self.old → AreDistinct self.new }
+    {
+        let is_large = is_large(&t);
+        if is_large {
+            if let Some(tag) = self.lately(&t) {
+                return Ok(tag);
+            }
+        }
+        let count = self.count();
+        let tag = self.insert(t)?;
+        if is_large || tag == count {
+            self.make(tag, is_large);
+        }
+        Ok(tag)
+    }
+
+    // The tag of a term that is among the large constants which were named last.
+    #[tactic(auto, using(crate::proofs::SameTerm::one_place))]
+    fn lately(&self, t: &Term) -> Option<Tag>
+        ensures named { IfSome result (λ tag. slice_get self.now tag ≡ Some t.now) }
+        ensures exact { IfSome result (λ tag. (other : _) → slice_get self.now other ≡ Some t.now → other ≡ tag) }
+    {
+        // (beside their number `len` says that no two terms are the same)
+        if self.terms.len() == 0 {
+            return None;
+        }
+        tag_among(&self.terms, &self.large, t)
+    }
+
+    // The tag of a term, found by its hash.
+    fn insert(&mut self, t: Term) -> Result<Tag, AllocError>
         requires formed { IsFormed (heads_of self.old) (length self.old) t }
         ensures named { IfOk result (λ tag. slice_get self.new tag ≡ Some t) }
         ensures exact { IfOk result (λ tag. (other : _) → slice_get self.new other ≡ Some t → other ≡ tag) }
@@ -45,6 +105,42 @@ impl Tags {
     {
         let (index, _) = self.terms.insert_full(t)?;
         Ok(index as u64)
+    }
+
+    // Makes the object of the constant that a tag names.
+    fn make(&mut self, tag: Tag, is_large: bool)
+        requires lawful { (c : Const) → slice_get self.old tag ≡ Some (Constant c) → ∥ IsLawfulConst c ∥₁ }
+        ensures { self.new ≡ self.old }
+    {
+        if is_large {
+            self.note_large(tag);
+        }
+        let object = object_at(self.alloc, &self.terms, tag as usize);
+        keep(&mut self.objects, tag as usize, object);
+    }
+
+    // The large constant of this tag is the latest; the object of the oldest goes.
+    fn note_large(&mut self, tag: Tag)
+        ensures { self.new ≡ self.old }
+    {
+        if self.large.len() >= MOST_LARGE {
+            let oldest = self.large.remove(0);
+            keep(&mut self.objects, oldest as usize, None);
+        }
+        match self.large.push(tag) {
+            Ok(()) => {}
+            Err(_) => {}
+        }
+    }
+
+    /// The object of the constant that a tag names, where it is kept. It is none for NULL.
+    pub fn object(&self, tag: Tag) -> Option<&Rc<Object>>
+        ensures made { IfSome result (λ o. IsMade self.now tag o.now.value) }
+    {
+        match self.objects.get(tag as usize) {
+            Some(Some(object)) => Some(object),
+            _ => None,
+        }
     }
 
     /// The term of a tag below `count`.
@@ -70,6 +166,8 @@ impl Tags {
         ensures { self.new ≡ [] }
     {
         self.terms.clear();
+        self.objects.clear();
+        self.large.clear();
     }
 }
 

@@ -1,6 +1,6 @@
 use Rattle.std.proofs.Common.{ap, subst}
 use Rattle.dx_grammar.specs.FirstError.{FirstError}
-use Rattle.dx_expr.specs.Answer.{OnRefused}
+use Rattle.dx_expr_parser.specs.Answer.{OnRefused}
 use Rattle.dx_expr_grammar.specs.Grammar as grammar
 use Rattle.dx_expr_grammar.specs.Tokens.{tokens_of}
 use Rattle.dx_expr_grammar.specs.Words.{misfit}

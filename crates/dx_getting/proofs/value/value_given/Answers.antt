@@ -8,7 +8,7 @@ use Rattle.dx_tags.specs.declared.term.ValueTag.{ValueTag}
 use Rattle.dx_tags.specs.Closed.{head_at, heads_of, head_of, IsFormed}
 use Rattle.dx_tags.proofs.ClosedTerms.{head_unfolds}
 use Rattle.dx_getting.proofs.Names.{formed_at}
-use Rattle.dx_getting.proofs.LawfulConst.{lawful_of}
+use Rattle.dx_consts.proofs.LawfulConst.{lawful_of}
 use Rattle.dx_getting.specs.declared.value.Given.{Given}
 use Rattle.dx_getting.specs.declared.value.Given.TheVariants.{Ready, ToGet}
 use Rattle.dx_getting.specs.Stands.{Setting, AreExact, setting_of}
@@ -18,13 +18,13 @@ use Rattle.dx_getting.proofs.value.value_given.Goals as goal
 given_at : (e : Setting) (t : ValueTag) (u v : Term) (g : Given) → AreExact e.terms → slice_get e.terms t.tag ≡ Some u → u ≡ v → GivenBy e t (head_of (heads_of e.terms) v) g → GivenBy e t (head_at (heads_of e.terms) t.tag) g
 given_at e t u v g x s i h = subst (λ d. GivenBy e t d g) (sym (head_unfolds e.terms x.formed t.tag u s ∙ ap (head_of (heads_of e.terms)) i)) h
 
-pub object_of-requires : goal.object_of-requires
-object_of-requires c =
+pub constant_value-requires-clause-lawful : goal.constant_value-requires-clause-lawful
+constant_value-requires-clause-lawful c =
     let f = formed_at (heads_of c.args.scene.now.tags.now) 0 c.args.scene.now.tags.now c.requires.exact.formed c.args.t.tag c.term.result.now c.term.ensures in
     lawful_of c.in-Constant.c (subst (IsFormed (heads_of c.args.scene.now.tags.now) (0 + c.args.t.tag)) c.in-Constant.is f)
 
-pub returns-in_ok-object_of-in-Constant : goal.returns-in_ok-object_of-in-Constant
-returns-in_ok-object_of-in-Constant c = λ formed. given_at (setting_of c.args.scene.now formed) c.args.t c.term.result.now _ _ c.requires.exact c.term.ensures c.in-Constant.is c.in_ok-object_of-in-Constant.ensures
+pub returns-in_ok-constant_value-in-Constant : goal.returns-in_ok-constant_value-in-Constant
+returns-in_ok-constant_value-in-Constant c = λ formed. given_at (setting_of c.args.scene.now formed) c.args.t c.term.result.now _ _ c.requires.exact c.term.ensures c.in-Constant.is c.in_ok-constant_value-in-Constant.ensures
 
 pub returns-in_ok-value_in-in-Held : goal.returns-in_ok-value_in-in-Held
 returns-in_ok-value_in-in-Held c = λ formed. given_at (setting_of c.args.scene.now formed) c.args.t c.term.result.now _ _ c.requires.exact c.term.ensures c.in-Held.is c.in_ok-value_in-in-Held.ensures

@@ -1,0 +1,4 @@
+pub mod Lexer
+pub mod Shown
+pub mod Cursor
+pub mod Answer
