@@ -233,7 +233,7 @@ impl Cache {
         }
     }
 
-    /// Takes out and hands back entry number `i`, counted from 0 at the oldest, in time of `i`.
+    /// Takes out the entry at place `i`, where the oldest stands at 0, and hands it back, in time of `i`.
     pub fn remove(&mut self, i: u64) -> Entry
         requires within { i < length self.old.entries }
         ensures entry { slice_get self.old.entries i ≡ Some result }

@@ -8,11 +8,14 @@ ghost use Rattle.dx_cursor.specs.Answers.{Reads};
 use dx_ast::{Arg, Args, Boxed, Call, Const, Expr};
 use dx_base::{Bytes, Items, Place, SyntaxKind};
 use dx_cursor::{Cursor, ParseFail, constant, fault, is_word};
-use dx_lists::{one, text_const};
+use dx_lists::{one_of, text_const};
 use std::alloc::Global;
 
 /// What a call without the attribute `cache` has: all its results are kept.
 const DEFAULT_CACHE: u8 = 1;
+
+/// How many arguments get room at first, where there is more than one.
+const SOME_ARGS: usize = 4;
 
 /// The value of an attribute `cache`, if it is one.
 fn cache_value(value: Const) -> Option<u8>
@@ -178,6 +181,11 @@ fn next_arg(
     arg(alloc, cursor, calls, named)
 }
 
+/// How many arguments get room at first, by whether more than one stand.
+fn room(more: bool) -> usize {
+    if more { SOME_ARGS } else { 1 }
+}
+
 #[cycle(parser)]
 fn more_args(
     alloc: Global,
@@ -188,7 +196,7 @@ fn more_args(
     ensures { Reads (reading.more_args (reading.expression calls) (reading.primary calls) (first ∷ []) cursor.old) result cursor.new }
 {
     let mut named = first.name.is_some();
-    let mut found = one(alloc, first)?;
+    let mut found = one_of(alloc, first, room(cursor.sees(b",")))?;
     'each: while cursor.sees(b",") {
         let next = next_arg(alloc, cursor, calls, named)?;
         named = next.name.is_some();

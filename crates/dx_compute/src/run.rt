@@ -105,14 +105,14 @@ fn results_of(alloc: Global, object: Object) -> Result<Outs, AllocError>
 /// What Compute answers for an expression, which is the first input, and for the inputs `$0`, `$1` and so on behind it
 /// (User's Reference, Compute): one result.
 ///
-/// The expression needs to be a text (BadArgument) that is one (BadExpression). Each `$k` that occurs needs an input that
-/// isn't NULL or a text (BadArgument). Where one that occurs is a group or series, all such need as many members
-/// (ItemMismatch); the result is the first such with each member replaced by the answer for the members at its place, and
-/// the first of these that is refused decides. Otherwise a field stands for its component `data` (NoComponent). The
-/// numbers of items that are other than one need to be equal, and then the shapes to fit (ItemMismatch); an array of one
-/// item stands for every item. The first fault of the first item that has one is Overflow or DivisionByZero. The result
-/// is a plain array of ints, or the first field with its data replaced, of which the items need to be as many as before
-/// (ItemMismatch). TooLarge, where the result is beyond the limits of objects, comes last.
+/// The expression needs to be a text (BadArgument) that is one (BadExpression). For each `$k` in it there needs to be an
+/// input that is neither NULL nor a text (BadArgument). Where some of these are groups or series, those need equal numbers
+/// of members (ItemMismatch); the result is the first of them, but at each place stands what is answered for their members
+/// at that place, and the first of these that is refused decides. Otherwise a field stands for its component `data`
+/// (NoComponent). The numbers of items that are other than one need to be equal, and then the shapes to fit (ItemMismatch);
+/// an array of one item stands for every item. The first fault of the first item that has one is Overflow or
+/// DivisionByZero. The result is a plain array of ints, or the first field with its data replaced, of which the items need
+/// to be as many as before (ItemMismatch). TooLarge, where the result is beyond the limits of objects, comes last.
 pub fn run_compute(alloc: Global, inputs: &Outs) -> Result<Outs, RunFail>
     requires { Takes Compute (length inputs.now) }
     ensures answer { Gives (spec.answer inputs.now) result }

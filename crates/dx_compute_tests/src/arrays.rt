@@ -80,7 +80,7 @@ const CHOICES: &[Row<'static>] = &[
     ("$0 == 2 && 1 / 0", &["ints"], "DivisionByZero"),
 ];
 
-// The first error of the first item that has one.
+// Of the items with an error the first decides, by its first error.
 const FIRST_FAULT: &[Row<'static>] = &[
     ("6 / $0", &["gap"], "DivisionByZero"),
     ("$0 + 1 + 6 / $1", &["most first", "gap"], "Overflow"),

@@ -1,5 +1,5 @@
--- Loading: the statements of a session's file, each include replaced by the statements of its file, or the first refusal
--- in the order of loading; and the names that are asked for on the way.
+-- Loading: the statements of a session's file, with those of the included file in the place of each include, or the refusal
+-- that loading meets first; and the names that are asked for on the way.
 use Rattle.std.specs.Prelude.{◌≡◌, ◌⊎◌, ℕ, zero, suc, ◌+◌, List, [], ◌∷◌, ◌++◌, length, Option, Some, None, Result, Ok, Err, Bool, true, false, nat_lt}
 use Rattle.dx_base.specs.declared.token.SyntaxError.{SyntaxError}
 use Rattle.dx_io.specs.Devices.{FileMap}

@@ -21,8 +21,8 @@ const MAX_LEVELS: usize = 16;
 /// How many bytes all files may have together.
 const MAX_BYTES: usize = 16_777_216;
 
-/// Loads a session: the statements of the file of this name, each include replaced by the statements of its file, before
-/// anything is executed. A file's text is parsed whole, and then its includes are loaded in order.
+/// Loads a session, before any of it is executed: the statements of the file of this name, with those of the included file
+/// in the place of each include. A file's text is parsed whole, and then its includes are loaded in order.
 ///
 /// The first refusal in the order of loading decides. At one file they are looked for in this order: `Nested` where the
 /// file would be the 17th level, before it is read; `Missing` exactly where there is no such file; `TooLong` where the

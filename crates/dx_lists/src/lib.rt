@@ -4,6 +4,6 @@
 mod lists;
 
 pub use lists::{
-    Element, Growing, Numbers, agrees, into_const, ints_const, join, list_of, one, range,
+    Element, Growing, Numbers, agrees, into_const, ints_const, join, list_of, one, one_of, range,
     range_count, text_const, vector_const,
 };

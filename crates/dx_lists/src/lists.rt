@@ -13,13 +13,20 @@ use std::marker::Model;
 /// The numbers of a list or of a vector, before they are shared.
 pub type Numbers = Items<i32>;
 
+/// The list of one item, with room for so many.
+pub fn one_of<T: Drop>(alloc: Global, item: T, room: usize) -> Result<Items<T>, AllocError>
+    ensures { IfOk result (λ list. list ≡ item ∷ []) }
+{
+    let mut items = Vec::with_capacity(alloc, room)?;
+    items.push(item)?;
+    Ok(Items::from_vec(items))
+}
+
 /// The list of one item, with room for no more.
 pub fn one<T: Drop>(alloc: Global, item: T) -> Result<Items<T>, AllocError>
     ensures { IfOk result (λ list. list ≡ item ∷ []) }
 {
-    let mut items = Vec::with_capacity(alloc, 1)?;
-    items.push(item)?;
-    Ok(Items::from_vec(items))
+    one_of(alloc, item, 1)
 }
 
 /// An element of a list, which contracts see as the constant that it is alone.
@@ -210,7 +217,7 @@ pub fn range_count(a: i32, b: i32, d: i32) -> u64
     u64::from(a.abs_diff(b)) / step + 1
 }
 
-/// The numbers a, a + d and so on, as long as they aren't past b.
+/// Those of the numbers a, a + d and so on that aren't past b, in this order.
 pub fn range(alloc: Global, a: i32, b: i32, d: i32) -> Result<Numbers, AllocError>
     requires { values.is_zero d ≡ false }
     ensures { IfOk result (λ numbers. numbers ≡ values.range a b d) }

@@ -19,7 +19,7 @@ use Rattle.dx_links.specs.declared.key.Key.{Key}
 use Rattle.dx_meaning.specs.Outcome.{Value, Use, Decided, Val, ErrAt, Off, HaltAt, Outcome, plainly}
 use Rattle.dx_meaning.specs.Picking.{Pick, PickThis, PickInput, PickOff, PickFault, Shelf, pick, selector_at}
 
--- what the meaning is given: what links hold and what was written before the execution, the files, and the library's answers
+-- what the meaning is given: what links held and what was written before the execution; what files hold; what the library answers
 pub record World : Type 0 where
   pub link : Key → Option Object
   pub written : List ℕ → Option (List ℕ)
@@ -41,7 +41,7 @@ decided_beside (Val v) (HaltAt s c) = HaltAt s c
 decided_beside (Val v) (ErrAt s c) = ErrAt s c
 decided_beside (Val v) (Val vs) = Val (v ∷ vs)
 
--- the uses of control, up to and including the first that is Off or Halt
+-- the uses of control, argument by argument: those of an argument behind the first that is Off or Halt are left out
 abbrev pub control_beside : Decided Value → List Use → List Use → List Use
 control_beside Off own rest = own
 control_beside (HaltAt s c) own rest = own

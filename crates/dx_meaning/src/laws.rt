@@ -20,8 +20,8 @@ pub fn forms_once()
     ensures { FormsOnce }
 {}
 
-/// Where each link's value is what its term denotes, a tree that is neither Off nor Halt is the value that its term denotes,
-/// or is refused with the first code on its term's way.
+/// Suppose that each link holds the value that its term denotes. Then a tree that is neither Off nor Halt has the value that the
+/// tree's term denotes, or is refused with the code that comes first on the way of that term.
 pub fn terms_are_right()
     ensures { TermsAreRight }
 {}

@@ -143,7 +143,7 @@ lawful_written t h i =
       fits = (allowed t h).limits;
     }
 
--- For every object that can be made and whose origins and deltas lie in the int range: reading what was written of it, with no
--- name asked for, gives the object again.
+-- Where an object can be made and all its origins and deltas are ints, its written text means this same object to a reader that
+-- asks for no name.
 pub read_written : (t : Tree) → IsLawful t → steps_by_ints t ≡ true → IsNative (text_of t) None (Ok t)
 read_written t h i = read_again t (lawful_written t h (ints_of t i))

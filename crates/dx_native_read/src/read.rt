@@ -175,9 +175,9 @@ fn object_of_file(
     }
 }
 
-/// The object that a native file means: the one that `which` names, else the one that its last `default` names, else the
-/// last one, each reference replaced by the object that it names. A clause is made into one object, which all that refer
-/// to it share.
+/// The object that a native file means: the one named by `which`, or without `which` the one named by the last `default`,
+/// or without a `default` the last one. In it stands, for each reference, the object that the reference names. A clause is
+/// made into one object, which all that refer to it share.
 ///
 /// A file that means none is refused with a kind and an offset in bytes from 0:
 /// - `Syntax` at a token or byte that doesn't fit, and at a name that stands twice.
@@ -190,7 +190,7 @@ fn object_of_file(
 /// - `Truncated` at the end of the text, where a clause wants more.
 /// - `OtherFile` at `file` behind `value` or `data`, and at a number behind `data`.
 /// - `NoObject` at a reference, the last `default` included, that names no object.
-/// - `BadPart` at a component that is no array, and at a member of a composite group that is no field.
+/// - `BadPart` at a component that is no array, and, in a composite group, at a member that is no field.
 /// - `NoVariable` at the end of the text, where no object has the name that is asked for, or there is no object.
 /// - `TooDeep` at the name of the object in its clause, where it has more than 64 levels, as in a cycle.
 /// - `TooLarge` there, where it is beyond another limit of objects.

@@ -43,7 +43,7 @@ abbrev pub set_of : (List ℕ → Key) → Values → Act
 set_of to_key (v ∷ link ∷ []) = setting to_key v (text_in link)
 set_of to_key other = Refuses BadArgument
 
--- ---- Export: an object, a name that isn't empty, and a format that is NULL or `dx`; the first that doesn't fit decides
+-- ---- Export: an object, a name of at least one byte, and NULL or `dx` as the format; the first that doesn't fit decides
 
 abbrev pub object_in : Value → Result Tree Code
 object_in None = Err BadArgument

@@ -7,7 +7,7 @@ use Rattle.dx_base.specs.Object.{Tree, array, text, field, group, series, compos
 use Rattle.dx_base.specs.Words.{spaced}
 use Rattle.dx_print.specs.Header.{header, array_header, object_header}
 
--- a number is an array of rank 0 with one item, whatever its class and type
+-- an array is a number where its rank is 0 and it has one item, whatever its class and type
 abbrev pub is_number : ArrayData → Bool
 is_number a = (length a.extents == 0) && (items a == 1)
 

@@ -12,9 +12,9 @@ use dx_base::Bytes;
 use dx_objects::{Object, Outs, RunFail, Value};
 use std::alloc::{AllocError, Global};
 
-/// The line that Echo prints of its inputs, with its newline. They are separated by a space: a text as its bytes, a
-/// number in decimal, and anything else as its header, which is `NULL` for NULL. A number is an array of rank 0 with
-/// one item. Echo has no refusal (User's Reference, Echo).
+/// The line that Echo prints of its inputs, with its newline. Between two inputs stands one space. A text is printed as
+/// its bytes, a number in decimal, and anything else as its header, which is `NULL` for NULL. An array is a number where
+/// its rank is 0 and it has one item. Echo has no refusal (User's Reference, Echo).
 pub fn echo_text(alloc: Global, inputs: &Outs) -> Result<Bytes, RunFail>
     ensures { Echoes (echo_of inputs.now) result }
 {

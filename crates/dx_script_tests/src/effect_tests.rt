@@ -71,7 +71,7 @@ fn inputs(rt: HostRuntime) -> Result<(), Fail> {
 }
 
 const WHAT_NAMES_MEAN: [(&str, &str); 5] = [
-    // A definition keeps the meaning of the names that it read when it was made.
+    // The names in a definition mean what they meant where it was made, whatever is assigned to them later.
     (
         "p = 3; q = p; p = 100; Echo(q, p);",
         "Echo:1 in  cache 1: 3 100\n",

@@ -259,7 +259,7 @@ const TWO_PLACES: &str =
 /// The answers to scripts behind the assignments, of which three are executed.
 const BEHIND: [(&str, &str); 13] = [
     ("Echo(p, y, z);", "ok|ok|ok|ok|"),
-    // A definition keeps the meaning of the names that it read, and reads macros as they are now.
+    // The names in a definition mean what they meant where it was made; its macros are read as they are now.
     (
         "macro b() -> (r) { r = Foo(); } Echo(y); Echo(z); Echo(p); Echo(reads());",
         "ok|ok|ok|ok|ok|p/b:1/Foo:1: UnknownFunction|p/b:1/Foo:1: UnknownFunction|",

@@ -9,7 +9,7 @@ use Rattle.dx_objects.specs.Values.{value_at}
 use Rattle.dx_select.specs.Answered.{Answered, ◌>>=◌, or_refused, needed, one_result}
 use Rattle.dx_select.specs.Inputs.{name_or_data}
 
--- A field gives its component of this name. A group or series gives itself with each member so replaced, and a composite
+-- A field gives its component of this name. In a group or series, what a member gives takes that member's place; a composite
 -- group stays one where the new members are all fields. The first member that doesn't fit decides.
 abbrev mutual
   pub extracted : List ℕ → Tree → Answered Tree

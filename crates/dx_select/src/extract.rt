@@ -21,9 +21,9 @@ use std::alloc::Global;
 use std::rc::Rc;
 
 /// A component of a field, or of each field in a group or series (User's Reference, Extract). The inputs are the field,
-/// group or series; and the component's name, a text, or NULL for `data`. A group or series gives itself with each member
-/// so replaced, while names, positions and its attributes stay; a composite group stays one where its new members are all
-/// fields, so only where it has none. Components are shared, with their attributes.
+/// group or series; and the component's name, a text, or NULL for `data`. In a group or series, what a member gives takes
+/// that member's place, while names, positions and its attributes stay; a composite group stays one where its new members
+/// are all fields, so only where it has none. Components are shared, with their attributes.
 ///
 /// BadArgument where the input is none of these or the name is no text. Of a group or series the first member that is
 /// refused decides, depth first: BadArgument for an array or a text, NoComponent for a field without such a component.

@@ -49,9 +49,10 @@ pub fn run_mark(alloc: Global, inputs: &Outs) -> Result<Outs, RunFail>
 }
 
 /// A marked field as it was before, with its data under the name by which it was marked (User's Reference, Unmark). The
-/// inputs are the field and the name. The component of this name becomes `data`, in its place, or last. Then, where there
-/// is `saved data`, `data` becomes this, and `saved data` is taken away; and where there is none, `data` is taken away,
-/// unless it is the name. All components are shared and keep their attributes, and so does the field.
+/// inputs are the field and the name. First `data` is put under this name too, in the place of the component that has it,
+/// or last where none has. Then, where there is `saved data`, this is put back as `data`, and `saved data` is taken away;
+/// and where there is none, `data` is taken away, unless it is the name. All components are shared and keep their
+/// attributes, and so does the field.
 ///
 /// BadArgument where the first input is no field or the second no text; then NoComponent where the field has no `data`; then
 /// TooLarge.

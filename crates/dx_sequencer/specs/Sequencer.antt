@@ -109,8 +109,8 @@ at_play s = record s { next = inside_or_first s s.next }
 abbrev pub frame_behind : State → ℕ → ℤ
 frame_behind s n = if s.forward then s.next +ℤ pos n *ℤ s.delta else s.next -ℤ pos n *ℤ s.delta
 
--- A play makes one step for each frame from next to the last inside in the direction: the frames of so many steps are
--- inside, and the one behind them isn't.
+-- A play makes a step for each frame from next on, in the direction, as long as they are inside: the frames of so many steps
+-- are inside, and the one behind them isn't.
 pub record IsPlay (s : State) (steps : ℕ) : Type 0 where
   pub inside : (k : ℕ) → k < steps → is_inside s (frame_behind s k) ≡ true
   pub outside : is_inside s (frame_behind s steps) ≡ false

@@ -112,7 +112,7 @@ abbrev pub at_frame : {K X : Type 0} → Making K X → Option ℤ → State K �
 at_frame make None st = silently st
 at_frame make (Some frame) st = sequence_executed make st.sequence st
 
--- a step that has a frame executes the sequence call
+-- a step executes the sequence call exactly where it has a frame
 abbrev pub stepped : {K X : Type 0} → Making K X → State K → Done K X
 stepped make st = at_frame make (seq.step_frame st.sequencer) (with_sequencer (seq.after_step st.sequencer) st)
 

@@ -10,7 +10,7 @@ use std::alloc::{AllocError, Global};
 use std::cmp::Ordering;
 use std::marker::Model;
 
-/// What a session has written, which contracts see as a finite map from names to bytes, with the room for more names.
+/// What a session has written. Contracts see a finite map that takes a name to its bytes, and the room for more names.
 #[derive(Drop)]
 pub struct Written {
     files: Vec<(Bytes, Content)>,
