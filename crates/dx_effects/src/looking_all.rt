@@ -1,5 +1,5 @@
 //! Looking at some arguments in order.
-ghost use Rattle.std.specs.Prelude.{◌≡◌, All, length, OnOk, IfOk};
+ghost use Rattle.std.specs.Prelude.{◌≡◌, [], All, length, OnOk, IfOk};
 ghost use Rattle.dx_io.specs.Devices.{Cause};
 ghost use Rattle.dx_graph.specs.Graph.{MayTake};
 ghost use Rattle.dx_tags.specs.Closed.{GoesOn};
@@ -17,6 +17,15 @@ use dx_graph::Input;
 use dx_io::Files;
 use dx_looking::{Cut, Looked, Progress, Setup, look};
 use dx_objects::Library;
+use dx_tags::ValueTags;
+use std::alloc::{AllocError, Global};
+
+/// No terms, with room for so many.
+fn room_for(alloc: Global, count: usize) -> Result<ValueTags, AllocError>
+    ensures { IfOk result (λ terms. terms ≡ []) }
+{
+    Ok(Items::from_vec(Vec::with_capacity(alloc, count)?))
+}
 
 /// Looks at some arguments in order, up to the first that forms no term. What is true of looking at one is true of them
 /// together. Where all have terms, they are settled with values; where a selector is refused, looking by what is told stops at that of
@@ -42,7 +51,7 @@ pub fn look_all<F: Files, L: Library>(
     ensures looks { FromHere setup.now L.answer (F.content files.old) at.old (told (L.done lib.old) (F.asked files.old)) (λ x k base s f. AllLookSo setup.now x k base (input_trees setup.now inputs.now) s f result at.new (told (L.done lib.new) (F.asked files.new))) }
     ensures alike { FromHere setup.now L.answer (F.content files.old) at.old (told (L.done lib.old) (F.asked files.old)) (λ x k base s f. AllNeedAlike setup.now x k (input_trees setup.now inputs.now) result at.new) }
 {
-    let mut terms = Items::from_vec(Vec::with_capacity(setup.alloc, inputs.len())?);
+    let mut terms = room_for(setup.alloc, inputs.len())?;
     for i in inputs {
         match look(i, setup, at, files, lib)? {
             Looked::Value(t) => terms.push(t)?,

@@ -29,13 +29,35 @@ loop-i-init g c = record {
   looking = c.requires.looking;
   goes_on = goes_on_same c.args.at.now.tags;
   valued = none_valued (answers_of c.args.at.now.seen.memo) c.args.inputs.now;
-  count = ap length c.new-terms.ensures;
-  arguments = subst (AreArguments c.args.at.now.tags) (sym c.new-terms.ensures) (no_arguments c.args.at.now.tags);
-  found = rw c.new-terms.ensures tt;
+  count = ap length c.in_ok-terms.ensures;
+  arguments = subst (AreArguments c.args.at.now.tags) (sym c.in_ok-terms.ensures) (no_arguments c.args.at.now.tags);
+  found = rw c.in_ok-terms.ensures tt;
   so_far = λ map told_map k links base s f st.
-      subst (λ ts. SoFar c.args.setup.now (fixed g.L.Library.answer map c.args.at.now.work.cache.budget) k base (input_trees c.args.setup.now c.args.inputs.now) (input_trees c.args.setup.now c.args.inputs.now) s f ts c.args.at.now (told (g.L.Library.done c.args.lib.now) (g.F.Files.asked c.args.files.now))) (sym c.new-terms.ensures)
+      subst (λ ts. SoFar c.args.setup.now (fixed g.L.Library.answer map c.args.at.now.work.cache.budget) k base (input_trees c.args.setup.now c.args.inputs.now) (input_trees c.args.setup.now c.args.inputs.now) s f ts c.args.at.now (told (g.L.Library.done c.args.lib.now) (g.F.Files.asked c.args.files.now))) (sym c.in_ok-terms.ensures)
       (begins c.args.setup.now (fixed g.L.Library.answer map c.args.at.now.work.cache.budget) k base (input_trees c.args.setup.now c.args.inputs.now) s f c.args.at.now (told (g.L.Library.done c.args.lib.now) (g.F.Files.asked c.args.files.now)) st);
 }
+
+pub returns-in_err-terms-clause-goes_on : goal.returns-in_err-terms-clause-goes_on
+returns-in_err-terms-clause-goes_on g c = goes_on_same c.args.at.now.tags
+
+pub returns-in_err-terms-clause-exact : goal.returns-in_err-terms-clause-exact
+returns-in_err-terms-clause-exact g c = c.requires.looking.exact
+
+pub returns-in_err-terms-clause-looks : goal.returns-in_err-terms-clause-looks
+returns-in_err-terms-clause-looks g c =
+    λ map told_map k links base s f st.
+    let setup = c.args.setup.now in
+    let whole = input_trees setup c.args.inputs.now in
+    let now = told (g.L.Library.done c.args.lib.now) (g.F.Files.asked c.args.files.now) in
+    let x = fixed g.L.Library.answer map c.args.at.now.work.cache.budget in
+    let p = err_from_is_err_and c.from_residual.result c.from_residual.ensures.1 in
+    rw p.1 (cut_so_far setup x k base whole whole s f [] c.args.at.now now Memory (begins setup x k base whole s f c.args.at.now now st))
+
+pub returns-in_err-terms-clause-alike : goal.returns-in_err-terms-clause-alike
+returns-in_err-terms-clause-alike g c =
+    λ map told_map k links base s f st.
+    let p = err_from_is_err_and c.from_residual.result c.from_residual.ensures.1 in
+    rw p.1 tt
 
 pub look-requires-clause-looking : goal.look-requires-clause-looking
 look-requires-clause-looking g c = c.loop-i.invariant.looking
@@ -53,7 +75,7 @@ returns-in_err-t-clause-looks g c =
     let whole = input_trees setup inputs in
     let rest = input_trees setup (drop (i + 1) inputs) in
     let so = next setup x k base whole inputs i c.i-item.result c.i-item.is c.loop-i-test.true s f c.loop-i.terms c.loop-i.at now (c.loop-i.invariant.so_far map told_map k links base s f st) in
-    let p = err_from_is_err_and c.from_residual.result c.from_residual.ensures.1 in
+    let p = err_from_is_err_and c.from_residual-in_err-t.result c.from_residual-in_err-t.ensures.1 in
     rw p.1 (cut_next setup x k base whole rest (input_tree setup c.i-item.result) s f c.loop-i.terms c.loop-i.at now so c.look.new.at now' c.in_err-t.field-0.0 (λ s1 st1. look_by setup g.L.Library.answer (g.F.Files.content c.loop-i.files) c.loop-i.at now (input_tree setup c.i-item.result) (Err c.in_err-t.field-0.0) (Err c.in_err-t.field-0.0) refl c.look.new.at now' c.in_err-t.ensures.looks map (c.loop-i.invariant.same ∙ told_map) b c.loop-i.invariant.budget k links base s1 so.formings st1))
 
 pub returns-in_err-push-in-Value-clause-looks : goal.returns-in_err-push-in-Value-clause-looks
@@ -203,7 +225,7 @@ returns-clause-alike g c = λ map told_map k links base s f st. tt
 pub returns-in_err-t-clause-alike : goal.returns-in_err-t-clause-alike
 returns-in_err-t-clause-alike g c =
     λ map told_map k links base s f st.
-    let p = err_from_is_err_and c.from_residual.result c.from_residual.ensures.1 in
+    let p = err_from_is_err_and c.from_residual-in_err-t.result c.from_residual-in_err-t.ensures.1 in
     rw p.1 tt
 
 pub returns-in_err-push-in-Value-clause-alike : goal.returns-in_err-push-in-Value-clause-alike
