@@ -70,7 +70,11 @@ const LARGE: &[Row<'static>] = &[
     Row {
         what: "two long texts that differ at their ends, and a text",
         session: &[
-            "a = \"", DIGITS, "\"; b = \"", DIGITS, "0\"; c = a; a = b; Echo(c); Echo(a); Echo(c); Echo(\"0\");",
+            "a = \"",
+            DIGITS,
+            "\"; b = \"",
+            DIGITS,
+            "0\"; c = a; a = b; Echo(c); Echo(a); Echo(c); Echo(\"0\");",
         ],
         printed: &[
             DIGITS,
