@@ -27,7 +27,7 @@ pub type Shape = Items<u32>;
 /// `ItemCount` and `RangeOfType`.
 #[derive(Clone, Copy, Debug, PartialEq, Eq, Error)]
 pub enum ArrayError {
-    /// A value of an item, or of the stored item of a constant array, is not of the type.
+    /// An item has a value outside the type, or the one item that a constant array stores has one.
     #[error("a value is outside its type")]
     RangeOfType,
     /// A list has another length than the shape or the counts ask for.
@@ -226,8 +226,8 @@ impl Array {
         })
     }
 
-    /// The cells of a grid with these counts of points: each item has the numbers of the cell's corner points in
-    /// ascending order.
+    /// The cells of a grid with these counts of points: each item gives the points at the corners of its cell by their
+    /// numbers, in ascending order.
     pub fn grid_connections(counts: Vec<u32>) -> Result<Array, ArrayError>
         ensures { Makes (record { elem = Int; extents = 2 ^ length counts.items ∷ []; class = spec.grid_connections counts.items }) result }
     {
@@ -311,7 +311,7 @@ impl Array {
         }
     }
 
-    /// The delta of a regular array, the deltas of a grid's points one after the other, and else nothing.
+    /// A regular array's delta; the deltas of a grid's points, one behind the other; and nothing for other classes.
     pub fn deltas(&self) -> &[i64]
         ensures { result.now ≡ spec.deltas_of self.now.class }
     {

@@ -17,7 +17,7 @@ abbrev pub members : List Text → PartList
 members [] = no_parts
 members (t ∷ rest) = part None (pos 0) (text t no_parts) (members rest)
 
--- NULL is no object; an integer is a number, a vector one item of rank 1, a list one item for each element
+-- NULL is no object; an integer is a number; a vector is a single item, of rank 1; a list has an item for each element
 abbrev pub value_of : Const → Option Tree
 value_of const.Null = None
 value_of (const.Int n) = Some (ints [] (n ∷ []))

@@ -67,7 +67,7 @@ abbrev pub stepping : ℕ → ℤ → ℤ → List ℤ
 stepping zero a d = []
 stepping (suc n) a d = a ∷ stepping n (a +ℤ d) d
 
--- a, a + d and so on, as long as they aren't past b in the direction of d
+-- those of a, a + d and so on that aren't past b in the direction of d, in this order
 unfoldable pub range : ℤ → ℤ → ℤ → List ℤ
 range a b d = stepping (range_count a b d) a d
 

@@ -6,7 +6,7 @@ use Rattle.dx_base.specs.Elem.{in_range}
 use Rattle.dx_base.specs.Array.{Class, plain, constant, regular, grid_positions, grid_connections, ArrayData, items, value}
 use Rattle.dx_base.specs.Object.{Tree, PartList, array, text, field, group, composite, series, no_parts, part}
 
--- a number is an array of rank 0 with one item, whatever its type and class
+-- an array is a number where its rank is 0 and it has one item, whatever its type and class
 abbrev pub is_number : ArrayData → Bool
 is_number a = length a.extents == 0 && items a == 1
 

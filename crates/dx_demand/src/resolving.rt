@@ -31,6 +31,18 @@ use std::alloc::{AllocError, Global};
 use std::mem;
 
 impl Seen {
+    /// Nothing of no graph, which takes no memory.
+    pub fn none(alloc: Global) -> Seen {
+        Seen {
+            memo: Memo {
+                answers: IndexMap::new(alloc),
+                selectors: Vec::new(alloc),
+                formed: IndexMap::new(alloc),
+            },
+            stack: Vec::new(alloc),
+        }
+    }
+
     /// Nothing is resolved of the graph yet.
     pub fn new(alloc: Global, g: &Graph) -> Result<Seen, AllocError>
         ensures fits { (terms : List Term) → IfOk result (λ seen. SeenFits (graph_of g.now).nodes terms seen) }

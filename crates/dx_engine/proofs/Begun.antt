@@ -34,7 +34,7 @@ use Rattle.dx_getting.specs.Terms.{BoundValues}
 use Rattle.dx_objects.specs.Runs.{Values}
 use Rattle.dx_engine.specs.Running.{RunsSo, ErrorFits, GatheredFits}
 use Rattle.dx_engine.specs.Keeping.{StateFits, kept_of, IsSoundState}
-use Rattle.dx_engine.specs.Beginning.{FromState, EffectsSo, NodeFits, GathersFit, IsFresh, taken_back}
+use Rattle.dx_engine.specs.Beginning.{FromState, EffectsSo, NodeFits, GathersFit, IsFresh, standing_at}
 use Rattle.dx_engine.specs.declared.gathered.Gathered.{Gathered}
 use Rattle.dx_engine.specs.declared.short.Short.{Short}
 use Rattle.dx_engine.specs.declared.state.State.{State}
@@ -56,21 +56,21 @@ pub record IsSetup (setup : Setup) (st : State) : Type 0 where
   pub held : setup.held.now ≡ st.held
   pub written : setup.written.now ≡ st.written
 
-module _ (setup : Setup) (st : State) (is : IsSetup setup st) (seen : Seen) (at : Progress) (fresh : IsFresh seen st.tags st.cache at) where
+module _ (setup : Setup) (st : State) (is : IsSetup setup st) (seen : Seen) (at : Progress) (fresh : IsFresh seen st.at.tags st.at.work.cache at) where
   -- what begins, in the words of what is kept
   abbrev at_first : Progress
-  at_first = record { tags = st.tags; seen = seen; told = at.told; work = record { cache = st.cache; known = at.work.known; events = at.work.events } }
+  at_first = record { tags = st.at.tags; seen = seen; told = at.told; work = record { cache = st.at.work.cache; known = at.work.known; events = at.work.events } }
 
   same : at ≡ at_first
   same = λ i. record { tags = fresh.tags i; seen = fresh.seen i; told = at.told; work = record { cache = fresh.cache i; known = at.work.known; events = at.work.events } }
 
-  pub looking_begun : StateFits st → SeenFits (nodes_in setup) st.tags seen → IsClosed setup.links.now.links st.tags seen → SeenRight (sight_in setup at_first) (nodes_in setup) st.tags seen → SeenFormed (sight_in setup at_first) (nodes_in setup) st.tags seen → SeenMet (sight_in setup at_first) (nodes_in setup) seen → IsLooking setup at
+  pub looking_begun : StateFits st → SeenFits (nodes_in setup) st.at.tags seen → IsClosed setup.links.now.links st.at.tags seen → SeenRight (sight_in setup at_first) (nodes_in setup) st.at.tags seen → SeenFormed (sight_in setup at_first) (nodes_in setup) st.at.tags seen → SeenMet (sight_in setup at_first) (nodes_in setup) seen → IsLooking setup at
   looking_begun f fits closed right formed met = subst (IsLooking setup) (sym same) (record {
     exact = f.exact;
-    links = subst (λ l. AllFit st.tags l.links) (sym is.links) f.links;
+    links = subst (λ l. AllFit st.at.tags l.links) (sym is.links) f.links;
     bound = subst (IsBound setup.links.now.links) (sym is.bound) (subst (λ l. IsBound l.links st.bound) (sym is.links) f.bound);
     entries = f.entries;
-    told = subst (AreValues st.tags) (sym fresh.told) tt;
+    told = subst (AreValues st.at.tags) (sym fresh.told) tt;
     fits = fits;
     closed = closed;
     right = right;
@@ -81,31 +81,31 @@ module _ (setup : Setup) (st : State) (is : IsSetup setup st) (seen : Seen) (at 
   -- the machine's state at the beginning
   pub stands_begun : (x : Fixed) → IsSoundState x st → seen.memo.formed.entries ≡ [] → (base : Told) → StandsAt setup x (kept_of st) base at base (begins (kept_of st)).state (begins (kept_of st)).formings
   stands_begun x sound uncalled base = subst (λ y. StandsAt setup x (kept_of st) base y base (begins (kept_of st)).state (begins (kept_of st)).formings) (sym same) (record {
-    kept = record { links = ap (λ l. links_of (heads_of st.tags) l.links) (sym is.links); values = values_first x sound; held = sym is.held; written = ap (λ w. w.files) (sym is.written) };
+    kept = record { links = ap (λ l. links_of (heads_of st.at.tags) l.links) (sym is.links); values = values_first x sound; held = sym is.held; written = ap (λ w. w.files) (sym is.written) };
     work = record {
       sound = record { entries = entries_first x sound; known = subst (KnownRight (setting_in setup at_first) (world x.answer x.file)) (sym fresh.known) tt };
       entries = refl;
-      known = ap (known_calls (heads_of st.tags)) (sym fresh.known);
+      known = ap (known_calls (heads_of st.at.tags)) (sym fresh.known);
       events = sym fresh.events;
       told = adds_none base;
     };
-    formings = ap (λ es. record { terms = named_terms st.tags; calls = map (called_at (nodes_in setup) (heads_of st.tags)) es }) uncalled;
+    formings = ap (λ es. record { terms = named_terms st.at.tags; calls = map (called_at (nodes_in setup) (heads_of st.at.tags)) es }) uncalled;
     sound = sound.sound;
-    told = subst (λ ts. AllDenote (around_of x (kept_of st)) (told_terms (heads_of st.tags) ts)) (sym fresh.told) tt;
-    ready = subst (λ ts. AllReady (frame_with x (kept_of st) []) (begins (kept_of st)).state (told_terms (heads_of st.tags) ts)) (sym fresh.told) tt;
+    told = subst (λ ts. AllDenote (around_of x (kept_of st)) (told_terms (heads_of st.at.tags) ts)) (sym fresh.told) tt;
+    ready = subst (λ ts. AllReady (frame_with x (kept_of st) []) (begins (kept_of st)).state (told_terms (heads_of st.at.tags) ts)) (sym fresh.told) tt;
   })
     where
       values_first : (x : Fixed) → IsSoundState x st → AreLinks setup.links.now.links setup.bound.now.pairs
       values_first x sound = subst (λ l. AreLinks l.links setup.bound.now.pairs) (sym is.links) (subst (λ b. AreLinks st.links.links b.pairs) (sym is.bound) sound.values)
 
-      entries_first : (x : Fixed) → IsSoundState x st → EntriesRight (setting_in setup at_first) (world x.answer x.file) st.cache.entries
-      entries_first x sound = entries_alike st.tags st.bound.pairs setup.bound.now.pairs st.held setup.held.now (sym is.held) [] (setting_in setup at_first).formed (world x.answer x.file) st.cache.entries sound.entries
+      entries_first : (x : Fixed) → IsSoundState x st → EntriesRight (setting_in setup at_first) (world x.answer x.file) st.at.work.cache.entries
+      entries_first x sound = entries_alike st.at.tags st.bound.pairs setup.bound.now.pairs st.held setup.held.now (sym is.held) [] (setting_in setup at_first).formed (world x.answer x.file) st.at.work.cache.entries sound.entries
 
 -- ---- at the end
 
 -- what the effects come to, in the words of what is kept
 pub effects_so : (setup : Setup) (st : State) (is : IsSetup setup st) (x : Fixed) (base : Told) (all : List CallTree) (before : Option (List ℕ)) (r : Result Gathered Short) (at : Progress) (now : Told) (written : Option (List ℕ)) →
-    RunsSo setup x (kept_of st) base all (begins (kept_of st)).state (begins (kept_of st)).formings before r at now written → EffectsSo x st all (nodes_in setup) base before r (taken_back st at) now written
+    RunsSo setup x (kept_of st) base all (begins (kept_of st)).state (begins (kept_of st)).formings before r at now written → EffectsSo x st all (nodes_in setup) base before r (standing_at st at) now written
 effects_so setup st is x base all before (Ok g) at now written h = record {
   printed = h.printed;
   exports = h.exports;
@@ -132,7 +132,7 @@ nothing_done x st all nodes base before (Err short) e st' =
 
 -- ---- what fits
 
-pub state_fits : (setup : Setup) (st : State) (is : IsSetup setup st) (r : Result Gathered Short) (at : Progress) → OnOk r (IsLooking setup at) → OnOk r (StateFits (taken_back st at))
+pub state_fits : (setup : Setup) (st : State) (is : IsSetup setup st) (r : Result Gathered Short) (at : Progress) → OnOk r (IsLooking setup at) → OnOk r (StateFits (standing_at st at))
 state_fits setup st is (Ok g) at l = record {
   exact = l.exact;
   links = subst (λ y. AllFit at.tags y.links) is.links l.links;
@@ -145,7 +145,7 @@ error_fits : (setup : Setup) (e : Option (ℕ × Code)) → ErrorFits setup e �
 error_fits setup None h = tt
 error_fits setup (Some e) h = h
 
-pub gathers_fit : (setup : Setup) (st : State) (r : Result Gathered Short) (at : Progress) → IfOk r (λ g. GatheredFits setup at g) → IfOk r (λ g. GathersFit (nodes_in setup) (taken_back st at) g)
+pub gathers_fit : (setup : Setup) (st : State) (r : Result Gathered Short) (at : Progress) → IfOk r (λ g. GatheredFits setup at g) → IfOk r (λ g. GathersFit (nodes_in setup) (standing_at st at) g)
 gathers_fit setup st (Ok g) at h = record { error = error_fits setup g.error h.error; changes = h.changes }
 gathers_fit setup st (Err short) at h = tt
 
@@ -154,11 +154,11 @@ abbrev pub RunsHere : Setup → List CallTree → Option (List ℕ) → Result G
 RunsHere setup all before r at now written x k base s f = RunsSo setup x k base all s f before r at now written
 
 -- from what is kept to what the effects come to
-pub effects_from : (setup : Setup) (st : State) (is : IsSetup setup st) (seen : Seen) (at : Progress) → IsFresh seen st.tags st.cache at → seen.memo.formed.entries ≡ [] → (answer : Answers) (content : Option InputFiles) (base : Told) (all : List CallTree) (before : Option (List ℕ)) (r : Result Gathered Short) (at' : Progress) (now : Told) (written : Option (List ℕ)) →
-    FromHere setup answer content at base (RunsHere setup all before r at' now written) → (st' : State) → st' ≡ taken_back st at' → FromState answer content st (λ x. EffectsSo x st all (nodes_in setup) base before r st' now written)
+pub effects_from : (setup : Setup) (st : State) (is : IsSetup setup st) (seen : Seen) (at : Progress) → IsFresh seen st.at.tags st.at.work.cache at → seen.memo.formed.entries ≡ [] → (answer : Answers) (content : Option InputFiles) (base : Told) (all : List CallTree) (before : Option (List ℕ)) (r : Result Gathered Short) (at' : Progress) (now : Told) (written : Option (List ℕ)) →
+    FromHere setup answer content at base (RunsHere setup all before r at' now written) → (st' : State) → st' ≡ standing_at st at' → FromState answer content st (λ x. EffectsSo x st all (nodes_in setup) base before r st' now written)
 effects_from setup st is seen at fresh uncalled answer content base all before r at' now written h st' e = λ map ec sound.
-    let x = fixed answer map st.cache.budget in
+    let x = fixed answer map st.at.work.cache.budget in
     subst (λ y. EffectsSo x st all (nodes_in setup) base before r y now written) (sym e)
     (effects_so setup st is x base all before r at' now written
-    (by_budget setup answer content at base (RunsHere setup all before r at' now written) h map ec st.cache.budget (ap (λ y. y.budget) fresh.cache) (kept_of st) sound.links base (begins (kept_of st)).state (begins (kept_of st)).formings
+    (by_budget setup answer content at base (RunsHere setup all before r at' now written) h map ec st.at.work.cache.budget (ap (λ y. y.budget) fresh.cache) (kept_of st) sound.links base (begins (kept_of st)).state (begins (kept_of st)).formings
     (stands_begun setup st is seen at fresh x sound uncalled base)))

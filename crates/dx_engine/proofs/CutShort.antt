@@ -39,15 +39,15 @@ module _ (st st1 st2 : State) (fits : StateFits st) (cut : IsCutFrom st st1) (go
   fits_then : StateFits st2
   fits_then = record {
     exact = subst AreExact (sym gone.tags) cut.exact;
-    links = subst (AllFit st2.tags) (sym links_are) (subst (λ terms. AllFit terms st.links.links) (sym gone.tags) (all_fit_grows st.tags st1.tags cut.goes_on st.links.links fits.links));
+    links = subst (AllFit st2.at.tags) (sym links_are) (subst (λ terms. AllFit terms st.links.links) (sym gone.tags) (all_fit_grows st.at.tags st1.at.tags cut.goes_on st.links.links fits.links));
     bound = bound_stays st.links.links st2.links.links st.bound st2.bound links_are pairs_are (ap (λ (t : Table). t.counts) gone.bound ∙ cut.counts) fits.bound;
-    entries = subst (AreCalls st2.tags) (sym gone.entries) tt;
+    entries = subst (AreCalls st2.at.tags) (sym gone.entries) tt;
   }
 
   terms_are : (kept_of st2).links ≡ (kept_of st).links
   terms_are =
       ap₂ links_of (ap heads_of gone.tags) links_are
-      ∙ links_same st.tags st1.tags cut.goes_on st.links.links fits.links
+      ∙ links_same st.at.tags st1.at.tags cut.goes_on st.links.links fits.links
 
   sound_then : (x : Fixed) → IsSoundState x st → IsSoundState x st2
   sound_then x s = record {
@@ -55,7 +55,7 @@ module _ (st st1 st2 : State) (fits : StateFits st) (cut : IsCutFrom st st1) (go
     links = subst (λ (a : Around). LinksRight a (kept_of st2).links) (sym (around_same x (kept_of st) (kept_of st2) (gone.held ∙ cut.held))) (subst (LinksRight (around_of x (kept_of st))) (sym terms_are) s.links);
     values = subst (λ (y : LinkMap). AreLinks y st2.bound.pairs) (sym links_are) (subst (AreLinks st.links.links) (sym pairs_are) s.values);
     entries = subst (EntriesRight (setting_of st2) (world x.answer x.file)) (sym gone.entries) tt;
-    sound = subst (λ es. IsSound (around_of x (kept_of st2)) x.budget (record { entries = map (named (heads_of st2.tags)) es; known = []; events = [] })) (sym gone.entries) (record { entries = tt; bounded = omega arith; known = tt });
+    sound = subst (λ es. IsSound (around_of x (kept_of st2)) x.budget (record { entries = map (named (heads_of st2.at.tags)) es; known = []; events = [] })) (sym gone.entries) (record { entries = tt; bounded = omega arith; known = tt });
   }
 
 -- ---- at a cut behind the last effect
@@ -64,12 +64,12 @@ abbrev SameBound : State → State → Type 0
 SameBound st1 st2 = (st2.bound.pairs ≡ st1.bound.pairs) × (st2.bound.counts ≡ st1.bound.counts)
 
 abbrev AreKept : State → State → Type 0
-AreKept st1 st2 = (st2.tags ≡ st1.tags) × (st2.held ≡ st1.held) × (st2.cache ≡ st1.cache)
+AreKept st1 st2 = (st2.at.tags ≡ st1.at.tags) × (st2.held ≡ st1.held) × (st2.at.work.cache ≡ st1.at.work.cache)
 
 then_kept : (st st1 st2 : State) → IsCutFrom st st1 → st2.links.links ≡ st1.links.links → SameBound st1 st2 → AreKept st1 st2 → IsCutFrom st st2
 then_kept st st1 st2 cut links bound same = record {
   exact = subst AreExact (sym same.0) cut.exact;
-  goes_on = subst (GoesOn st.tags) (sym same.0) cut.goes_on;
+  goes_on = subst (GoesOn st.at.tags) (sym same.0) cut.goes_on;
   links = links ∙ cut.links;
   bound = bound.0 ∙ cut.bound;
   counts = bound.1 ∙ cut.counts;
@@ -124,9 +124,9 @@ fits_behind_cut st st1 st2 (Err WriteFault) fits end cut same gone = fits_then s
 fits_behind_cut st st1 st2 (Err ExportFault) fits end cut same gone = fits_then st st1 st2 fits cut gone
 fits_behind_cut st st1 st2 (Err Memory) fits end cut same gone = fits_then st st1 st2 fits cut gone
 
-pub budget_behind : (st st1 st2 : State) (r : Result (Unit {0}) ExecError) → OnEnd r (st1.cache.budget ≡ st.cache.budget) → OnCut r (IsCutFrom st st1) → OnEnd r (st2 ≡ st1) → OnCut r (IsForgotten st1 st2) → st2.cache.budget ≡ st.cache.budget
-budget_behind st st1 st2 (Ok u) end cut same gone = ap (λ (s : State). s.cache.budget) same ∙ end
-budget_behind st st1 st2 (Err (Module site code)) end cut same gone = ap (λ (s : State). s.cache.budget) same ∙ end
+pub budget_behind : (st st1 st2 : State) (r : Result (Unit {0}) ExecError) → OnEnd r (st1.at.work.cache.budget ≡ st.at.work.cache.budget) → OnCut r (IsCutFrom st st1) → OnEnd r (st2 ≡ st1) → OnCut r (IsForgotten st1 st2) → st2.at.work.cache.budget ≡ st.at.work.cache.budget
+budget_behind st st1 st2 (Ok u) end cut same gone = ap (λ (s : State). s.at.work.cache.budget) same ∙ end
+budget_behind st st1 st2 (Err (Module site code)) end cut same gone = ap (λ (s : State). s.at.work.cache.budget) same ∙ end
 budget_behind st st1 st2 (Err ReadFault) end cut same gone = gone.budget ∙ cut.budget
 budget_behind st st1 st2 (Err WriteFault) end cut same gone = gone.budget ∙ cut.budget
 budget_behind st st1 st2 (Err ExportFault) end cut same gone = gone.budget ∙ cut.budget
@@ -140,7 +140,7 @@ links_behind_cut st st1 st2 (Err WriteFault) cut gone = ap (λ (l : Linked). l.l
 links_behind_cut st st1 st2 (Err ExportFault) cut gone = ap (λ (l : Linked). l.links) gone.links ∙ cut.links
 links_behind_cut st st1 st2 (Err Memory) cut gone = ap (λ (l : Linked). l.links) gone.links ∙ cut.links
 
-pub none_cached : (st1 st2 : State) (r : Result (Unit {0}) ExecError) → OnCut r (IsForgotten st1 st2) → OnCut r (st2.cache.entries ≡ [])
+pub none_cached : (st1 st2 : State) (r : Result (Unit {0}) ExecError) → OnCut r (IsForgotten st1 st2) → OnCut r (st2.at.work.cache.entries ≡ [])
 none_cached st1 st2 (Ok u) gone = tt
 none_cached st1 st2 (Err (Module site code)) gone = tt
 none_cached st1 st2 (Err ReadFault) gone = gone.entries

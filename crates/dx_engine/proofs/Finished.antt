@@ -141,7 +141,7 @@ bound_stays links links' bound bound' l p c b = record {
 }
 
 -- what is left of a state whose values and events are the same is left of it
-left_so : (st st2 st3 : State) (changes : List Change) (full : Bool) (links : LinkMap) → st2.bound.pairs ≡ st.bound.pairs → st2.tags ≡ st.tags → st2.held ≡ st.held → st2.cache ≡ st.cache → st2.events.items ≡ st.events.items → IsLeft st2 changes full links st3 → IsLeft st changes full links st3
+left_so : (st st2 st3 : State) (changes : List Change) (full : Bool) (links : LinkMap) → st2.bound.pairs ≡ st.bound.pairs → st2.at.tags ≡ st.at.tags → st2.held ≡ st.held → st2.at.work.cache ≡ st.at.work.cache → st2.at.work.events.items ≡ st.at.work.events.items → IsLeft st2 changes full links st3 → IsLeft st changes full links st3
 left_so st st2 st3 changes full links b t h c e left = record {
   links_are = left.links_are;
   bound = left.bound;
@@ -153,7 +153,7 @@ left_so st st2 st3 changes full links b t h c e left = record {
   events = left.events ∙ ap (λ (y : List Event). y ++ (if full then shown.Clear ∷ [] else [])) e;
 }
 
-pub left_behind : (st st2 st3 : State) (nodes : List Node) (g : Gathered) (site : Option (List ℕ × Code)) (failed : Bool) → SiteIs nodes g.error site → failed ≡ is_some site → st2.bound.pairs ≡ st.bound.pairs → st2.tags ≡ st.tags → st2.held ≡ st.held → st2.cache ≡ st.cache → st2.events.items ≡ st.events.items → IsLeft st2 g.changes (is_full (named_terms st.tags)) (links_behind st.links.links failed g.changes) st3 → LeavesSo st g st3
+pub left_behind : (st st2 st3 : State) (nodes : List Node) (g : Gathered) (site : Option (List ℕ × Code)) (failed : Bool) → SiteIs nodes g.error site → failed ≡ is_some site → st2.bound.pairs ≡ st.bound.pairs → st2.at.tags ≡ st.at.tags → st2.held ≡ st.held → st2.at.work.cache ≡ st.at.work.cache → st2.at.work.events.items ≡ st.at.work.events.items → IsLeft st2 g.changes (is_full (named_terms st.at.tags)) (links_behind st.links.links failed g.changes) st3 → LeavesSo st g st3
 left_behind st st2 st3 nodes g site failed s f b t h c e left =
-    subst (λ (was : Bool). IsLeft st g.changes (is_full (named_terms st.tags)) (links_behind st.links.links was g.changes) st3) (f ∙ site_tells nodes g.error site s)
-    (left_so st st2 st3 g.changes (is_full (named_terms st.tags)) (links_behind st.links.links failed g.changes) b t h c e left)
+    subst (λ (was : Bool). IsLeft st g.changes (is_full (named_terms st.at.tags)) (links_behind st.links.links was g.changes) st3) (f ∙ site_tells nodes g.error site s)
+    (left_so st st2 st3 g.changes (is_full (named_terms st.at.tags)) (links_behind st.links.links failed g.changes) b t h c e left)

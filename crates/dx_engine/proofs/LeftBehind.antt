@@ -32,7 +32,7 @@ pub record IsFinished (st st' : State) (g : Gathered) (st2 : State) : Type 0 whe
   pub bound : st'.bound ≡ st.bound
   pub held : st'.held ≡ st.held
   pub written : st'.written ≡ st.written
-  pub budget : st'.cache.budget ≡ st.cache.budget
+  pub budget : st'.at.work.cache.budget ≡ st.at.work.cache.budget
 
 module _ (st st' st2 : State) (g : Gathered) (ends : IsFinished st st' g st2) where
   links_are : links_left st' g ≡ links_left st g
@@ -41,27 +41,27 @@ module _ (st st' st2 : State) (g : Gathered) (ends : IsFinished st st' g st2) wh
   files_are : st2.written.files ≡ files_left st g
   files_are = ends.files ∙ ap (λ (files : FileMap). after_exports files (exports_of g.puts.items)) (ap (λ w. w.files) ends.written)
 
-  pub fits_left : StateFits st' → ChangesFit st'.tags g.changes → StateFits st2
+  pub fits_left : StateFits st' → ChangesFit st'.at.tags g.changes → StateFits st2
   fits_left f c =
-      fits_behind st st' st2 g (links_left st' g) (is_full (named_terms st'.tags))
+      fits_behind st st' st2 g (links_left st' g) (is_full (named_terms st'.at.tags))
       links_are ends.left.tags ends.left.links_are ends.left.held ends.left.entries files_are ends.held f ends.links c ends.left.bound
 
-  module _ (x : Fixed) (effects : List CallTree) (nodes : List Node) (base : Told) (before : Option (List ℕ)) (now : Told) (written : Option (List ℕ)) (are : EffectsAre x st effects nodes base before g st' now written) (fits : StateFits st) (on : GoesOn st.tags st'.tags) where
+  module _ (x : Fixed) (effects : List CallTree) (nodes : List Node) (base : Told) (before : Option (List ℕ)) (now : Told) (written : Option (List ℕ)) (are : EffectsAre x st effects nodes base before g st' now written) (fits : StateFits st) (on : GoesOn st.at.tags st'.at.tags) where
     pub kept_left : kept_of st2 ≡ (executed x effects (kept_of st)).kept
     kept_left =
-        kept_there st st' st2 g (links_left st' g) (is_full (named_terms st'.tags))
+        kept_there st st' st2 g (links_left st' g) (is_full (named_terms st'.at.tags))
         links_are ends.left.tags ends.left.links_are ends.left.held ends.left.entries files_are ends.held
         x effects nodes base before now written are fits on refl
 
     pub sound_left : IsSoundState x st → AreLawfulCalls effects → IsSoundState x st2
     sound_left sound lawful =
-        sound_there st st' st2 g (links_left st' g) (is_full (named_terms st'.tags))
+        sound_there st st' st2 g (links_left st' g) (is_full (named_terms st'.at.tags))
         links_are ends.left.tags ends.left.links_are ends.left.held ends.left.entries files_are ends.held
         x effects nodes base before now written are fits on refl sound lawful (ends.left.budget ∙ ends.budget) ends.left.bound
-        (subst (λ (t : Table). ValuesLeft t.pairs g.changes (is_full (named_terms st'.tags)) st2) ends.bound ends.left.values)
+        (subst (λ (t : Table). ValuesLeft t.pairs g.changes (is_full (named_terms st'.at.tags)) st2) ends.bound ends.left.values)
 
-    pub events_left : st2.events.items ≡ map shown_event (executed x effects (kept_of st)).events
-    events_left = events_behind x st st' effects nodes base before g now written are (is_full (named_terms st'.tags)) refl st2.events.items ends.left.events
+    pub events_left : st2.at.work.events.items ≡ map shown_event (executed x effects (kept_of st)).events
+    events_left = events_behind x st st' effects nodes base before g now written are (is_full (named_terms st'.at.tags)) refl st2.at.work.events.items ends.left.events
 
     pub told_left : Adds base now (tasks_of (executed x effects (kept_of st)).events)
     told_left = told_behind x st st' effects nodes base before g now written are

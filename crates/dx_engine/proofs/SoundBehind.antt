@@ -94,31 +94,31 @@ files_left st g = after_exports st.written.files (gathers g).exports
 
 -- without an emptying: from st on, whose effects left st'
 pub record IsCarried (st st' : State) (g : Gathered) (st2 : State) : Type 0 where
-  pub tags : st2.tags ≡ st'.tags
+  pub tags : st2.at.tags ≡ st'.at.tags
   pub links : st2.links.links ≡ links_left st g
   pub held : st2.held ≡ st.held
-  pub entries : st2.cache.entries ≡ st'.cache.entries
+  pub entries : st2.at.work.cache.entries ≡ st'.at.work.cache.entries
   pub written : st2.written.files ≡ files_left st g
 
 -- with an emptying
 pub record IsEmptied (st : State) (g : Gathered) (st2 : State) : Type 0 where
-  pub tags : st2.tags ≡ held_terms (length (links_left st g))
+  pub tags : st2.at.tags ≡ held_terms (length (links_left st g))
   pub links : st2.links.links ≡ all_held (links_left st g)
   pub held : st2.held ≡ values_held (links_left st g)
-  pub entries : st2.cache.entries ≡ []
+  pub entries : st2.at.work.cache.entries ≡ []
   pub written : st2.written.files ≡ files_left st g
 
 -- ---- it fits
 
-pub carried_fits : (st st' st2 : State) (g : Gathered) → StateFits st' → st'.links ≡ st.links → ChangesFit st'.tags g.changes → IsCarried st st' g st2 → IsBound st2.links.links st2.bound → StateFits st2
+pub carried_fits : (st st' st2 : State) (g : Gathered) → StateFits st' → st'.links ≡ st.links → ChangesFit st'.at.tags g.changes → IsCarried st st' g st2 → IsBound st2.links.links st2.bound → StateFits st2
 carried_fits st st' st2 g f same c is bound =
-    let links : AllFit st'.tags st.links.links = subst (λ (l : Linked). AllFit st'.tags l.links) same f.links in
-    let calls : AreCalls st'.tags st2.cache.entries = subst (AreCalls st'.tags) (sym is.entries) f.entries in
+    let links : AllFit st'.at.tags st.links.links = subst (λ (l : Linked). AllFit st'.at.tags l.links) same f.links in
+    let calls : AreCalls st'.at.tags st2.at.work.cache.entries = subst (AreCalls st'.at.tags) (sym is.entries) f.entries in
     record {
       exact = subst AreExact (sym is.tags) f.exact;
-      links = subst (λ ts. AllFit ts st2.links.links) (sym is.tags) (subst (AllFit st'.tags) (sym is.links) (behind_fits st'.tags st.links.links (is_some g.error) g.changes links c));
+      links = subst (λ ts. AllFit ts st2.links.links) (sym is.tags) (subst (AllFit st'.at.tags) (sym is.links) (behind_fits st'.at.tags st.links.links (is_some g.error) g.changes links c));
       bound = bound;
-      entries = subst (λ ts. AreCalls ts st2.cache.entries) (sym is.tags) calls;
+      entries = subst (λ ts. AreCalls ts st2.at.work.cache.entries) (sym is.tags) calls;
     }
 
 pub emptied_fits : (st st2 : State) (g : Gathered) → IsEmptied st g st2 → IsBound st2.links.links st2.bound → StateFits st2
@@ -128,7 +128,7 @@ emptied_fits st st2 g is bound =
       exact = subst AreExact (sym is.tags) (held_are_exact (length links));
       links = subst (λ ts. AllFit ts st2.links.links) (sym is.tags) (subst (AllFit (held_terms (length links))) (sym is.links) (held_fits links));
       bound = bound;
-      entries = subst (AreCalls st2.tags) (sym is.entries) tt;
+      entries = subst (AreCalls st2.at.tags) (sym is.entries) tt;
     }
 
 -- ---- it is what the machine keeps
@@ -140,28 +140,28 @@ some_error nodes (Some e) = refl
 -- what is kept with these links and files, and no emptying
 abbrev kept_with : State → LinkMap → FileMap → Values → Kept
 kept_with st links files held = record {
-  entries = map (named (heads_of st.tags)) st.cache.entries;
-  terms = named_terms st.tags;
-  links = links_of (heads_of st.tags) links;
+  entries = map (named (heads_of st.at.tags)) st.at.work.cache.entries;
+  terms = named_terms st.at.tags;
+  links = links_of (heads_of st.at.tags) links;
   held = held;
   written = files;
 }
 
-module _ (x : Fixed) (st st' st2 : State) (effects : List CallTree) (nodes : List Node) (base : Told) (before : Option (List ℕ)) (g : Gathered) (now : Told) (written : Option (List ℕ)) (are : EffectsAre x st effects nodes base before g st' now written) (fits : StateFits st) (on : GoesOn st.tags st'.tags) where
+module _ (x : Fixed) (st st' st2 : State) (effects : List CallTree) (nodes : List Node) (base : Told) (before : Option (List ℕ)) (g : Gathered) (now : Told) (written : Option (List ℕ)) (are : EffectsAre x st effects nodes base before g st' now written) (fits : StateFits st) (on : GoesOn st.at.tags st'.at.tags) where
   abbrev done : Kept
   done = committed (kept_of st) (execution (world_of x (kept_of st)) effects) (course_of x st effects)
 
-  links_grow : links_of (heads_of st'.tags) st.links.links ≡ (kept_of st).links
-  links_grow = links_same st.tags st'.tags on st.links.links fits.links
+  links_grow : links_of (heads_of st'.at.tags) st.links.links ≡ (kept_of st).links
+  links_grow = links_same st.at.tags st'.at.tags on st.links.links fits.links
 
-  links_there : (b : Bool) → links_of (heads_of st'.tags) (links_behind st.links.links b g.changes) ≡ (if b then (kept_of st).links else after_set_terms (kept_of st).links (course_of x st effects).sets)
+  links_there : (b : Bool) → links_of (heads_of st'.at.tags) (links_behind st.links.links b g.changes) ≡ (if b then (kept_of st).links else after_set_terms (kept_of st).links (course_of x st effects).sets)
   links_there true = links_grow
-  links_there false = sets_alike (heads_of st'.tags) st.links.links g.changes ∙ ap₂ after_set_terms links_grow are.sets
+  links_there false = sets_alike (heads_of st'.at.tags) st.links.links g.changes ∙ ap₂ after_set_terms links_grow are.sets
 
   error_there : is_some g.error ≡ is_some (execution (world_of x (kept_of st)) effects).error
   error_there = sym (some_error nodes g.error) ∙ ap is_some are.error
 
-  links_are : links_of (heads_of st'.tags) (links_left st g) ≡ done.links
+  links_are : links_of (heads_of st'.at.tags) (links_left st g) ≡ done.links
   links_are = links_there (is_some g.error) ∙ ap (λ (b : Bool). if b then (kept_of st).links else after_set_terms (kept_of st).links (course_of x st effects).sets) error_there
 
   files_are : files_left st g ≡ done.written
@@ -176,13 +176,13 @@ module _ (x : Fixed) (st st' st2 : State) (effects : List CallTree) (nodes : Lis
     written = files_are i;
   }
 
-  full_there : (b : Bool) → is_full (named_terms st'.tags) ≡ b → is_full done.terms ≡ b
+  full_there : (b : Bool) → is_full (named_terms st'.at.tags) ≡ b → is_full done.terms ≡ b
   full_there b full = ap is_full (sym are.terms) ∙ full
 
-  carried_so : is_full (named_terms st'.tags) ≡ false → unless_full done ≡ done
+  carried_so : is_full (named_terms st'.at.tags) ≡ false → unless_full done ≡ done
   carried_so full = ap (λ (b : Bool). if b then emptied done else done) (full_there false full)
 
-  emptied_so : is_full (named_terms st'.tags) ≡ true → unless_full done ≡ emptied done
+  emptied_so : is_full (named_terms st'.at.tags) ≡ true → unless_full done ≡ emptied done
   emptied_so full = ap (λ (b : Bool). if b then emptied done else done) (full_there true full)
 
   carried_is : IsCarried st st' g st2 → kept_of st2 ≡ kept_with st' (links_left st g) (files_left st g) st.held
@@ -203,11 +203,11 @@ module _ (x : Fixed) (st st' st2 : State) (effects : List CallTree) (nodes : Lis
     written = (is.written ∙ files_are) i;
   }
 
-  pub kept_carried : is_full (named_terms st'.tags) ≡ false → IsCarried st st' g st2 → kept_of st2 ≡ (executed x effects (kept_of st)).kept
+  pub kept_carried : is_full (named_terms st'.at.tags) ≡ false → IsCarried st st' g st2 → kept_of st2 ≡ (executed x effects (kept_of st)).kept
   kept_carried full is = carried_is is ∙ kept_behind ∙ sym (carried_so full)
 
-  pub kept_emptied : is_full (named_terms st'.tags) ≡ true → IsEmptied st g st2 → kept_of st2 ≡ (executed x effects (kept_of st)).kept
-  kept_emptied full is = emptied_is is ∙ sym (empties_alike (heads_of st'.tags) (links_left st g) done (sym links_are)) ∙ sym (emptied_so full)
+  pub kept_emptied : is_full (named_terms st'.at.tags) ≡ true → IsEmptied st g st2 → kept_of st2 ≡ (executed x effects (kept_of st)).kept
+  kept_emptied full is = emptied_is is ∙ sym (empties_alike (heads_of st'.at.tags) (links_left st g) done (sym links_are)) ∙ sym (emptied_so full)
 
 -- ---- it is sound
 
@@ -217,15 +217,15 @@ right_with : (terms : List Term) (held : Values) (links links' : BoundValues) (f
 right_with terms held links links' files [] h = tt
 right_with terms held links links' files (x ∷ xs) h = (h.0, right_with terms held links links' files xs h.1)
 
-pub right_carried : (st st' st2 : State) (g : Gathered) (files : World) → st'.held ≡ st.held → IsCarried st st' g st2 → EntriesRight (setting_of st') files st'.cache.entries → EntriesRight (setting_of st2) files st2.cache.entries
+pub right_carried : (st st' st2 : State) (g : Gathered) (files : World) → st'.held ≡ st.held → IsCarried st st' g st2 → EntriesRight (setting_of st') files st'.at.work.cache.entries → EntriesRight (setting_of st2) files st2.at.work.cache.entries
 right_carried st st' st2 g files same is right =
     let held : st'.held ≡ st2.held = same ∙ sym is.held in
     subst (λ (es : List Entry). EntriesRight (setting_of st2) files es) (sym is.entries)
-    (subst (λ (ts : List Term). EntriesRight (record { terms = ts; links = st2.bound.pairs; held = st2.held; formed = [] }) files st'.cache.entries) (sym is.tags)
-    (subst (λ (vs : Values). EntriesRight (record { terms = st'.tags; links = st2.bound.pairs; held = vs; formed = [] }) files st'.cache.entries) held
-    (right_with st'.tags st'.held st'.bound.pairs st2.bound.pairs files st'.cache.entries right)))
+    (subst (λ (ts : List Term). EntriesRight (record { terms = ts; links = st2.bound.pairs; held = st2.held; formed = [] }) files st'.at.work.cache.entries) (sym is.tags)
+    (subst (λ (vs : Values). EntriesRight (record { terms = st'.at.tags; links = st2.bound.pairs; held = vs; formed = [] }) files st'.at.work.cache.entries) held
+    (right_with st'.at.tags st'.held st'.bound.pairs st2.bound.pairs files st'.at.work.cache.entries right)))
 
-pub right_emptied : (st st2 : State) (g : Gathered) (files : World) → IsEmptied st g st2 → EntriesRight (setting_of st2) files st2.cache.entries
+pub right_emptied : (st st2 : State) (g : Gathered) (files : World) → IsEmptied st g st2 → EntriesRight (setting_of st2) files st2.at.work.cache.entries
 right_emptied st st2 g files is = subst (λ (es : List Entry). EntriesRight (setting_of st2) files es) (sym is.entries) tt
 
 pub around_same : (x : Fixed) (k k' : Kept) → k'.held ≡ k.held → around_of x k' ≡ around_of x k
@@ -236,7 +236,7 @@ right_behind : (x : Fixed) (st st2 : State) (effects : List CallTree) → IsSoun
 right_behind x st st2 effects sound kept = subst (λ (k : Kept). LinksRight (around_of x k) k.links) (sym kept) (links_stay_right x (kept_of st) effects sound.links)
 
 -- of what the machine keeps
-pub sound_behind : (x : Fixed) (st st2 : State) (effects : List CallTree) → IsSoundState x st → AreLawfulCalls effects → st2.cache.budget ≡ st.cache.budget → kept_of st2 ≡ (executed x effects (kept_of st)).kept → AreLinks st2.links.links st2.bound.pairs → EntriesRight (setting_of st2) (world x.answer x.file) st2.cache.entries → IsSoundState x st2
+pub sound_behind : (x : Fixed) (st st2 : State) (effects : List CallTree) → IsSoundState x st → AreLawfulCalls effects → st2.at.work.cache.budget ≡ st.at.work.cache.budget → kept_of st2 ≡ (executed x effects (kept_of st)).kept → AreLinks st2.links.links st2.bound.pairs → EntriesRight (setting_of st2) (world x.answer x.file) st2.at.work.cache.entries → IsSoundState x st2
 sound_behind x st st2 effects sound lawful budget kept values right = record {
   budget = sound.budget ∙ sym budget;
   links = right_behind x st st2 effects sound kept;
@@ -247,27 +247,27 @@ sound_behind x st st2 effects sound lawful budget kept values right = record {
 
 -- ---- all of it
 
-module _ (x : Fixed) (st st' st2 : State) (effects : List CallTree) (nodes : List Node) (base : Told) (before : Option (List ℕ)) (g : Gathered) (now : Told) (written : Option (List ℕ)) (are : EffectsAre x st effects nodes base before g st' now written) (fits : StateFits st) (on : GoesOn st.tags st'.tags) (sound : IsSoundState x st) (lawful : AreLawfulCalls effects) (budget : st2.cache.budget ≡ st.cache.budget) (bound : IsBound st2.links.links st2.bound) where
+module _ (x : Fixed) (st st' st2 : State) (effects : List CallTree) (nodes : List Node) (base : Told) (before : Option (List ℕ)) (g : Gathered) (now : Told) (written : Option (List ℕ)) (are : EffectsAre x st effects nodes base before g st' now written) (fits : StateFits st) (on : GoesOn st.at.tags st'.at.tags) (sound : IsSoundState x st) (lawful : AreLawfulCalls effects) (budget : st2.at.work.cache.budget ≡ st.at.work.cache.budget) (bound : IsBound st2.links.links st2.bound) where
   -- without an emptying the values are of links before, or of what was set
-  values_carried : is_full (named_terms st'.tags) ≡ false → IsCarried st st' g st2 → ComeFrom g.changes st.bound.pairs st2.bound.pairs → AreLinks st2.links.links st2.bound.pairs
+  values_carried : is_full (named_terms st'.at.tags) ≡ false → IsCarried st st' g st2 → ComeFrom g.changes st.bound.pairs st2.bound.pairs → AreLinks st2.links.links st2.bound.pairs
   values_carried full is from =
       let k = kept_of st in
       let a = around_of x k in
-      let right : LinksRight a (links_of (heads_of st2.tags) st2.links.links) =
+      let right : LinksRight a (links_of (heads_of st2.at.tags) st2.links.links) =
       subst (λ (b : Around). LinksRight b (kept_of st2).links) (around_same x k (kept_of st2) is.held)
       (right_behind x st st2 effects sound (kept_carried x st st' st2 effects nodes base before g now written are fits on full is)) in
-      values_behind a (heads_of st'.tags) st.links.links st2.links.links g.changes st.bound.pairs st2.bound sound.values
+      values_behind a (heads_of st'.at.tags) st.links.links st2.links.links g.changes st.bound.pairs st2.bound sound.values
       (subst (LinksRight a) (sym (links_grow x st st' st2 effects nodes base before g now written are fits on)) sound.links)
       (subst (SetsRight a) (sym are.sets) (sets_are_right x k effects sound.links))
       bound from
       (subst (λ (ts : List Term). LinksRight a (links_of (heads_of ts) st2.links.links)) is.tags right)
 
-  pub sound_carried : is_full (named_terms st'.tags) ≡ false → st'.held ≡ st.held → IsCarried st st' g st2 → ComeFrom g.changes st.bound.pairs st2.bound.pairs → IsSoundState x st2
+  pub sound_carried : is_full (named_terms st'.at.tags) ≡ false → st'.held ≡ st.held → IsCarried st st' g st2 → ComeFrom g.changes st.bound.pairs st2.bound.pairs → IsSoundState x st2
   sound_carried full held is from =
       sound_behind x st st2 effects sound lawful budget (kept_carried x st st' st2 effects nodes base before g now written are fits on full is)
       (values_carried full is from) (right_carried st st' st2 g (world x.answer x.file) held is are.right)
 
-  pub sound_emptied : is_full (named_terms st'.tags) ≡ true → IsEmptied st g st2 → AreLinks st2.links.links st2.bound.pairs → IsSoundState x st2
+  pub sound_emptied : is_full (named_terms st'.at.tags) ≡ true → IsEmptied st g st2 → AreLinks st2.links.links st2.bound.pairs → IsSoundState x st2
   sound_emptied full is values =
       sound_behind x st st2 effects sound lawful budget (kept_emptied x st st' st2 effects nodes base before g now written are fits on full is)
       values (right_emptied st st2 g (world x.answer x.file) is)
@@ -296,7 +296,7 @@ module _ (x : Fixed) (st st' : State) (effects : List CallTree) (nodes : List No
       by true = refl
       by false = refl
 
-  pub events_behind : (full : Bool) → is_full (named_terms st'.tags) ≡ full → (items : List ShownEvent) → items ≡ st'.events.items ++ (if full then shown.Clear ∷ [] else []) → items ≡ map shown_event (executed x effects (kept_of st)).events
+  pub events_behind : (full : Bool) → is_full (named_terms st'.at.tags) ≡ full → (items : List ShownEvent) → items ≡ st'.at.work.events.items ++ (if full then shown.Clear ∷ [] else []) → items ≡ map shown_event (executed x effects (kept_of st)).events
   events_behind full full_is items is =
       is
       ∙ ap₂ (λ (a b : List ShownEvent). a ++ b) are.events (sym (clearing_shown full (ap is_full (sym are.terms) ∙ full_is)))
@@ -314,42 +314,42 @@ current_behind x st st2 effects sound kept = ap current kept ∙ leaves_what_is_
 
 module _ (st st' st2 : State) (g : Gathered) (links : LinkMap) (full : Bool)
     (links_so : links ≡ links_left st g)
-    (tags_are : st2.tags ≡ (if full then held_terms (length links) else st'.tags))
+    (tags_are : st2.at.tags ≡ (if full then held_terms (length links) else st'.at.tags))
     (links_are : st2.links.links ≡ (if full then all_held links else links))
     (held_are : st2.held ≡ (if full then values_held links else st'.held))
-    (entries_are : st2.cache.entries ≡ (if full then [] else st'.cache.entries))
+    (entries_are : st2.at.work.cache.entries ≡ (if full then [] else st'.at.work.cache.entries))
     (written_is : st2.written.files ≡ files_left st g)
     (held_same : st'.held ≡ st.held) where
   is_carried : full ≡ false → IsCarried st st' g st2
   is_carried off = record {
-    tags = subst (λ (b : Bool). st2.tags ≡ (if b then held_terms (length links) else st'.tags)) off tags_are;
+    tags = subst (λ (b : Bool). st2.at.tags ≡ (if b then held_terms (length links) else st'.at.tags)) off tags_are;
     links = subst (λ (b : Bool). st2.links.links ≡ (if b then all_held links else links)) off links_are ∙ links_so;
     held = subst (λ (b : Bool). st2.held ≡ (if b then values_held links else st'.held)) off held_are ∙ held_same;
-    entries = subst (λ (b : Bool). st2.cache.entries ≡ (if b then [] else st'.cache.entries)) off entries_are;
+    entries = subst (λ (b : Bool). st2.at.work.cache.entries ≡ (if b then [] else st'.at.work.cache.entries)) off entries_are;
     written = written_is;
   }
 
   is_emptied : full ≡ true → IsEmptied st g st2
   is_emptied so = record {
-    tags = subst (λ (b : Bool). st2.tags ≡ (if b then held_terms (length links) else st'.tags)) so tags_are ∙ ap (λ (ls : LinkMap). held_terms (length ls)) links_so;
+    tags = subst (λ (b : Bool). st2.at.tags ≡ (if b then held_terms (length links) else st'.at.tags)) so tags_are ∙ ap (λ (ls : LinkMap). held_terms (length ls)) links_so;
     links = subst (λ (b : Bool). st2.links.links ≡ (if b then all_held links else links)) so links_are ∙ ap all_held links_so;
     held = subst (λ (b : Bool). st2.held ≡ (if b then values_held links else st'.held)) so held_are ∙ ap values_held links_so;
-    entries = subst (λ (b : Bool). st2.cache.entries ≡ (if b then [] else st'.cache.entries)) so entries_are;
+    entries = subst (λ (b : Bool). st2.at.work.cache.entries ≡ (if b then [] else st'.at.work.cache.entries)) so entries_are;
     written = written_is;
   }
 
-  pub fits_behind : StateFits st' → st'.links ≡ st.links → ChangesFit st'.tags g.changes → IsBound st2.links.links st2.bound → StateFits st2
+  pub fits_behind : StateFits st' → st'.links ≡ st.links → ChangesFit st'.at.tags g.changes → IsBound st2.links.links st2.bound → StateFits st2
   fits_behind f same c bound = cases full
       (λ so. emptied_fits st st2 g (is_emptied so) bound)
       (λ off. carried_fits st st' st2 g f same c (is_carried off) bound)
 
-  module _ (x : Fixed) (effects : List CallTree) (nodes : List Node) (base : Told) (before : Option (List ℕ)) (now : Told) (written : Option (List ℕ)) (are : EffectsAre x st effects nodes base before g st' now written) (fits : StateFits st) (on : GoesOn st.tags st'.tags) (full_is : is_full (named_terms st'.tags) ≡ full) where
+  module _ (x : Fixed) (effects : List CallTree) (nodes : List Node) (base : Told) (before : Option (List ℕ)) (now : Told) (written : Option (List ℕ)) (are : EffectsAre x st effects nodes base before g st' now written) (fits : StateFits st) (on : GoesOn st.at.tags st'.at.tags) (full_is : is_full (named_terms st'.at.tags) ≡ full) where
     pub kept_there : kept_of st2 ≡ (executed x effects (kept_of st)).kept
     kept_there = cases full
         (λ so. kept_emptied x st st' st2 effects nodes base before g now written are fits on (full_is ∙ so) (is_emptied so))
         (λ off. kept_carried x st st' st2 effects nodes base before g now written are fits on (full_is ∙ off) (is_carried off))
 
-    pub sound_there : IsSoundState x st → AreLawfulCalls effects → st2.cache.budget ≡ st.cache.budget → IsBound st2.links.links st2.bound → ValuesLeft st.bound.pairs g.changes full st2 → IsSoundState x st2
+    pub sound_there : IsSoundState x st → AreLawfulCalls effects → st2.at.work.cache.budget ≡ st.at.work.cache.budget → IsBound st2.links.links st2.bound → ValuesLeft st.bound.pairs g.changes full st2 → IsSoundState x st2
     sound_there sound lawful budget bound values = cases full
         (λ so. sound_emptied x st st' st2 effects nodes base before g now written are fits on sound lawful budget bound (full_is ∙ so) (is_emptied so) (values_at true so))
         (λ off. sound_carried x st st' st2 effects nodes base before g now written are fits on sound lawful budget bound (full_is ∙ off) held_same (is_carried off) (values_at false off))

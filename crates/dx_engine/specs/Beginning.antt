@@ -28,7 +28,7 @@ use Rattle.dx_looking.specs.declared.progress.Progress.{Progress}
 
 -- for files that tell their content, and a sound state
 abbrev pub FromState : Answers → Option InputFiles → State → (Fixed → Type 0) → Type 0
-FromState answer content st P = (map : InputFiles) → content ≡ Some map → IsSoundState (fixed answer map st.cache.budget) st → P (fixed answer map st.cache.budget)
+FromState answer content st P = (map : InputFiles) → content ≡ Some map → IsSoundState (fixed answer map st.at.work.cache.budget) st → P (fixed answer map st.at.work.cache.budget)
 
 abbrev pub course_of : Fixed → State → List CallTree → At
 course_of x st effects = course x (kept_of st) effects (begins (kept_of st))
@@ -38,12 +38,12 @@ pub record EffectsAre (x : Fixed) (st : State) (effects : List CallTree) (nodes 
   pub printed : Grows before written (execution (world_of x (kept_of st)) effects).printed
   pub exports : (gathers g).exports ≡ (execution (world_of x (kept_of st)) effects).exports
   pub error : error_of nodes g.error ≡ (execution (world_of x (kept_of st)) effects).error
-  pub sets : set_terms_of (heads_of st'.tags) g.changes ≡ (course_of x st effects).sets
-  pub terms : named_terms st'.tags ≡ (course_of x st effects).formings.terms
-  pub entries : map (named (heads_of st'.tags)) st'.cache.entries ≡ (course_of x st effects).state.entries
-  pub events : st'.events.items ≡ map shown_event (course_of x st effects).state.events
+  pub sets : set_terms_of (heads_of st'.at.tags) g.changes ≡ (course_of x st effects).sets
+  pub terms : named_terms st'.at.tags ≡ (course_of x st effects).formings.terms
+  pub entries : map (named (heads_of st'.at.tags)) st'.at.work.cache.entries ≡ (course_of x st effects).state.entries
+  pub events : st'.at.work.events.items ≡ map shown_event (course_of x st effects).state.events
   pub told : Adds base now (tasks_of (course_of x st effects).state.events)
-  pub right : EntriesRight (setting_of st') (world x.answer x.file) st'.cache.entries
+  pub right : EntriesRight (setting_of st') (world x.answer x.file) st'.at.work.cache.entries
   pub sound : IsSound (around_of x (kept_of st)) x.budget (course_of x st effects).state
 
 -- a front was printed, and of the machine's runs a front was told
@@ -63,7 +63,7 @@ NodeFits nodes (Some e) = e.0 < length nodes
 
 pub record GathersFit (nodes : List Node) (st : State) (g : Gathered) : Type 0 where
   pub error : NodeFits nodes g.error
-  pub changes : ChangesFit st.tags g.changes
+  pub changes : ChangesFit st.at.tags g.changes
 
 -- ---- in code
 
@@ -76,6 +76,6 @@ pub record IsFresh (what : Seen) (terms : List Term) (entries : Cached) (at : Pr
   pub known : at.work.known.calls ≡ []
   pub events : at.work.events.items ≡ []
 
--- the terms, the cache and the events are those of the work
-abbrev pub taken_back : State → Progress → State
-taken_back st at = record { tags = at.tags; links = st.links; bound = st.bound; held = st.held; cache = at.work.cache; written = st.written; events = at.work.events }
+-- it stands at this, and the rest is as before
+abbrev pub standing_at : State → Progress → State
+standing_at st at = record { at = at; links = st.links; bound = st.bound; held = st.held; written = st.written }

@@ -6,19 +6,19 @@ use Rattle.dx_engine.specs.declared.state.State.{State}
 
 -- further terms may be there, and results be cached or dropped; links, held values and the budget are as before
 pub record IsCutFrom (old new : State) : Type 0 where
-  pub exact : AreExact new.tags
-  pub goes_on : GoesOn old.tags new.tags
+  pub exact : AreExact new.at.tags
+  pub goes_on : GoesOn old.at.tags new.at.tags
   pub links : new.links.links ≡ old.links.links
   pub bound : new.bound.pairs ≡ old.bound.pairs
   pub counts : new.bound.counts ≡ old.bound.counts
   pub held : new.held ≡ old.held
-  pub budget : new.cache.budget ≡ old.cache.budget
+  pub budget : new.at.work.cache.budget ≡ old.at.work.cache.budget
 
 -- no result is cached any more, and all else is as it was
 pub record IsForgotten (old new : State) : Type 0 where
-  pub entries : new.cache.entries ≡ []
-  pub budget : new.cache.budget ≡ old.cache.budget
-  pub tags : new.tags ≡ old.tags
+  pub entries : new.at.work.cache.entries ≡ []
+  pub budget : new.at.work.cache.budget ≡ old.at.work.cache.budget
+  pub tags : new.at.tags ≡ old.at.tags
   pub links : new.links ≡ old.links
   pub bound : new.bound ≡ old.bound
   pub held : new.held ≡ old.held

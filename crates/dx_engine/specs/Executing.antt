@@ -38,7 +38,7 @@ pub record IsExecuted (x : Fixed) (st : State) (effects : List CallTree) (was : 
   pub puts : Grows was.puts now.puts (execution (world_of x (kept_of st)) effects).exports
   pub error : EndsIn (execution (world_of x (kept_of st)) effects).error result
   pub told : Adds was.told now.told (tasks_of (executed x effects (kept_of st)).events)
-  pub events : st'.events.items ≡ map shown_event (executed x effects (kept_of st)).events
+  pub events : st'.at.work.events.items ≡ map shown_event (executed x effects (kept_of st)).events
   pub kept : kept_of st' ≡ (executed x effects (kept_of st)).kept
   pub current : current (kept_of st') ≡ behind (execution (world_of x (kept_of st)) effects) (current (kept_of st))
   pub sound : IsSoundState x st'

@@ -16,30 +16,30 @@ use Rattle.dx_engine.specs.declared.state.State.{State}
 
 -- the terms, links and entries fit together
 pub record StateFits (st : State) : Type 0 where
-  pub exact : AreExact st.tags
-  pub links : AllFit st.tags st.links.links
+  pub exact : AreExact st.at.tags
+  pub links : AllFit st.at.tags st.links.links
   pub bound : IsBound st.links.links st.bound
-  pub entries : AreCalls st.tags st.cache.entries
+  pub entries : AreCalls st.at.tags st.at.work.cache.entries
 
 -- it is this to the machine
 abbrev pub kept_of : State → Kept
 kept_of st = record {
-  entries = map (named (heads_of st.tags)) st.cache.entries;
-  terms = named_terms st.tags;
-  links = links_of (heads_of st.tags) st.links.links;
+  entries = map (named (heads_of st.at.tags)) st.at.work.cache.entries;
+  terms = named_terms st.at.tags;
+  links = links_of (heads_of st.at.tags) st.links.links;
   held = st.held;
   written = st.written.files;
 }
 
 -- its terms and held values, for getting
 abbrev pub setting_of : State → Setting
-setting_of st = record { terms = st.tags; links = st.bound.pairs; held = st.held; formed = [] }
+setting_of st = record { terms = st.at.tags; links = st.bound.pairs; held = st.held; formed = [] }
 
 -- for what modules answer, the files and the budget: each link's value is what its term denotes, what is found by a term is the
 -- value of a link, each entry has the results that its call denotes, and the entries are sound
 pub record IsSoundState (x : Fixed) (st : State) : Type 0 where
-  pub budget : x.budget ≡ st.cache.budget
+  pub budget : x.budget ≡ st.at.work.cache.budget
   pub links : LinksRight (around_of x (kept_of st)) (kept_of st).links
   pub values : AreLinks st.links.links st.bound.pairs
-  pub entries : EntriesRight (setting_of st) (world x.answer x.file) st.cache.entries
+  pub entries : EntriesRight (setting_of st) (world x.answer x.file) st.at.work.cache.entries
   pub sound : IsSound (around_of x (kept_of st)) x.budget (begins (kept_of st)).state

@@ -51,12 +51,12 @@ pub record IsLeft (st : State) (changes : List Change) (full : Bool) (links : Li
   pub links_are : st'.links.links ≡ (if full then all_held links else links)
   pub bound : IsBound st'.links.links st'.bound
   pub values : ValuesLeft st.bound.pairs changes full st'
-  pub tags : st'.tags ≡ (if full then held_terms (length links) else st.tags)
+  pub tags : st'.at.tags ≡ (if full then held_terms (length links) else st.at.tags)
   pub held : st'.held ≡ (if full then values_held links else st.held)
-  pub entries : st'.cache.entries ≡ (if full then [] else st.cache.entries)
-  pub budget : st'.cache.budget ≡ st.cache.budget
-  pub events : st'.events.items ≡ st.events.items ++ (if full then shown.Clear ∷ [] else [])
+  pub entries : st'.at.work.cache.entries ≡ (if full then [] else st.at.work.cache.entries)
+  pub budget : st'.at.work.cache.budget ≡ st.at.work.cache.budget
+  pub events : st'.at.work.events.items ≡ st.at.work.events.items ++ (if full then shown.Clear ∷ [] else [])
 
 -- behind effects that gathered this
 abbrev pub LeavesSo : State → Gathered → State → Type 0
-LeavesSo st g st' = IsLeft st g.changes (is_full (named_terms st.tags)) (links_behind st.links.links (is_some g.error) g.changes) st'
+LeavesSo st g st' = IsLeft st g.changes (is_full (named_terms st.at.tags)) (links_behind st.links.links (is_some g.error) g.changes) st'

@@ -36,7 +36,7 @@ impl State {
         ensures write_cause { Cause WriteFault (O.faults out.old) (O.faults out.new) result }
         ensures export_cause { Cause ExportFault (X.faults exports.old) (X.faults exports.new) result }
         ensures fits { OnEnd result (StateFits self.new) }
-        ensures budget { OnEnd result (self.new.cache.budget ≡ self.old.cache.budget) }
+        ensures budget { OnEnd result (self.new.at.work.cache.budget ≡ self.old.at.work.cache.budget) }
         ensures cut { OnCut result (IsCutFrom self.old self.new) }
         ensures written { HasPut (X.puts exports.old) (X.puts exports.new) self.old.written.files self.new.written.files }
         ensures executes { FromState L.answer (F.content files.old) self.old (λ x. ExecutesSo x self.old (unfolded (graph_of g.now)) (record { told = told (L.done lib.old) (F.asked files.old); written = O.written out.old; puts = X.puts exports.old }) result self.new (record { told = told (L.done lib.new) (F.asked files.new); written = O.written out.new; puts = X.puts exports.new })) }
@@ -52,7 +52,7 @@ impl State {
     {
         match ended {
             Ok(()) | Err(ExecError::Module(_, _)) => {}
-            Err(_) => self.cache.clear(),
+            Err(_) => self.at.work.cache.clear(),
         }
     }
 }

@@ -52,7 +52,7 @@ impl State {
     fn keep(&mut self, prepared: Prepared)
         requires bound { IsBound self.old.links.links self.old.bound }
         requires ready { PreparedReady self.old.links self.old.bound prepared }
-        requires room { vec_len self.old.events < vec_capacity self.old.events }
+        requires room { vec_len self.old.at.work.events < vec_capacity self.old.at.work.events }
         ensures left { (changes : List Change) (full : Bool) (behind : LinkMap) → PreparedSo self.old.links.links changes full behind prepared → IsLeft self.old changes full behind self.new }
         ensures written { self.new.written ≡ self.old.written }
     {
@@ -63,10 +63,10 @@ impl State {
                 empty(
                     next.emptied,
                     &mut self.links,
-                    &mut self.tags,
+                    &mut self.at.tags,
                     &mut self.held,
-                    &mut self.cache,
-                    &mut self.events,
+                    &mut self.at.work.cache,
+                    &mut self.at.work.events,
                 );
                 self.bound = next.bound;
             }
@@ -89,7 +89,7 @@ impl State {
         ensures cut { CutsPuts result (X.puts exports.old) (X.puts exports.new) self.old.written.files self.new.written.files (exports_of gathered.puts.items) }
         ensures links { OnCut result (self.new.links.links ≡ self.old.links.links) }
         ensures bound { OnCut result ((self.new.bound.pairs ≡ self.old.bound.pairs) × (self.new.bound.counts ≡ self.old.bound.counts)) }
-        ensures same { OnCut result ((self.new.tags ≡ self.old.tags) × (self.new.held ≡ self.old.held) × (self.new.cache ≡ self.old.cache)) }
+        ensures same { OnCut result ((self.new.at.tags ≡ self.old.at.tags) × (self.new.held ≡ self.old.held) × (self.new.at.work.cache ≡ self.old.at.work.cache)) }
         ensures faults { ¬ (result ≡ Err ReadFault) × ¬ (result ≡ Err WriteFault) }
         ensures cause { Cause ExportFault (X.faults exports.old) (X.faults exports.new) result }
     {
@@ -99,12 +99,12 @@ impl State {
             alloc,
             &mut self.links,
             &mut self.bound,
-            &self.tags,
+            &self.at.tags,
             failed,
             gathered.changes,
         )?;
         self.written.reserve(gathered.puts.len())?;
-        self.events.reserve(1)?;
+        self.at.work.events.reserve(1)?;
         make_puts(alloc, gathered.puts, exports, &mut self.written)?;
         self.keep(prepared);
         ended(site)

@@ -45,9 +45,9 @@ impl State {
         ensures write_cause { Cause WriteFault (O.faults out.old) (O.faults out.new) result }
         ensures export_cause { Cause ExportFault (X.faults exports.old) (X.faults exports.new) result }
         ensures fits { StateFits self.new }
-        ensures budget { self.new.cache.budget ≡ self.old.cache.budget }
+        ensures budget { self.new.at.work.cache.budget ≡ self.old.at.work.cache.budget }
         ensures links { OnCut result (self.new.links.links ≡ self.old.links.links) }
-        ensures forgets { OnCut result (self.new.cache.entries ≡ []) }
+        ensures forgets { OnCut result (self.new.at.work.cache.entries ≡ []) }
         ensures sound { FromState L.answer (F.content files.old) self.old (λ x. IsSoundState x self.new) }
         ensures written { HasPut (X.puts exports.old) (X.puts exports.new) self.old.written.files self.new.written.files }
         ensures executes { FromState L.answer (F.content files.old) self.old (λ x. ExecutesSo x self.old (unfolded (graph_of g.now)) (record { told = told (L.done lib.old) (F.asked files.old); written = O.written out.old; puts = X.puts exports.old }) result self.new (record { told = told (L.done lib.new) (F.asked files.new); written = O.written out.new; puts = X.puts exports.new })) }

@@ -6,23 +6,24 @@ ghost use Rattle.dx_performing.specs.Course.{Fixed};
 ghost use Rattle.dx_performing.specs.Kept.{new as none_kept};
 
 use dx_cache::Cache;
-use dx_getting::{Bound, Event};
+use dx_demand::Seen;
+use dx_getting::{Bound, Event, Known, Work};
 use dx_links::Links;
+use dx_looking::{Progress, ToldValues};
 use dx_objects::Outs;
 use dx_tags::{Tags, Written};
 use std::alloc::Global;
 
-/// The terms that were formed, the links and their values by their terms, the values held since the last emptying, the cache, the
-/// files that were written, and the events of the last execution.
+/// What is kept: the terms that were formed, the cache and the events of the last execution, with all that it saw on its way, which
+/// counts for nothing; the links and their values by their terms; the values held since the last emptying; and the files that were
+/// written.
 #[derive(Drop)]
 pub struct State {
-    pub(crate) tags: Tags,
+    pub(crate) at: Progress,
     pub(crate) links: Links,
     pub(crate) bound: Bound,
     pub(crate) held: Outs,
-    pub(crate) cache: Cache,
     pub(crate) written: Written,
-    pub(crate) events: Vec<Event>,
 }
 
 impl State {
@@ -35,20 +36,27 @@ impl State {
         ensures events { result.events.items ≡ [] }
     {
         State {
-            tags: Tags::new(alloc),
+            at: Progress {
+                tags: Tags::new(alloc),
+                seen: Seen::none(alloc),
+                told: ToldValues::new(alloc),
+                work: Work {
+                    cache: Cache::new(alloc, budget),
+                    known: Known::new(alloc),
+                    events: Vec::new(alloc),
+                },
+            },
             links: Links::new(alloc),
             bound: Bound::new(alloc),
             held: Outs::new(alloc),
-            cache: Cache::new(alloc, budget),
             written: Written::new(alloc),
-            events: Vec::new(alloc),
         }
     }
     /// The events of the last execution, in order.
     pub fn events(&self) -> &[Event]
-        ensures { result.now ≡ self.now.events.items }
+        ensures { result.now ≡ self.now.at.work.events.items }
     {
-        self.events.as_slice()
+        self.at.work.events.as_slice()
     }
 
     /// What is linked, with the terms of the values.
@@ -67,9 +75,9 @@ impl State {
 
     /// The sum of the stated sizes of the cached results, in bytes.
     pub fn used(&self) -> u64
-        ensures used { result ≡ total self.now.cache.entries }
-        ensures bounded { result ≤ self.now.cache.budget }
+        ensures used { result ≡ total self.now.at.work.cache.entries }
+        ensures bounded { result ≤ self.now.at.work.cache.budget }
     {
-        self.cache.used()
+        self.at.work.cache.used()
     }
 }

@@ -5,8 +5,8 @@ use thiserror::Error;
 /// Why a text gives no expression.
 #[derive(Debug, Drop, Error)]
 pub enum ExprFail {
-    /// The text is no expression. This is the offset in bytes of the first token with which no expression goes on, or
-    /// of the text's end. A text of more than 4,096 bytes is refused at byte 4,096 at the latest.
+    /// The text is no expression. This is the offset in bytes of the first token that follows those before it in no
+    /// expression, or of the end of the text. A text of more than 4,096 bytes is refused at byte 4,096 at the latest.
     #[error("no expression at byte {0}")]
     Refused(u64),
     /// Memory ran out.

@@ -153,11 +153,11 @@ as_it_was = refl
 pub redefined : shown (record { macros = with_macro (giving (int 8)) (one_macro (giving (Name (codes "a")))); definitions = y ∷ [] }) echo_y ≡ (echo, (Nth (codes "Echo") 1 ∷ []), [], ints (8 ∷ [])) ∷ []
 redefined = refl
 
--- so it can have a fault that it hadn't when it joined, and its site begins with its target
+-- so a definition that joined without a fault can come to have one, whose site begins with the definition's target
 pub redefined_fault : fault_shown (record { macros = with_macro (macro (codes "m") [] [] []) (one_macro (giving (int 8))); definitions = y ∷ [] }) echo_y ≡ Some ((Target (codes "y") ∷ Nth (codes "m") 1 ∷ []), fault.TooManyArguments)
 redefined_fault = refl
 
--- ---- a definition keeps the meaning of the names that it read
+-- ---- the names in a definition mean what they meant where it was made
 
 -- `p = 3; y = p; p = 100; z = @frame;`
 abbrev kept : Dictionary

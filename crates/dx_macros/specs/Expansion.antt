@@ -94,8 +94,8 @@ or_tree None u = u
 abbrev pub given_for : List Given → ℕ → Text → Option Tree
 given_for gs i p = or_else (given_by_place gs i) (given_by_name gs p)
 
--- the arguments of a function: its named parameters, an omitted one being NULL, then the further arguments, as many as
--- may follow
+-- the arguments of a function: for each named parameter what is given for it, or NULL; behind them the further arguments,
+-- as many as may follow
 abbrev pub further : ℕ → List Given → Trees
 further more [] = NoTree
 further zero (g ∷ rest) = NoTree
@@ -119,7 +119,7 @@ abbrev pub assigned : List Text → ℕ → (ℕ → Tree) → Scope → Scope
 assigned [] i result scope = scope
 assigned (t ∷ rest) i result scope = assigned rest (suc i) result (with_name t (result i) scope)
 
--- a parameter that a call omits has its default, else NULL
+-- a parameter means what the call gives for it, or else its default, or else NULL
 abbrev pub with_params : List Param → ℕ → List Given → Scope → Scope
 with_params [] i gs scope = scope
 with_params (p ∷ rest) i gs scope =
@@ -173,7 +173,7 @@ abbrev mutual
   expand_call u spot scope before (MakeCall name cache args) =
       call_expanded u spot (next_step name before) cache (callee u.macros name) (expand_args u spot scope (before ++ name ∷ []) args)
 
-  -- a call that stands as an argument means its first result
+  -- of a call in an argument the first result counts
   pub expand_args : Under → Spot → Scope → List Text → Args → ArgsExpanded
   expand_args u spot scope before NoArg = record { given = []; kept = [] }
   expand_args u spot scope before (AndArg n e rest) =
@@ -192,7 +192,7 @@ abbrev pub scope_after : Scope → Stmt → (ℕ → Tree) → Scope
 scope_after scope (Assigns targets e) result = assigned targets 0 result scope
 scope_after scope other result = scope
 
--- a result of a macro is what its name means at the end of the body
+-- the results of a macro are what their names mean behind its last statement
 abbrev pub results_in : List Text → Scope → ℕ → Tree
 results_in [] scope i = null_tree
 results_in (r ∷ rest) scope zero = scope r

@@ -50,7 +50,7 @@ enter_callee u base (CallsFunction f) w = Goes w
 
 -- `base` are the steps that lead to the text, `before` the calls that stand before in it
 abbrev mutual
-  -- a call is counted and checked; then its arguments are walked in order; then, for a macro, its body
+  -- first the call itself is counted and its fault looked for; then come its arguments in order, and last the body of a called macro
   pub walk_call : WalkUnder → List Step → Reader → List Text → ℕ → Call → Walk → Walked
   walk_call u base read before targets (MakeCall name cache args) w =
       let step = next_step name before in

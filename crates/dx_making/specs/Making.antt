@@ -20,8 +20,8 @@ use Rattle.dx_making.specs.declared.failing.Failing.TheVariants.{Faulty, Refused
 
 -- nothing happens where there is a static fault, and else the state tells what happened
 abbrev pub EventsAre : Option Failing → State → List Event → Type 0
-EventsAre None st events = st.events.items ≡ map shown_event events
-EventsAre (Some (Refused site code)) st events = st.events.items ≡ map shown_event events
+EventsAre None st events = st.at.work.events.items ≡ map shown_event events
+EventsAre (Some (Refused site code)) st events = st.at.work.events.items ≡ map shown_event events
 EventsAre (Some (Faulty site fault)) st events = events ≡ []
 
 -- it was made whole

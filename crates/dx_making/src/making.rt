@@ -53,7 +53,7 @@ pub fn make<F: Files, X: Exports, O: Sink, L: Library>(
     ensures export_cause { Cause ExportFault (X.faults exports.old) (X.faults exports.new) result }
     ensures faulty { IfOk result (λ failing. is_faulty failing ≡ is_some (first_fault (dictionary_of d.now) (plain_stmt s.now))) }
     ensures fits { StateFits state.new }
-    ensures budget { state.new.cache.budget ≡ state.old.cache.budget }
+    ensures budget { state.new.at.work.cache.budget ≡ state.old.at.work.cache.budget }
     ensures sound { FromState L.answer (F.content files.old) state.old (λ x. IsSoundState x state.new) }
     ensures links { OnErr result (state.new.links.links ≡ state.old.links.links) }
     ensures written { HasPut (X.puts exports.old) (X.puts exports.new) state.old.written.files state.new.written.files }

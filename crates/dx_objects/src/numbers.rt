@@ -35,7 +35,7 @@ fn number_of(array: &Array) -> Option<i64>
     }
 }
 
-/// What a module answers for a number: a plain number of type int, or NULL where the number is no int.
+/// What a module answers for a number: where it is an int, a plain number of type int; and else NULL.
 pub fn number(alloc: Global, n: i64) -> Result<Value, AllocError>
     ensures { IfOk result (λ v. value_of v ≡ spec.number_value n) }
 {

@@ -55,7 +55,7 @@ use Rattle.dx_sessions.proofs.Folding.{cut_in_one}
 
 pub over_from : (answer : Answers) (content : Option InputFiles) (st : State) (P : Fixed → Type 0) → FromState answer content st P → OverSound answer content st P
 over_from answer content st P from x answers files sound =
-    let same : fixed answer x.file st.cache.budget ≡ x =
+    let same : fixed answer x.file st.at.work.cache.budget ≡ x =
     ap₂ (λ (a : Answers) (b : ℕ). let y : Fixed = record { answer = a; file = x.file; budget = b } in y) (sym answers) (sym sound.budget) in
     subst P same (from x.file files (subst (λ (y : Fixed). IsSoundState y st) (sym same) sound))
 
@@ -139,7 +139,7 @@ objects_same a b [] = refl
 objects_same a b (l ∷ ls) = ap (λ (rest : Links). (l.0, l.1.value) ∷ rest) (objects_same a b ls)
 
 links_same : (st st' : State) → st'.links.links ≡ st.links.links → (current (kept_of st')).links ≡ (current (kept_of st)).links
-links_same st st' same = ap (λ (y : LinkMap). objects_of (links_of (heads_of st'.tags) y)) same ∙ objects_same (heads_of st'.tags) (heads_of st.tags) st.links.links
+links_same st st' same = ap (λ (y : LinkMap). objects_of (links_of (heads_of st'.at.tags) y)) same ∙ objects_same (heads_of st'.at.tags) (heads_of st.at.tags) st.links.links
 
 before_unput : (l : Listings) (c : Coursed) (st st' : State) (was now : Devices) → st'.links.links ≡ st.links.links → NonePut st was st' now → IsLeftIn l c was now (current (kept_of st)) (current (kept_of st'))
 before_unput l c st st' was now same none =

@@ -67,7 +67,7 @@ fn tell_behind<O: Sink>(
     state: &State,
     out: &mut O,
 ) -> Result<(), SinkFail>
-    ensures tells { (c : Coursed) → Tells c failing.now state.now.events.items state.now.links → Writes (O.written out.old) (O.written out.new) (behind_of listings c) result }
+    ensures tells { (c : Coursed) → Tells c failing.now state.now.at.work.events.items state.now.links → Writes (O.written out.old) (O.written out.new) (behind_of listings c) result }
     ensures cause { WriteCause (O.faults out.old) (O.faults out.new) result }
 {
     let mut text = Vec::new(alloc);

@@ -34,7 +34,7 @@ impl Session {
         ensures state { state_of result ≡ initial none_kept }
         ensures fits { StateFits result.state }
         ensures sound { (x : Fixed) → x.budget ≡ budget → IsSoundState x result.state }
-        ensures budget { result.state.cache.budget ≡ budget }
+        ensures budget { result.state.at.work.cache.budget ≡ budget }
         ensures listings { result.listings ≡ listings }
     {
         Session {

@@ -8,7 +8,7 @@ pub enum StaticFault {
     UnknownFunction,
     /// There are more arguments than named parameters and further arguments.
     TooManyArguments,
-    /// A named argument names no parameter, or one that was given already.
+    /// No parameter has the name by which an argument is given, or the one that has it was given already.
     NoSuchParameter,
     /// There are more targets than results.
     TooManyResults,

@@ -3,6 +3,7 @@
 
 mod content;
 mod made;
+mod recent;
 mod tags;
 mod term;
 mod written;

@@ -7,6 +7,7 @@ ghost use Rattle.dx_tags.specs.Closed.{AllFormed, AreDistinct, IsFormed, heads_o
 ghost use Rattle.dx_tags.specs.Made.{IsMade};
 
 use crate::made::{is_large, keep, object_at, tag_among};
+use crate::recent::Recent;
 use crate::term::{Tag, Term};
 use dx_objects::Object;
 use indexmap::IndexSet;
@@ -17,6 +18,9 @@ use std::rc::Rc;
 /// Of how many large constants the objects are kept.
 const MOST_LARGE: usize = 4;
 
+/// Of how many other constants the objects are kept.
+const MOST_SMALL: usize = 1024;
+
 /// Terms, each named by the number of its place. Each has earlier tags alone, and no term stands twice.
 #[derive(Drop)]
 pub struct Tags {
@@ -24,8 +28,9 @@ pub struct Tags {
     terms: IndexSet<Term>,
     /// At the places of constants their objects, as far as they are kept.
     objects: Vec<Option<Rc<Object>>>,
-    /// The tags of the large constants that were named last, the latest one last.
-    large: Vec<Tag>,
+    /// The large constants, and the others, whose objects were made last.
+    large: Recent,
+    small: Recent,
 }
 
 impl Model for Tags {
@@ -50,7 +55,8 @@ impl Tags {
             alloc,
             terms: IndexSet::new(alloc),
             objects: Vec::new(alloc),
-            large: Vec::new(alloc),
+            large: Recent::new(alloc, MOST_LARGE),
+            small: Recent::new(alloc, MOST_SMALL),
         }
     }
 
@@ -72,15 +78,14 @@ impl Tags {
                 return Ok(tag);
             }
         }
-        let count = self.count();
         let tag = self.insert(t)?;
-        if is_large || tag == count {
+        if self.object(tag).is_none() {
             self.make(tag, is_large);
         }
         Ok(tag)
     }
 
-    // The tag of a term that is among the large constants which were named last.
+    // The tag of a term that is among the large constants whose objects are kept.
     #[tactic(auto, using(crate::proofs::SameTerm::one_place))]
     fn lately(&self, t: &Term) -> Option<Tag>
         ensures named { IfSome result (λ tag. slice_get self.now tag ≡ Some t.now) }
@@ -90,7 +95,7 @@ impl Tags {
         if self.terms.len() == 0 {
             return None;
         }
-        tag_among(&self.terms, &self.large, t)
+        tag_among(&self.terms, self.large.tags(), t)
     }
 
     // The tag of a term, found by its hash.
@@ -107,29 +112,29 @@ impl Tags {
         Ok(index as u64)
     }
 
-    // Makes the object of the constant that a tag names.
+    // Makes the object of the term that a tag names, if that is a constant.
     fn make(&mut self, tag: Tag, is_large: bool)
         requires lawful { (c : Const) → slice_get self.old tag ≡ Some (Constant c) → ∥ IsLawfulConst c ∥₁ }
         ensures { self.new ≡ self.old }
     {
-        if is_large {
-            self.note_large(tag);
-        }
         let object = object_at(self.alloc, &self.terms, tag as usize);
+        if object.is_some() {
+            self.note(tag, is_large);
+        }
         keep(&mut self.objects, tag as usize, object);
     }
 
-    // The large constant of this tag is the latest; the object of the oldest goes.
-    fn note_large(&mut self, tag: Tag)
+    // The constant of this tag is the latest of its kind, and the object of the oldest goes, where there are too many.
+    fn note(&mut self, tag: Tag, is_large: bool)
         ensures { self.new ≡ self.old }
     {
-        if self.large.len() >= MOST_LARGE {
-            let oldest = self.large.remove(0);
+        let oldest = if is_large {
+            self.large.put(tag)
+        } else {
+            self.small.put(tag)
+        };
+        if let Some(oldest) = oldest {
             keep(&mut self.objects, oldest as usize, None);
-        }
-        match self.large.push(tag) {
-            Ok(()) => {}
-            Err(_) => {}
         }
     }
 
@@ -168,6 +173,7 @@ impl Tags {
         self.terms.clear();
         self.objects.clear();
         self.large.clear();
+        self.small.clear();
     }
 }
 

@@ -30,20 +30,20 @@ behind_is : (x : Fixed) (f : Option Fault) (calls : List CallTree) (k : Kept) �
 behind_is x None calls k = refl
 behind_is x (Some f) calls k = refl
 
-events_tell : (failing : Option Failing) (st : State) (es : List Event) → EventsAre failing st es → EventsTell failing st.events.items es
+events_tell : (failing : Option Failing) (st : State) (es : List Event) → EventsAre failing st es → EventsTell failing st.at.work.events.items es
 events_tell None st es h = h
 events_tell (Some (Faulty site fault)) st es h = h
 events_tell (Some (Refused site code)) st es h = h
 
 pub made_tells : (x : Fixed) (d : Dictionary) (frames : Frames) (s : Stmt) (st st' : State) (was now : Devices) (failing : Option Failing) →
-    IsMade x st (coursed x d frames s (kept_of st)) was failing st' now → Tells (coursed x d frames s (kept_of st)).0 failing st'.events.items st'.links
+    IsMade x st (coursed x d frames s (kept_of st)) was failing st' now → Tells (coursed x d frames s (kept_of st)).0 failing st'.at.work.events.items st'.links
 made_tells x d frames s st st' was now failing m =
     let made = coursed x d frames s (kept_of st) in
     record {
       error = m.error;
       events = events_tell failing st' made.0.events m.events;
       objects =
-          sym (objects_are (heads_of st'.tags) st'.links.links)
+          sym (objects_are (heads_of st'.at.tags) st'.links.links)
           ∙ ap (λ (k : Kept). objects_of k.links) m.kept
           ∙ sym (ap (λ (b : Current). b.links) (behind_is x (first_fault d s) (effects d frames s) (kept_of st)));
     }

@@ -18,7 +18,7 @@ returns-clause-forgets g c = none_cached c.attempt-ended.new.self c.forget.new.s
 
 pub returns-clause-sound : goal.returns-clause-sound
 returns-clause-sound g c = λ map content sound.
-    sound_behind_cut (fixed g.L.Library.answer map c.args.self.now.cache.budget) c.args.self.now c.attempt-ended.new.self c.forget.new.self (unfolded (graph_of c.args.g.now)) _ _ c.attempt-ended.result c.requires.fits sound
+    sound_behind_cut (fixed g.L.Library.answer map c.args.self.now.at.work.cache.budget) c.args.self.now c.attempt-ended.new.self c.forget.new.self (unfolded (graph_of c.args.g.now)) _ _ c.attempt-ended.result c.requires.fits sound
     (c.attempt-ended.ensures.executes map content sound) c.attempt-ended.ensures.cut c.forget.ensures.end c.forget.ensures.cut
 
 pub returns-clause-written : goal.returns-clause-written
@@ -26,5 +26,5 @@ returns-clause-written g c = put_behind (g.X.Exports.puts c.args.exports.now) (g
 
 pub returns-clause-executes : goal.returns-clause-executes
 returns-clause-executes g c = λ map content sound.
-    executes_behind (fixed g.L.Library.answer map c.args.self.now.cache.budget) c.args.self.now c.attempt-ended.new.self c.forget.new.self (unfolded (graph_of c.args.g.now)) _ _ c.attempt-ended.result
+    executes_behind (fixed g.L.Library.answer map c.args.self.now.at.work.cache.budget) c.args.self.now c.attempt-ended.new.self c.forget.new.self (unfolded (graph_of c.args.g.now)) _ _ c.attempt-ended.result
     (c.attempt-ended.ensures.executes map content sound) c.forget.ensures.end c.forget.ensures.cut

@@ -74,7 +74,7 @@ keep-requires-clause-bound g c = bound_stays c.args.self.now.links.links c.prepa
 pub returns-clause-left : goal.returns-clause-left
 returns-clause-left g c =
     let changes = c.args.gathered.changes in
-    let full = is_full (named_terms c.args.self.now.tags) in
+    let full = is_full (named_terms c.args.self.now.at.tags) in
     let links = links_behind c.args.self.now.links.links c.is_some-failed.result changes in
     on_end c.ended.result _
     (left_behind c.args.self.now _ c.keep.new.self (graph_of c.args.g.now).nodes c.args.gathered c.in_ok-site.site c.is_some-failed.result

@@ -8,6 +8,6 @@ pub returns-clause-fits : goal.returns-clause-fits
 returns-clause-fits c = record {
   exact = search rules;
   links = search rules;
-  bound = subst (λ (links : LinkMap). IsBound links c.new-3.result) (sym c.new-2.ensures) (first_bound c.new-3.result c.new-3.ensures.pairs c.new-3.ensures.counts);
+  bound = subst (λ (links : LinkMap). IsBound links c.new-7.result) (sym c.new-6.ensures) (first_bound c.new-7.result c.new-7.ensures.pairs c.new-7.ensures.counts);
   entries = search rules;
 }
