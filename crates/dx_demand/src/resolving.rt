@@ -32,7 +32,10 @@ use std::mem;
 
 impl Seen {
     /// Nothing of no graph, which takes no memory.
-    pub fn none(alloc: Global) -> Seen {
+    pub fn none(alloc: Global) -> Seen
+        ensures uncalled { result.memo.formed.entries ≡ [] }
+        ensures unasked { result.stack.items ≡ [] }
+    {
         Seen {
             memo: Memo {
                 answers: IndexMap::new(alloc),
