@@ -32,8 +32,8 @@ impl State {
         ensures fits { StateFits result }
         ensures sound { (x : Fixed) → x.budget ≡ budget → IsSoundState x result }
         ensures kept { kept_of result ≡ none_kept }
-        ensures budget { result.cache.budget ≡ budget }
-        ensures events { result.events.items ≡ [] }
+        ensures budget { result.at.work.cache.budget ≡ budget }
+        ensures events { result.at.work.events.items ≡ [] }
     {
         State {
             at: Progress {
