@@ -81,12 +81,19 @@ fn empty_memo(alloc: Global, g: &Graph) -> Result<Memo, AllocError>
     })
 }
 
+/// No selectors, with room for so many.
+fn room_for(alloc: Global, count: u32) -> Result<Vec<Option<ValueTag>>, AllocError>
+    ensures { IfOk result (λ xs. xs.items ≡ []) }
+{
+    Vec::with_capacity(alloc, count as usize)
+}
+
 /// So many selectors without terms.
 fn no_selectors(alloc: Global, count: u32) -> Result<Vec<Option<ValueTag>>, AllocError>
     ensures none { IfOk result (λ xs. (n : ℕ) → slice_index_or xs.items n None ≡ None) }
     ensures places { IfOk result (λ xs. length xs.items ≡ count) }
 {
-    let mut selectors = Vec::new(alloc);
+    let mut selectors = room_for(alloc, count)?;
     for _ in 0..count {
         selectors.push(None)?;
     }

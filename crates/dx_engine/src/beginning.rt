@@ -29,7 +29,7 @@ fn begin(alloc: Global, at: &mut Progress, seen: Seen)
     at.seen = seen;
     at.told = ToldValues::new(alloc);
     at.work.known = Known::new(alloc);
-    at.work.events = Vec::new(alloc);
+    at.work.events.clear();
 }
 
 impl State {

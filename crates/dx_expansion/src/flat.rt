@@ -1,10 +1,10 @@
 //! Calls over constants: where no argument has a call, and each name means a constant that is seen at once, nothing is walked.
-ghost use Rattle.std.specs.Prelude.{◌≡◌, List, None, Some, All, map, IfSome};
+ghost use Rattle.std.specs.Prelude.{◌≡◌, [], List, None, Some, All, map, IfSome};
 ghost use Rattle.dx_ast.specs.Lawful.{IsLawful, IsLawfulExpr, IsLawfulCall, AreLawfulArgs};
 ghost use Rattle.dx_ast.specs.Plain.{plain_expr, plain_call, plain_args, plain_stmt};
 ghost use Rattle.dx_expansion.specs.Flat.{IsFlat, AreFlat};
-ghost use Rattle.dx_graph.specs.Graph.{Node};
-ghost use Rattle.dx_graph.specs.GraphView.{graph_of};
+ghost use Rattle.dx_graph.specs.Graph.{Node, no_nodes};
+ghost use Rattle.dx_graph.specs.GraphView.{graph_of, spots_in};
 ghost use Rattle.dx_graph.specs.Operands.{OperandFits, operand_tree, GivenFits, given_of};
 ghost use Rattle.dx_graph.specs.Unfolding.{unfolded};
 ghost use Rattle.dx_macros.specs.Dictionary.{of_call};
@@ -55,6 +55,14 @@ fn flat_args<'a>(
     Some(given)
 }
 
+/// The graph without nodes, with room for one.
+fn room_for_one(alloc: Global) -> Option<Graph>
+    ensures graph { IfSome result (λ g. graph_of g ≡ no_nodes) }
+    ensures spots { IfSome result (λ g. spots_in g ≡ []) }
+{
+    Graph::with_capacity(alloc, 1).ok()
+}
+
 /// The expansion of a call of a function over such arguments, where the call has no fault.
 fn flat_call<'a>(alloc: Global, d: &'a Dictionary, c: &'a Call, f: &Frames) -> Option<Graph>
     requires lawful { ∥ IsLawfulCall (plain_call c.now) ∥₁ }
@@ -71,7 +79,7 @@ fn flat_call<'a>(alloc: Global, d: &'a Dictionary, c: &'a Call, f: &Frames) -> O
         Ok(None) => {}
         _ => return None,
     }
-    let mut graph = Graph::new(alloc);
+    let mut graph = room_for_one(alloc)?;
     match call_function(
         alloc,
         &mut graph,

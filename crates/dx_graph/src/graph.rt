@@ -92,6 +92,20 @@ impl Graph {
         }
     }
 
+    /// The graph without nodes and trails, with room for so many nodes, of which each can be an effect.
+    pub fn with_capacity(alloc: Global, count: usize) -> Result<Graph, AllocError>
+        ensures graph { IfOk result (λ g. graph_of g ≡ no_nodes) }
+        ensures spots { IfOk result (λ g. spots_in g ≡ []) }
+    {
+        let nodes = Vec::with_capacity(alloc, count)?;
+        let effects = Vec::with_capacity(alloc, count)?;
+        Ok(Graph {
+            nodes,
+            trails: Trails::new(alloc),
+            effects,
+        })
+    }
+
     /// A trail at the end: the text of an assignment at the top level with this first target.
     pub fn target(&mut self, alloc: Global, name: &[u8]) -> Result<u32, AllocError>
         ensures number { IfOk result (λ t. t ≡ length (spots_in self.old)) }

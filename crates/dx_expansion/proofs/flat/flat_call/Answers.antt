@@ -29,7 +29,7 @@ flat_args-requires c = record { lawful = call_args c.args.c.now c.as_slice-args.
 
 pub call_function-requires-clause-given : goal.call_function-requires-clause-given
 call_function-requires-clause-given c =
-    let nodes = (graph_of c.new-graph.result).nodes in
+    let nodes = (graph_of c.in_ok-graph.graph).nodes in
     subst (λ (gs : List Given). All (GivenFits nodes) gs) (sym c.as_slice.ensures.value) (c.in_ok-given.ensures.fits nodes)
 
 pub call_function-requires-clause-cache : goal.call_function-requires-clause-cache
@@ -54,12 +54,12 @@ returns-in-Ok-clause-means c =
     let f = c.args.f.now in
     let fn = c.in-Function.function in
     let code = out-Call c.args.c.now in
-    let old = graph_of c.new-graph.result in
+    let old = graph_of c.in_ok-graph.graph in
     let gs = map (given_of old.nodes) c.in_ok-given.given.items in
     let called : callee d.macros code.name ≡ CallsFunction fn = ap (callee d.macros) (sym c.bytes.ensures) ∙ sym c.called-callee.ensures ∙ ap plain_callee c.in-Function.is in
     let flat = subst (λ (xs : List Arg). AreFlat d f (plain_args xs) gs) c.as_slice-args.ensures (c.in_ok-given.ensures.flat old.nodes) in
     let made : List CallTree → List plain.Given → List CallTree = λ before xs. before ++ effects_among (function_expanded fn (function_call (top_spot []) fn code.cache 1 xs)).kept in
     c.in-Ok.ensures.expands.effects
-    ∙ ap₂ made (no_effects old (ap (λ (g : graphs.Graph). g.effects) c.new-graph.ensures.graph)) (ap (map (given_of old.nodes)) c.as_slice.ensures.value)
+    ∙ ap₂ made (no_effects old (ap (λ (g : graphs.Graph). g.effects) c.in_ok-graph.ensures.graph)) (ap (map (given_of old.nodes)) c.as_slice.ensures.value)
     ∙ call_effects d f code.name code.cache (plain_args code.args) gs fn called flat
     ∙ ap (λ (k : Call). effects_among (kept_of 64 d f (Some (of_call k)))) (sym (plain_call_out c.args.c.now))
