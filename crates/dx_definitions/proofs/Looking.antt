@@ -1,7 +1,7 @@
 -- Looking for the last definition of a name before a place, among the places of its definitions.
-use Rattle.std.proofs.Common.{◌≡◌, ℕ, zero, suc, ◌+◌, ◌-◌, ◌<◌, ◌≤◌, List, [], length, get_or, Some, None, Bool, true, false, refl, sym, ap, ◌∙◌, arith}
+use Rattle.std.proofs.Common.{◌≡◌, ℕ, zero, suc, ◌+◌, ◌-◌, ◌<◌, ◌≤◌, List, [], length, get_or, Some, None, Bool, true, false, refl, sym, ap, ◌∙◌, arith, lt-ltb}
 use Rattle.std.specs.Prelude.{if◌then◌else◌, nat_lt}
-use Rattle.std.specs.List.Sorted.{IsPartitionPoint}
+use Rattle.std.specs.List.Sorted.{IsNonDecreasing, IsPartitionPoint}
 use Rattle.std.proofs.lemmas.List.{get_or_default}
 use Rattle.dx_ast.specs.Classes.{Text}
 use Rattle.dx_base.specs.NameLists.{has}
@@ -19,6 +19,16 @@ last_down defs n q (suc k) (suc i) e h =
 
 true_isnt_false : {P : Type 0} → true ≡ false → P
 true_isnt_false e = cc
+
+-- where the last of ascending places is before a place, all are
+pub all_before : (xs : List ℕ) (place : ℕ) → IsNonDecreasing xs → 0 < length xs → get_or xs (length xs - 1) 0 < place → IsPartitionPoint (λ p. nat_lt p place ≡ true) (λ p. nat_lt p place ≡ false) xs (length xs)
+all_before xs place up some lt = (
+  (λ k d low high.
+      let same = get_or_default xs (length xs - 1) 0 d (omega (arith, some)) in
+      let below = up k (length xs - 1) d (omega (arith, high)) (omega (arith, some)) in
+      lt-ltb (get_or xs k d) place (omega (arith, same, below, lt))),
+  (λ k d low high. absurd (omega (arith, low, high))),
+)
 
 -- the places that are left are before the place, and all definitions of the name before it are at one of them
 pub record AreLeft (places : List ℕ) (left : ℕ) (defs : List TopText) (place : ℕ) (name : Text) : Type 0 where

@@ -76,6 +76,11 @@ fn count_before(places: &[usize], place: usize) -> usize
     ensures bound { result ≤ length places.now }
     ensures parts { IsPartitionPoint (λ p. nat_lt p place ≡ true) (λ p. nat_lt p place ≡ false) places.now result }
 {
+    // (most names are looked up from behind all definitions)
+    let count = places.len();
+    if count > 0 && places[count - 1] < place {
+        return count;
+    }
     places.partition_point(
         |p: &usize| -> bool
             ensures { result ≡ nat_lt p.now place }

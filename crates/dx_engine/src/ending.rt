@@ -60,6 +60,7 @@ impl State {
             Prepared::Kept => {}
             Prepared::Changed(ready) => change_in_place(&mut self.links, &mut self.bound, ready),
             Prepared::Emptied(next) => {
+                let next = next.into_inner();
                 empty(
                     next.emptied,
                     &mut self.links,

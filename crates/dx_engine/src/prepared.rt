@@ -5,6 +5,7 @@ ghost use Rattle.dx_demand.specs.Forming.{named_terms};
 ghost use Rattle.dx_performing.specs.Kept.{is_full as terms_full};
 ghost use Rattle.dx_engine.specs.Leaving.{EmptySo, PreparedSo, PreparedReady, links_behind};
 
+use dx_ast::Boxed;
 use dx_ending::{InPlace, bound_of, is_full, links_after, prepare_in_place};
 use dx_getting::{Bound, Emptied, prepare_emptying};
 use dx_links::{Changes, Links};
@@ -23,20 +24,24 @@ pub(crate) struct NextEmpty {
 pub(crate) enum Prepared {
     Kept,
     Changed(InPlace),
-    Emptied(NextEmpty),
+    Emptied(Boxed<NextEmpty>),
 }
 
 // What an emptying leaves of links.
-fn empty_of(alloc: Global, links: &Links) -> Result<NextEmpty, AllocError>
+fn empty_of(alloc: Global, links: &Links) -> Result<Boxed<NextEmpty>, AllocError>
     ensures { IfOk result (λ next. EmptySo links.now.links next) }
 {
     let emptied = prepare_emptying(alloc, links)?;
     let bound = bound_of(alloc, &emptied.links)?;
-    Ok(NextEmpty { emptied, bound })
+    Boxed::new(alloc, NextEmpty { emptied, bound })
 }
 
 // What an emptying leaves of links after changes.
-fn emptied_after(alloc: Global, links: &Links, changes: Changes) -> Result<NextEmpty, AllocError>
+fn emptied_after(
+    alloc: Global,
+    links: &Links,
+    changes: Changes,
+) -> Result<Boxed<NextEmpty>, AllocError>
     ensures { IfOk result (λ next. EmptySo (after links.now.links changes) next) }
 {
     let links = links_after(alloc, links, changes)?;

@@ -72,6 +72,9 @@ impl Dictionary {
     pub fn macro_of(&self, name: &[u8]) -> Option<&MacroDef>
         ensures { option_map (λ m. plain_macro m.now) result ≡ (dictionary_of self.now).macros name.now }
     {
+        if self.macros.is_empty() {
+            return None;
+        }
         self.macros.get(name)
     }
 
