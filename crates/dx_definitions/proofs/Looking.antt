@@ -20,6 +20,10 @@ last_down defs n q (suc k) (suc i) e h =
 true_isnt_false : {P : Type 0} → true ≡ false → P
 true_isnt_false e = cc
 
+-- the definition right before a place is the last one of each of its targets
+pub last_here : (defs : List TopText) (place i : ℕ) (n : Text) → place ≡ suc i → has (definition defs i).targets n ≡ true → Some i ≡ last_named defs place n
+last_here defs place i n e h = sym (ap (λ (p : ℕ). last_named defs p n) e ∙ ap (λ (b : Bool). if b then Some i else last_named defs i n) h)
+
 -- where the last of ascending places is before a place, all are
 pub all_before : (xs : List ℕ) (place : ℕ) → IsNonDecreasing xs → 0 < length xs → get_or xs (length xs - 1) 0 < place → IsPartitionPoint (λ p. nat_lt p place ≡ true) (λ p. nat_lt p place ≡ false) xs (length xs)
 all_before xs place up some lt = (

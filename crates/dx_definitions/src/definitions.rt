@@ -196,6 +196,23 @@ fn last_noted(
     }
 }
 
+/// The definition right before a place, if it has this target: most names are used right behind their definition.
+fn right_before(definitions: &[Assign], place: usize, name: &[u8]) -> Option<usize>
+    ensures last { IfSome result (λ i. Some i ≡ last_named (map text_of definitions.now) place name.now) }
+    ensures below { IfSome result (λ i. i < length definitions.now) }
+{
+    if place == 0 {
+        return None;
+    }
+    let i = place - 1;
+    if let Some(a) = definitions.get(i) {
+        if has_text(a.targets.as_slice(), name) {
+            return Some(i);
+        }
+    }
+    None
+}
+
 /// Notes the definitions that aren't noted yet, and answers how many are. Where memory runs out some are left.
 fn note_new(
     alloc: Global,
@@ -309,6 +326,9 @@ impl Definitions {
         ensures last { result ≡ last_named (map text_of self.now.items) place name.now }
         ensures below { IfSome result (λ i. i < length self.now.items) }
     {
+        if let Some(i) = right_before(&self.list, place, name) {
+            return Some(i);
+        }
         if place <= self.noted {
             return last_noted(&self.list, &self.places, self.noted, place, name);
         }

@@ -56,48 +56,54 @@ impl Seen {
         ensures uncalled { IfOk result (λ seen. seen.memo.formed.entries ≡ []) }
         ensures none { IfOk result (λ seen. (t : ℕ) → formed_of seen.memo t ≡ None) }
     {
-        let memo = empty_memo(alloc, g)?;
-        Ok(Seen {
-            memo,
-            stack: no_frames(alloc),
-        })
+        let mut seen = Seen::none(alloc);
+        seen.restart(alloc, g)?;
+        Ok(seen)
+    }
+
+    /// Nothing is resolved of the graph yet, and what was seen of another one is gone.
+    pub fn restart(&mut self, alloc: Global, g: &Graph) -> Result<(), AllocError>
+        ensures fits { (terms : List Term) → OnOk result (SeenFits (graph_of g.now).nodes terms self.new) }
+        ensures right { (s : Sight) (terms : List Term) → OnOk result (SeenRight s (graph_of g.now).nodes terms self.new) }
+        ensures closed { (links : LinkMap) (terms : List Term) → OnOk result (IsClosed links terms self.new) }
+        ensures formed { (s : Sight) (terms : List Term) → OnOk result (SeenFormed s (graph_of g.now).nodes terms self.new) }
+        ensures met { (s : Sight) → OnOk result (SeenMet s (graph_of g.now).nodes self.new) }
+        ensures uncalled { OnOk result (self.new.memo.formed.entries ≡ []) }
+        ensures none { OnOk result ((t : ℕ) → formed_of self.new.memo t ≡ None) }
+    {
+        restart_memo(alloc, &mut self.memo, g)?;
+        self.stack.clear();
+        Ok(())
     }
 }
 
-fn no_frames(alloc: Global) -> Vec<Frame>
-    ensures { result.items ≡ [] }
+fn restart_memo(alloc: Global, memo: &mut Memo, g: &Graph) -> Result<(), AllocError>
+    ensures { OnOk result (EmptyMemo (length (graph_of g.now).nodes) memo.new) }
 {
-    Vec::new(alloc)
-}
-
-fn empty_memo(alloc: Global, g: &Graph) -> Result<Memo, AllocError>
-    ensures { IfOk result (λ m. EmptyMemo (length (graph_of g.now).nodes) m) }
-{
-    let selectors = no_selectors(alloc, g.len())?;
-    Ok(Memo {
-        answers: IndexMap::new(alloc),
-        selectors,
-        formed: IndexMap::new(alloc),
-    })
+    no_selectors(&mut memo.selectors, g.len())?;
+    memo.answers = IndexMap::new(alloc);
+    memo.formed = IndexMap::new(alloc);
+    Ok(())
 }
 
 /// No selectors, with room for so many.
-fn room_for(alloc: Global, count: u32) -> Result<Vec<Option<ValueTag>>, AllocError>
-    ensures { IfOk result (λ xs. xs.items ≡ []) }
+fn room_for(selectors: &mut Vec<Option<ValueTag>>, count: u32) -> Result<(), AllocError>
+    ensures { selectors.new.items ≡ [] }
 {
-    Vec::with_capacity(alloc, count as usize)
+    selectors.clear();
+    selectors.reserve(count as usize)
 }
 
 /// So many selectors without terms.
-fn no_selectors(alloc: Global, count: u32) -> Result<Vec<Option<ValueTag>>, AllocError>
-    ensures none { IfOk result (λ xs. (n : ℕ) → slice_index_or xs.items n None ≡ None) }
-    ensures places { IfOk result (λ xs. length xs.items ≡ count) }
+fn no_selectors(selectors: &mut Vec<Option<ValueTag>>, count: u32) -> Result<(), AllocError>
+    ensures none { OnOk result ((n : ℕ) → slice_index_or selectors.new.items n None ≡ None) }
+    ensures places { OnOk result (length selectors.new.items ≡ count) }
 {
-    let mut selectors = room_for(alloc, count)?;
+    room_for(selectors, count)?;
     for _ in 0..count {
         selectors.push(None)?;
     }
-    Ok(selectors)
+    Ok(())
 }
 
 fn resolved(settled: Settled) -> Resolved

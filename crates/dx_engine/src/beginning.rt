@@ -14,7 +14,6 @@ use crate::gathered::Gathered;
 use crate::running::run_effects;
 use crate::short::Short;
 use crate::state::State;
-use dx_demand::Seen;
 use dx_getting::Known;
 use dx_graph::Graph;
 use dx_io::{Files, Sink};
@@ -22,11 +21,10 @@ use dx_looking::{Progress, Setup, ToldValues};
 use dx_objects::Library;
 use std::alloc::Global;
 
-// Nothing of this graph was seen yet, and nothing was told, is known or happened; terms and cache stay.
-fn begin(alloc: Global, at: &mut Progress, seen: Seen)
-    ensures { IsFresh seen at.old.tags at.old.work.cache at.new }
+// Nothing was told, is known or happened yet; the terms, the cache and what is seen stay.
+fn begin(alloc: Global, at: &mut Progress)
+    ensures { IsFresh at.old.seen at.old.tags at.old.work.cache at.new }
 {
-    at.seen = seen;
     at.told = ToldValues::new(alloc);
     at.work.known = Known::new(alloc);
     at.work.events.clear();
@@ -57,8 +55,8 @@ impl State {
         ensures gathers { IfOk result (λ gathered. GathersFit (graph_of g.now).nodes self.new gathered) }
         ensures effects { FromState L.answer (F.content files.old) self.old (λ x. EffectsSo x self.old (unfolded (graph_of g.now)) (graph_of g.now).nodes (told (L.done lib.old) (F.asked files.old)) (O.written out.old) result self.new (told (L.done lib.new) (F.asked files.new)) (O.written out.new)) }
     {
-        let seen = Seen::new(alloc, g)?;
-        begin(alloc, &mut self.at, seen);
+        self.at.seen.restart(alloc, g)?;
+        begin(alloc, &mut self.at);
         let setup = Setup {
             alloc,
             graph: g,

@@ -11,7 +11,7 @@ use Rattle.dx_include.specs.declared.loaded.Loaded.{Loaded}
 use Rattle.dx_include.specs.declared.fail.LoadFail.{LoadFail}
 use Rattle.dx_include.specs.declared.fail.LoadFail.TheVariants as fail
 use Rattle.dx_include.specs.Loading.{Name, Loading, refused, with_statement, with_text, behind, is_too_long}
-use Rattle.dx_include.specs.Computed.{Load, go_on, splice, of_parsed, of_length, of_file, load_within, parsed}
+use Rattle.dx_include.specs.Computed.{Load, IncludesNothing, go_on, splice, of_parsed, of_length, of_file, load_within, parsed}
 use Rattle.dx_include.specs.ReadFails.{load_fail}
 use Rattle.dx_include.specs.Answers.{Adds, Refuses, TextFails}
 
@@ -86,6 +86,22 @@ splice-other load s others so_far never = refl
 splice-nil : (load : Load) (so_far : Loaded) → splice load [] so_far ≡ record { reads = []; ends = Ok so_far }
 unfolding splice
 splice-nil load so_far = refl
+
+-- statements without includes join as they are
+pub splice_plain : (load : Load) (statements : List Stmt) (so_far : Loaded) → IncludesNothing statements → splice load statements so_far ≡ record { reads = []; ends = Ok (record { statements = so_far.statements ++ statements; bytes = so_far.bytes }) }
+splice_plain load [] so_far none = splice-nil load so_far ∙ ap (λ (all : List Stmt). record { reads = []; ends = Ok (record { statements = all; bytes = so_far.bytes }) }) (sym (append-nil so_far.statements))
+splice_plain load (s ∷ others) so_far none =
+    splice-other load s others so_far (none 0 s (omega arith))
+    ∙ splice_plain load others (with_statement so_far s) (λ k d lt. none (suc k) d (omega (arith, lt)))
+    ∙ ap (λ (all : List Stmt). record { reads = []; ends = Ok (record { statements = all; bytes = so_far.bytes }) }) (append_assoc so_far.statements (s ∷ []) others)
+
+-- and are all there is, where nothing was loaded before
+pub plain_adds : {U : Type 0} (load : Load) (statements before : List Stmt) (bytes : ℕ) (told : Told) (u : U) → length before ≡ 0 → IncludesNothing statements →
+    Adds (splice load statements (record { statements = before; bytes = bytes })) (record { statements = statements; bytes = bytes }) (let r : Result U LoadFail = Ok u in r) told told
+plain_adds load statements [] bytes told u none plain =
+    let whole = splice_plain load statements (record { statements = []; bytes = bytes }) plain in
+    (ap (λ (l : Loading). l.ends) whole, subst (λ (l : Loading). Grows told told l.reads) (sym whole) (grows_by_nothing told))
+plain_adds load statements (x ∷ xs) bytes told u none plain = absurd (omega (arith, none))
 
 -- an include was loaded
 pub goes_on_include : (load : Load) (whole : Loading) (rest others : List Stmt) (name : Name) (so_far new : Loaded) (told now next : Told)

@@ -1,5 +1,5 @@
 -- Loading, as it is computed.
-use Rattle.std.specs.Prelude.{ℕ, zero, suc, List, [], ◌∷◌, Option, Some, None, Result, Ok, Err, Bool, true, false}
+use Rattle.std.specs.Prelude.{◌≡◌, All, ℕ, zero, suc, List, [], ◌∷◌, Option, Some, None, Result, Ok, Err, Bool, true, false}
 use Rattle.dx_base.specs.declared.token.SyntaxError.{SyntaxError}
 use Rattle.dx_io.specs.Devices.{FileMap}
 use Rattle.dx_ast.specs.declared.statements.Stmt.{Stmt}
@@ -32,6 +32,13 @@ unfoldable pub splice : Load → List Stmt → Loaded → Loading
 splice load [] so_far = record { reads = []; ends = Ok so_far }
 splice load (stmt.Include name ∷ others) so_far = go_on (load so_far name).reads (load so_far name).ends (splice load others)
 splice load (s ∷ others) so_far = splice load others (with_statement so_far s)
+
+-- a statement that stands for itself, and statements none of which is an include
+abbrev pub IsPlain : Stmt → Type 0
+IsPlain s = (name : Name) → s ≡ stmt.Include name → ⊥
+
+abbrev pub IncludesNothing : List Stmt → Type 0
+IncludesNothing statements = All IsPlain statements
 
 abbrev pub of_parsed : Load → Loaded → Name → List ℕ → Result (List Stmt) SyntaxError → Loading
 of_parsed load so_far name text (Ok statements) = behind (name ∷ []) (splice load statements (with_text so_far text))

@@ -1,10 +1,10 @@
 //! Loading a file: its text, and the statements of its includes in their places.
-ghost use Rattle.std.specs.Prelude.{◌≡◌, ◌≤◌, ℕ, List, Some, IfOk, OnOk, length};
+ghost use Rattle.std.specs.Prelude.{◌≡◌, ◌≤◌, ℕ, List, Some, IfOk, OnOk, length, true};
 ghost use Rattle.dx_ast.specs.Lawful.{AreLawful};
 ghost use Rattle.dx_ast.specs.Plain.{plain_stmts};
 ghost use Rattle.dx_io.specs.Devices.{FileMap};
 ghost use Rattle.dx_include.specs.Answers.{Adds, LoadCause, Loads, Parses, TakesText};
-ghost use Rattle.dx_include.specs.Computed.{load_within, loading_of, parsed, splice};
+ghost use Rattle.dx_include.specs.Computed.{IncludesNothing, load_within, loading_of, parsed, splice};
 ghost use Rattle.dx_include.specs.Loading.{IsLoading, Loading};
 
 use crate::LoadFail;
@@ -83,6 +83,19 @@ fn load_file<F: Files>(
     splice(alloc, files, levels - 1, statements, loaded)
 }
 
+// Whether no statement is an include.
+fn includes_nothing(statements: &[Stmt]) -> bool
+    ensures { result ≡ true → IncludesNothing statements.now }
+{
+    for statement in statements {
+        match statement {
+            Stmt::Include(_) => return false,
+            _ => {}
+        }
+    }
+    true
+}
+
 // Joins the statements to what is loaded so far, each include replaced by what its file loads.
 #[cycle(load)]
 fn splice<F: Files>(
@@ -102,6 +115,10 @@ fn splice<F: Files>(
     ensures same { F.content files.new ≡ F.content files.old }
     ensures cause { LoadCause (F.faults files.old) (F.faults files.new) result }
 {
+    if loaded.statements.is_empty() && includes_nothing(statements.as_slice()) {
+        loaded.statements = statements;
+        return Ok(());
+    }
     'each: for statement in statements.into_vec() {
         match statement {
             Stmt::Include(name) => load_file(alloc, files, levels, name, loaded)?,

@@ -1,4 +1,4 @@
-use Rattle.std.proofs.Common.{◌≡◌, ◌<◌, ◌+◌, [], ◌∷◌, List, length, Some, None, refl, sym, ap, subst, ◌∙◌, arith}
+use Rattle.std.proofs.Common.{◌≡◌, ◌<◌, ◌+◌, [], ◌∷◌, List, length, Some, None, refl, sym, ap, subst, ◌∙◌, arith, eqb-true}
 use Rattle.std.proofs.lemmas.Result.{err_from_is_err_and}
 use Rattle.std.specs.Vec.Iter.{into_iter_items}
 use Rattle.dx_io.specs.Devices.{Grows}
@@ -6,9 +6,9 @@ use Rattle.dx_io.proofs.Growing.{grows_by_nothing}
 use Rattle.dx_ast.specs.declared.statements.Stmt.{Stmt}
 use Rattle.dx_ast.specs.declared.statements.Stmt.TheVariants as stmt
 use Rattle.dx_include.specs.Loading.{Loading}
-use Rattle.dx_include.specs.Computed.{load_within, splice}
+use Rattle.dx_include.specs.Computed.{IncludesNothing, load_within, splice}
 use Rattle.dx_include.proofs.LawfulParts.{lawful_head, lawful_tail, lawful_push}
-use Rattle.dx_include.proofs.Splicing.{goes_on_include, stops_at_include, goes_on_other, is_done, load_within-zero, read_fails, is_missing, text_fails, text_adds, nothing_left}
+use Rattle.dx_include.proofs.Splicing.{goes_on_include, stops_at_include, goes_on_other, is_done, load_within-zero, read_fails, is_missing, text_fails, text_adds, nothing_left, plain_adds}
 use Rattle.dx_include.proofs.including.+load.Goals as goal
 
 pub load_file-returns-then-levels-eq0-clause-adds :
@@ -45,6 +45,12 @@ load_file-returns-clause-adds g t c = λ map told.
     let takes = c.in_ok-statements.ensures.takes in
     text_adds c.args.levels map c.args.loaded.now c.args.name c.bytes.result.now c.in_ok-statements.statements c.splice.new.loaded c.splice.result (g.F.Files.asked c.args.files.now) (g.F.Files.asked c.read.new.self) (g.F.Files.asked c.splice.new.files)
     some there takes.0 takes.1 c.in_ok-text.ensures.asks (rw (← takes.2) (c.splice.ensures.adds map (c.in_ok-text.ensures.same ∙ told)))
+
+pub splice-returns-then-includes_nothing-clause-adds :
+    goal.splice-returns-then-includes_nothing-clause-adds
+splice-returns-then-includes_nothing-clause-adds g t c = λ map told.
+    plain_adds (load_within c.args.levels map) c.args.statements c.args.loaded.now.statements c.args.loaded.now.bytes (g.F.Files.asked c.args.files.now) (tt {0})
+    (eqb-true _ _ (sym c.is_empty.ensures ∙ c.if-is_empty.true)) (subst IncludesNothing c.as_slice.ensures (c.includes_nothing.ensures c.if-includes_nothing.true))
 
 pub splice-each-preserved-in-Continue-1 : goal.splice-each-preserved-in-Continue-1
 splice-each-preserved-in-Continue-1 g t c =

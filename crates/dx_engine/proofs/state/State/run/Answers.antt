@@ -8,14 +8,14 @@ use Rattle.dx_engine.specs.Beginning.{standing_at}
 use Rattle.dx_engine.proofs.Begun.{looking_begun, effects_from, nothing_done, state_fits, gathers_fit}
 use Rattle.dx_engine.proofs.state.State.run.Goals as goal
 
-pub returns-in_err-seen-clause-effects : goal.returns-in_err-seen-clause-effects
-returns-in_err-seen-clause-effects g c = λ map ec sound. nothing_done (fixed g.L.Library.answer map c.args.self.now.at.work.cache.budget) c.args.self.now (unfolded (graph_of c.args.g.now)) (graph_of c.args.g.now).nodes (told (g.L.Library.done c.args.lib.now) (g.F.Files.asked c.args.files.now)) (g.O.Sink.written c.args.out.now) c.from_residual.result c.from_residual.ensures.0 c.args.self.now
+pub returns-in_err-restart-clause-effects : goal.returns-in_err-restart-clause-effects
+returns-in_err-restart-clause-effects g c = λ map ec sound. nothing_done (fixed g.L.Library.answer map c.args.self.now.at.work.cache.budget) c.args.self.now (unfolded (graph_of c.args.g.now)) (graph_of c.args.g.now).nodes (told (g.L.Library.done c.args.lib.now) (g.F.Files.asked c.args.files.now)) (g.O.Sink.written c.args.out.now) c.from_residual.result c.from_residual.ensures.0 _
 
 pub run_effects-requires : goal.run_effects-requires
 run_effects-requires g c =
-    let n = c.in_ok-seen.ensures in
+    let n = c.in_ok-restart.ensures in
     record {
-      looking = looking_begun _ c.args.self.now (record { links = refl; bound = refl; held = refl; written = refl }) c.in_ok-seen.seen c.begin.new.at c.begin.ensures
+      looking = looking_begun _ c.args.self.now (record { links = refl; bound = refl; held = refl; written = refl }) c.restart.new.self c.begin.new.at c.begin.ensures
           c.requires.fits (n.fits c.args.self.now.at.tags) (n.closed _ c.args.self.now.at.tags) (n.right _ c.args.self.now.at.tags) (n.formed _ c.args.self.now.at.tags) (n.met _);
     }
 
@@ -30,6 +30,6 @@ returns-clause-gathers g c = gathers_fit _ c.args.self.now c.run_effects.result 
 
 pub returns-clause-effects : goal.returns-clause-effects
 returns-clause-effects g c =
-    effects_from _ c.args.self.now (record { links = refl; bound = refl; held = refl; written = refl }) c.in_ok-seen.seen c.begin.new.at c.begin.ensures
-    c.in_ok-seen.ensures.uncalled g.L.Library.answer (g.F.Files.content c.args.files.now) (told (g.L.Library.done c.args.lib.now) (g.F.Files.asked c.args.files.now)) (unfolded (graph_of c.args.g.now)) (g.O.Sink.written c.args.out.now) c.run_effects.result c.run_effects.new.at
+    effects_from _ c.args.self.now (record { links = refl; bound = refl; held = refl; written = refl }) c.restart.new.self c.begin.new.at c.begin.ensures
+    c.in_ok-restart.ensures.uncalled g.L.Library.answer (g.F.Files.content c.args.files.now) (told (g.L.Library.done c.args.lib.now) (g.F.Files.asked c.args.files.now)) (unfolded (graph_of c.args.g.now)) (g.O.Sink.written c.args.out.now) c.run_effects.result c.run_effects.new.at
     (told (g.L.Library.done c.run_effects.new.lib) (g.F.Files.asked c.run_effects.new.files)) (g.O.Sink.written c.run_effects.new.out) c.run_effects.ensures.runs (standing_at c.args.self.now c.run_effects.new.at) refl
