@@ -1,7 +1,7 @@
-use Rattle.std.proofs.Common.{◌∙◌, add-one, arith, refl, ap, subst}
+use Rattle.std.proofs.Common.{◌≡◌, ◌∙◌, ℕ, add-one, arith, refl, ap, subst}
 use Rattle.std.proofs.lemmas.Result.{err_from_is_err_and}
 use Rattle.dx_shown.specs.Made.{coursed}
-use Rattle.dx_shown.specs.Session.{stepped}
+use Rattle.dx_shown.specs.Session.{stepped, stepped_often}
 use Rattle.dx_telling.specs.declared.listings.Listings.{Listings}
 use Rattle.dx_making.specs.Ends.{reads_ahead}
 use Rattle.dx_sessions.specs.Does.{IsDone, IsCutAt, devices}
@@ -34,6 +34,13 @@ returns-in_err-erred-clause-moved g c =
 
 pub returns-in_err-erred-clause-written : goal.returns-in_err-erred-clause-written
 returns-in_err-erred-clause-written g c = put_on _ (g.X.Exports.puts c.loop.exports) _ _ c.loop.self.state.written.files _ c.loop.invariant.written c.step.ensures.written
+
+pub returns-clause-does : goal.returns-clause-does
+returns-clause-does g c = λ x answers files sound.
+    let was = devices (g.L.Library.done c.args.lib.now) (g.F.Files.asked c.args.files.now) (g.O.Sink.written c.args.out.now) (g.X.Exports.puts c.args.exports.now) in
+    let now = devices (g.L.Library.done c.loop.lib) (g.F.Files.asked c.loop.files) (g.O.Sink.written c.loop.out) (g.X.Exports.puts c.loop.exports) in
+    let all : c.loop.counter ≡ c.args.steps = omega (arith, c.loop-test.false, c.loop.invariant.within) in
+    subst (λ (n : ℕ). IsDone x c.args.self.now.listings (stepped_often (coursed x) n (state_of c.args.self.now)) was c.loop.erred c.loop.self now) all (c.loop.invariant.done x answers files sound)
 
 pub loop-init : goal.loop-init
 loop-init g c =
