@@ -59,6 +59,32 @@ fn perform_each(
     Ok(letters)
 }
 
+// Performs the statements in a session of their own, and answers how each ended.
+fn letters_of(
+    alloc: Global,
+    statements: Stmts,
+    files: &mut MemFiles,
+    exports: &mut MemExports,
+    out: &mut MemSink,
+) -> Result<Vec<u8>, AllocError>
+    requires lawful { AreLawful (plain_stmts statements) }
+{
+    let listings = Listings {
+        trace: false,
+        links: false,
+    };
+    let mut session = Session::new(alloc, 1_000_000, listings);
+    perform_each(
+        alloc,
+        &mut session,
+        statements,
+        files,
+        exports,
+        out,
+        &mut Modules::new(),
+    )
+}
+
 // A session over these files in which these calls of the devices fail: how each statement ended, and what was printed.
 fn ends(
     alloc: Global,
@@ -72,20 +98,7 @@ fn ends(
     };
     let mut files = files(alloc, texts, fail.read)?;
     let (mut exports, mut out) = devices(alloc, fail)?;
-    let listings = Listings {
-        trace: false,
-        links: false,
-    };
-    let mut session = Session::new(alloc, 1_000_000, listings);
-    let letters = perform_each(
-        alloc,
-        &mut session,
-        statements,
-        &mut files,
-        &mut exports,
-        &mut out,
-        &mut Modules::new(),
-    )?;
+    let letters = letters_of(alloc, statements, &mut files, &mut exports, &mut out)?;
     Ok((letters, out.bytes().to_vec(alloc)?))
 }
 
