@@ -2,6 +2,7 @@
 #![tactic(auto)]
 
 mod content;
+mod ints;
 mod made;
 mod recent;
 mod tags;

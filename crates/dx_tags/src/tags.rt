@@ -6,6 +6,7 @@ ghost use Rattle.dx_tags.specs.declared.term.Term.TheVariants.{Constant};
 ghost use Rattle.dx_tags.specs.Closed.{AllFormed, AreDistinct, IsFormed, heads_of, NamesExactly};
 ghost use Rattle.dx_tags.specs.Made.{IsMade};
 
+use crate::ints::{Ints, int_in};
 use crate::made::{is_large, keep, object_at, tag_among};
 use crate::recent::Recent;
 use crate::term::{Tag, Term};
@@ -31,6 +32,7 @@ pub struct Tags {
     /// The large constants, and the others, whose objects were made last.
     large: Recent,
     small: Recent,
+    ints: Ints,
 }
 
 impl Model for Tags {
@@ -57,6 +59,7 @@ impl Tags {
             objects: Vec::new(alloc),
             large: Recent::new(alloc, MOST_LARGE),
             small: Recent::new(alloc, MOST_SMALL),
+            ints: Ints::new(alloc),
         }
     }
 
@@ -73,21 +76,55 @@ impl Tags {
         ensures distinct { AreDistinct self.old → AreDistinct self.new }
     {
         let is_large = is_large(&t);
-        if is_large {
-            if let Some(tag) = self.lately(&t) {
-                return Ok(tag);
-            }
-        }
-        let tag = self.insert(t)?;
+        let tag = self.tag_of(t, is_large)?;
         if self.object(tag).is_none() {
             self.make(tag, is_large);
         }
         Ok(tag)
     }
 
-    // The tag of a term that is among the large constants whose objects are kept.
+    // The tag of a term, found among those that were named last, or else by its hash.
+    fn tag_of(&mut self, t: Term, is_large: bool) -> Result<Tag, AllocError>
+        requires formed { IsFormed (heads_of self.old) (length self.old) t }
+        ensures named { IfOk result (λ tag. slice_get self.new tag ≡ Some t) }
+        ensures exact { IfOk result (λ tag. (other : _) → slice_get self.new other ≡ Some t → other ≡ tag) }
+        ensures kept { OnOk result ((self.new ≡ self.old) ⊎ (self.new ≡ self.old ++ t ∷ [])) }
+        ensures err { OnErr result (self.new ≡ self.old) }
+        ensures formed { AllFormed self.old → AllFormed self.new }
+        ensures distinct { AreDistinct self.old → AreDistinct self.new }
+    {
+        if let Some(tag) = self.lately(&t, is_large) {
+            return Ok(tag);
+        }
+        let int = int_in(&t);
+        let tag = self.insert(t)?;
+        self.note_int(int, tag);
+        Ok(tag)
+    }
+
+    // The int of this tag is the latest with its last byte.
+    fn note_int(&mut self, int: Option<i32>, tag: Tag)
+        ensures { self.new ≡ self.old }
+    {
+        if let Some(n) = int {
+            self.ints.put(n, tag);
+        }
+    }
+
+    // The tags of a large constant or of an int may be among these.
+    fn candidates(&self, t: &Term, is_large: bool) -> &[Tag] {
+        if is_large {
+            return self.large.tags();
+        }
+        match int_in(t) {
+            Some(n) => self.ints.like(n),
+            None => &[],
+        }
+    }
+
+    // The tag of a term that is among the constants which were named last.
     #[tactic(auto, using(crate::proofs::SameTerm::one_place))]
-    fn lately(&self, t: &Term) -> Option<Tag>
+    fn lately(&self, t: &Term, is_large: bool) -> Option<Tag>
         ensures named { IfSome result (λ tag. slice_get self.now tag ≡ Some t.now) }
         ensures exact { IfSome result (λ tag. (other : _) → slice_get self.now other ≡ Some t.now → other ≡ tag) }
     {
@@ -95,7 +132,7 @@ impl Tags {
         if self.terms.len() == 0 {
             return None;
         }
-        tag_among(&self.terms, self.large.tags(), t)
+        tag_among(&self.terms, self.candidates(t, is_large), t)
     }
 
     // The tag of a term, found by its hash.
@@ -174,6 +211,7 @@ impl Tags {
         self.objects.clear();
         self.large.clear();
         self.small.clear();
+        self.ints.clear();
     }
 }
 
