@@ -3,12 +3,13 @@ ghost use Rattle.std.specs.Prelude.{◌≡◌, Some};
 ghost use Rattle.dx_io.specs.Devices.{Cause, FileMap};
 ghost use Rattle.dx_ast.specs.Lawful.{AreLawful};
 ghost use Rattle.dx_ast.specs.Plain.{plain_stmts};
+ghost use Rattle.dx_engine.specs.Keeping.{StateFits};
 ghost use Rattle.dx_looking.specs.Setting.{fixed};
 ghost use Rattle.dx_performing.specs.Kept.{new as none_kept};
 ghost use Rattle.dx_shown.specs.Made.{coursed};
 ghost use Rattle.dx_shown.specs.Session.{initial, statements as statements_of};
 ghost use Rattle.dx_making.specs.declared.end.End.TheVariants.{ReadFault, WriteFault, ExportFault};
-ghost use Rattle.dx_sessions.specs.Does.{PerformsSo, devices};
+ghost use Rattle.dx_sessions.specs.Does.{OverSound, PerformsSo, devices};
 
 use crate::session::Session;
 use dx_ast::Stmts;
@@ -45,9 +46,34 @@ pub fn perform<F: Files, X: Exports, O: Sink, L: Library>(
     ensures performs { (map : FileMap) → F.content files.old ≡ Some map → PerformsSo listings (statements_of (coursed (fixed L.answer map budget)) (initial none_kept) (plain_stmts statements)).shown (devices (L.done lib.old) (F.asked files.old) (O.written out.old) (X.puts exports.old)) result (devices (L.done lib.new) (F.asked files.new) (O.written out.new) (X.puts exports.new)) }
 {
     let mut session = Session::new(alloc, budget, listings);
-    let mut erred = false;
-    for statement in statements.into_vec() {
-        erred |= session.statement(alloc, statement, files, exports, out, lib)?;
+    session.statements(alloc, statements, files, exports, out, lib)
+}
+
+impl Session {
+    ghost use Rattle.dx_sessions.specs.SessionView.{state_of};
+
+    /// Performs statements one after the other, and answers whether an error line was due. The first that is cut short is the last.
+    pub(crate) fn statements<F: Files, X: Exports, O: Sink, L: Library>(
+        &mut self,
+        alloc: Global,
+        statements: Stmts,
+        files: &mut F,
+        exports: &mut X,
+        out: &mut O,
+        lib: &mut L,
+    ) -> Result<bool, End>
+        requires lawful { AreLawful (plain_stmts statements) }
+        requires fits { StateFits self.old.state }
+        ensures same { F.content files.new ≡ F.content files.old }
+        ensures read_cause { Cause ReadFault (F.faults files.old) (F.faults files.new) result }
+        ensures write_cause { Cause WriteFault (O.faults out.old) (O.faults out.new) result }
+        ensures export_cause { Cause ExportFault (X.faults exports.old) (X.faults exports.new) result }
+        ensures performs { OverSound L.answer (F.content files.old) self.old.state (λ x. PerformsSo self.old.listings (statements_of (coursed x) (state_of self.old) (plain_stmts statements)).shown (devices (L.done lib.old) (F.asked files.old) (O.written out.old) (X.puts exports.old)) result (devices (L.done lib.new) (F.asked files.new) (O.written out.new) (X.puts exports.new))) }
+    {
+        let mut erred = false;
+        for statement in statements.into_vec() {
+            erred |= self.statement(alloc, statement, files, exports, out, lib)?;
+        }
+        Ok(erred)
     }
-    Ok(erred)
 }
