@@ -51,12 +51,12 @@ stands_still : (defs : List TopText) (t : TopText) (i j : ℕ) → StandsIn defs
 stands_still defs t i j s =
     let more = length-append defs (t ∷ []) in
     let here = s.first in
-    let there = s.place in
+    let there = s.position in
     record {
       first = omega (arith, more, here);
-      place = omega (arith, more, there);
+      position = omega (arith, more, there);
       constant = s.constant;
-      stands = ap (λ (d : TopText). d.value) (definition_still defs t j s.place) ∙ s.stands;
+      stands = ap (λ (d : TopText). d.value) (definition_still defs t j s.position) ∙ s.stands;
       assigned = assigned_still defs t i s.first ∙ s.assigned;
     }
 
@@ -64,9 +64,9 @@ stands_still defs t i j s =
 pub noted_still : (defs : List TopText) (t : TopText) (noted : List (Option ℕ)) → AreNoted defs noted → AreNoted (defs ++ t ∷ []) noted
 noted_still defs t noted are i j e = stands_still defs t i j (are i j e)
 
--- ---- one more place
+-- ---- one more position
 
--- what stands at a place stands before the last, or is the last
+-- what stands at a position stands before the last, or is the last
 abbrev IsAt : List (Option ℕ) → Option ℕ → ℕ → Option ℕ → Type 0
 IsAt xs o i x = (slice_get xs i ≡ Some x) ⊎ ((i ≡ length xs) × (o ≡ x))
 
@@ -84,12 +84,12 @@ stands_at : (defs : List TopText) (xs : List (Option ℕ)) (o : Option ℕ) (i j
 stands_at defs xs o i j are new (inl e) = are i j e
 stands_at defs xs o i j are new (inr e) = subst (λ k. StandsIn defs k j) (sym e.0) (new j e.1)
 
--- a place that is noted behind the others, or for which there was no memory
-pub noted_after : (defs : List TopText) (xs new : List (Option ℕ)) (o : Option ℕ) (place : ℕ) (ok : Bool) → new ≡ (if ok then xs ++ o ∷ [] else xs) → place ≡ length xs → AreNoted defs xs → ((k : ℕ) → o ≡ Some k → StandsIn defs place k) → AreNoted defs new
-noted_after defs xs new o place true e at are stands =
+-- a position that is noted behind the others, or for which there was no memory
+pub noted_after : (defs : List TopText) (xs new : List (Option ℕ)) (o : Option ℕ) (position : ℕ) (ok : Bool) → new ≡ (if ok then xs ++ o ∷ [] else xs) → position ≡ length xs → AreNoted defs xs → ((k : ℕ) → o ≡ Some k → StandsIn defs position k) → AreNoted defs new
+noted_after defs xs new o position true e at are stands =
     let here = subst (λ n. (k : ℕ) → o ≡ Some k → StandsIn defs n k) at stands in
     subst (AreNoted defs) (sym e) (λ i j s. stands_at defs xs o i j are here (at_end xs o i (Some j) s))
-noted_after defs xs new o place false e at are stands = subst (AreNoted defs) (sym e) are
+noted_after defs xs new o position false e at are stands = subst (AreNoted defs) (sym e) are
 
 -- ---- how a definition comes to a constant
 
@@ -100,7 +100,7 @@ one_target d t e before is = ap (λ x. of_text x before) is
 pub stands_itself : (defs : List TopText) (i : ℕ) (t : Text) (c : Const) → i < length defs → definition defs i ≡ record { targets = t ∷ []; value = Constant c } → StandsIn defs i i
 stands_itself defs i t c h is = record {
   first = h;
-  place = h;
+  position = h;
   constant = c;
   stands = ap (λ (d : TopText). d.value) is;
   assigned = one_target (definition defs i) t (Constant c) (constant_at defs i) is;
@@ -110,7 +110,7 @@ stands_itself defs i t c h is = record {
 pub stands_by_name : (defs : List TopText) (i k j : ℕ) (t n : Text) → i < length defs → definition defs i ≡ record { targets = t ∷ []; value = Name n } → last_named defs i n ≡ Some k → StandsIn defs k j → StandsIn defs i j
 stands_by_name defs i k j t n h is last s = record {
   first = h;
-  place = s.place;
+  position = s.position;
   constant = s.constant;
   stands = s.stands;
   assigned = one_target (definition defs i) t (Name n) (constant_at defs i) is ∙ constant_named defs i k n last ∙ s.assigned;

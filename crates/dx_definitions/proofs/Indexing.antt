@@ -16,7 +16,7 @@ take_definition (t ∷ rest) zero i h = absurd (omega arith)
 take_definition (t ∷ rest) (suc k) zero h = refl
 take_definition (t ∷ rest) (suc k) (suc i) h = take_definition rest k i (omega arith)
 
--- the last of a name before a place is one of the first so many
+-- the last of a name before a position is one of the first so many
 pub last_take : (defs : List TopText) (n : Text) (k p : ℕ) → p ≤ k → last_named (take k defs) p n ≡ last_named defs p n
 last_take defs n k zero h = refl
 last_take defs n k (suc i) h =
@@ -68,7 +68,7 @@ index_push list more a n index e old =
     length_snoc [] = refl
     length_snoc (x ∷ xs) = ap suc (length_snoc xs)
 
--- one place down, where the name isn't
+-- one position down, where the name isn't
 pub step_down : (defs : List TopText) (n : Text) (p q : ℕ) → p ≡ suc q → has (definition defs q).targets n ≡ false → last_named defs q n ≡ last_named defs p n
 step_down defs n p q e h = sym (ap (λ (k : ℕ). last_named defs k n) e ∙ ap (λ (b : Bool). if b then Some q else last_named defs q n) h)
 

@@ -1,4 +1,4 @@
--- The places of the definitions of each name.
+-- The positions of the definitions of each name.
 use Rattle.std.proofs.Common.{◌≡◌, ℕ, zero, suc, ◌-◌, ◌<◌, ◌≤◌, List, [], ◌∷◌, ◌++◌, length, drop, get_or, Option, Some, Bool, true, false, Vec, refl, sym, ap, ap₂, subst, ◌∙◌, arith}
 use Rattle.std.specs.Prelude.{Result, Ok, Err, OnErr, ◌||◌, if◌then◌else◌}
 use Rattle.std.specs.List.{Contains}
@@ -17,7 +17,7 @@ use Rattle.dx_base.proofs.NameTables.{same_key}
 use Rattle.dx_ast.specs.Classes.{Text}
 use Rattle.dx_base.specs.NameLists.{has}
 use Rattle.dx_definitions.specs.TopTexts.{TopText, definition}
-use Rattle.dx_definitions.specs.Index.{Index, listed, index_of, with_place, noted, ArePlaces, Indexes}
+use Rattle.dx_definitions.specs.Index.{Index, listed, index_of, with_position, noted, ArePositions, Indexes}
 
 -- ---- a list that is written in the table
 
@@ -43,17 +43,17 @@ written old new name value h =
     let each = written_at old new name value h in
     λ i other. each other i
 
--- ---- one place more
+-- ---- one position more
 
 module _ {S : Type 0} (old new : HashMap (Vec ℕ Global) (Vec ℕ Global) S) (name : Text) (list : Vec ℕ Global) where
-  pub index_grown : (place : ℕ) → under_name new ≡ changed_at (under_name old) name (Some list) → list.items ≡ index_of old name ++ place ∷ [] → index_of new ≡ with_place (index_of old) name place
-  index_grown place h e = λ i other. each other i
+  pub index_grown : (position : ℕ) → under_name new ≡ changed_at (under_name old) name (Some list) → list.items ≡ index_of old name ++ position ∷ [] → index_of new ≡ with_position (index_of old) name position
+  index_grown position h e = λ i other. each other i
     where
-      by : (other : Text) (b : Bool) → listed (if b then Some list else under_name old other) ≡ (if b then index_of old name ++ place ∷ [] else index_of old other)
+      by : (other : Text) (b : Bool) → listed (if b then Some list else under_name old other) ≡ (if b then index_of old name ++ position ∷ [] else index_of old other)
       by other true = e
       by other false = refl
 
-      each : (other : Text) → index_of new other ≡ with_place (index_of old) name place other
+      each : (other : Text) → index_of new other ≡ with_position (index_of old) name position other
       each other = ap (λ (t : Text → Option (Vec ℕ Global)). listed (t other)) h ∙ by other (bytes_eq name other)
 
   pub index_kept : under_name new ≡ changed_at (under_name old) name (Some list) → list.items ≡ index_of old name → index_of new ≡ index_of old
@@ -66,11 +66,11 @@ module _ {S : Type 0} (old new : HashMap (Vec ℕ Global) (Vec ℕ Global) S) (n
       each : (other : Text) → index_of new other ≡ index_of old other
       each other = ap (λ (t : Text → Option (Vec ℕ Global)). listed (t other)) h ∙ by other (bytes_eq name other) refl
 
--- the place behind all definitions may stand under any name
-keeps_one : (index : Index) (defs : List TopText) (name : Text) → Indexes index defs → Indexes (with_place index name (length defs)) defs
+-- the position behind all definitions may stand under any name
+keeps_one : (index : Index) (defs : List TopText) (name : Text) → Indexes index defs → Indexes (with_position index name (length defs)) defs
 keeps_one index defs name all other = go (bytes_eq name other) refl
   where
-    more : ArePlaces (index name ++ length defs ∷ []) defs name
+    more : ArePositions (index name ++ length defs ∷ []) defs name
     more =
         let here = all name in
         let last : (d : ℕ) → 0 < length (index name) → get_or (index name) (length (index name) - 1) d ≤ length defs = λ d lt. here.within (length (index name) - 1) d (omega (arith, lt)) in
@@ -84,54 +84,54 @@ keeps_one index defs name all other = go (bytes_eq name other) refl
         one zero d lt = omega arith
         one (suc k) d lt = absurd (omega arith)
 
-    go : (b : Bool) → bytes_eq name other ≡ b → ArePlaces (if b then index name ++ length defs ∷ [] else index other) defs other
-    go true e = subst (λ (n : Text). ArePlaces (index name ++ length defs ∷ []) defs n) ((bytes_eq-Decides name other).0 e) more
+    go : (b : Bool) → bytes_eq name other ≡ b → ArePositions (if b then index name ++ length defs ∷ [] else index other) defs other
+    go true e = subst (λ (n : Text). ArePositions (index name ++ length defs ∷ []) defs n) ((bytes_eq-Decides name other).0 e) more
     go false e = all other
 
 pub keeps_all : (names : List Text) (index : Index) (defs : List TopText) → Indexes index defs → Indexes (noted index names (length defs)) defs
 keeps_all [] index defs all = all
-keeps_all (n ∷ rest) index defs all = keeps_all rest (with_place index n (length defs)) defs (keeps_one index defs n all)
+keeps_all (n ∷ rest) index defs all = keeps_all rest (with_position index n (length defs)) defs (keeps_one index defs n all)
 
-pub keeps_note : (old new : Index) (name : Text) (place : ℕ) (defs : List TopText) → new ≡ with_place old name place → length defs ≡ place → Indexes old defs → Indexes new defs
-keeps_note old new name place defs e l all =
-    subst (λ (index : Index). Indexes index defs) (sym (e ∙ ap (λ (p : ℕ). with_place old name p) (sym l))) (keeps_one old defs name all)
+pub keeps_note : (old new : Index) (name : Text) (position : ℕ) (defs : List TopText) → new ≡ with_position old name position → length defs ≡ position → Indexes old defs → Indexes new defs
+keeps_note old new name position defs e l all =
+    subst (λ (index : Index). Indexes index defs) (sym (e ∙ ap (λ (p : ℕ). with_position old name p) (sym l))) (keeps_one old defs name all)
 
 -- the next of some names
-pub note_next : (names : List Text) (i j : ℕ) (n m : Text) (index : Index) (place : ℕ) → i < length names → n ≡ get_or names i n → m ≡ n → j ≡ suc i →
-    noted (with_place index m place) (drop j names) place ≡ noted index (drop i names) place
-note_next [] i j n m index place h e same next = absurd (omega (arith, h))
-note_next (x ∷ rest) zero zero n m index place h e same next = absurd (omega (arith, next))
-note_next (x ∷ rest) (suc i) zero n m index place h e same next = absurd (omega (arith, next))
-note_next (x ∷ rest) zero (suc j) n m index place h e same next =
+pub note_next : (names : List Text) (i j : ℕ) (n m : Text) (index : Index) (position : ℕ) → i < length names → n ≡ get_or names i n → m ≡ n → j ≡ suc i →
+    noted (with_position index m position) (drop j names) position ≡ noted index (drop i names) position
+note_next [] i j n m index position h e same next = absurd (omega (arith, h))
+note_next (x ∷ rest) zero zero n m index position h e same next = absurd (omega (arith, next))
+note_next (x ∷ rest) (suc i) zero n m index position h e same next = absurd (omega (arith, next))
+note_next (x ∷ rest) zero (suc j) n m index position h e same next =
     let start : j ≡ 0 = omega (arith, next) in
-    ap₂ (λ (y : Text) (k : ℕ). noted (with_place index y place) (drop k rest) place) (same ∙ e) start
-note_next (x ∷ rest) (suc i) (suc j) n m index place h e same next = note_next rest i j n m index place (omega arith) e same (omega (arith, next))
+    ap₂ (λ (y : Text) (k : ℕ). noted (with_position index y position) (drop k rest) position) (same ∙ e) start
+note_next (x ∷ rest) (suc i) (suc j) n m index position h e same next = note_next rest i j n m index position (omega arith) e same (omega (arith, next))
 
 -- ---- a definition that joins
 
-stays_one : (index : Index) (m : Text) (place : ℕ) (n : Text) (p : ℕ) → Contains (index n) p → Contains (with_place index m place n) p
-stays_one index m place n p h = go (bytes_eq m n) refl
+stays_one : (index : Index) (m : Text) (position : ℕ) (n : Text) (p : ℕ) → Contains (index n) p → Contains (with_position index m position n) p
+stays_one index m position n p h = go (bytes_eq m n) refl
   where
-    go : (b : Bool) → bytes_eq m n ≡ b → Contains (if b then index m ++ place ∷ [] else index n) p
-    go true e = Contains-append_left (index m) (place ∷ []) p (subst (λ (x : Text). Contains (index x) p) (sym ((bytes_eq-Decides m n).0 e)) h)
+    go : (b : Bool) → bytes_eq m n ≡ b → Contains (if b then index m ++ position ∷ [] else index n) p
+    go true e = Contains-append_left (index m) (position ∷ []) p (subst (λ (x : Text). Contains (index x) p) (sym ((bytes_eq-Decides m n).0 e)) h)
     go false e = h
 
-stays : (names : List Text) (index : Index) (place : ℕ) (n : Text) (p : ℕ) → Contains (index n) p → Contains (noted index names place n) p
-stays [] index place n p h = h
-stays (m ∷ rest) index place n p h = stays rest (with_place index m place) place n p (stays_one index m place n p h)
+stays : (names : List Text) (index : Index) (position : ℕ) (n : Text) (p : ℕ) → Contains (index n) p → Contains (noted index names position n) p
+stays [] index position n p h = h
+stays (m ∷ rest) index position n p h = stays rest (with_position index m position) position n p (stays_one index m position n p h)
 
--- the place is under each of the names
-joined : (names : List Text) (index : Index) (place : ℕ) (n : Text) → has names n ≡ true → Contains (noted index names place n) place
-joined [] index place n h = cc
-joined (m ∷ rest) index place n h = go (bytes_eq m n) refl (joined rest (with_place index m place) place n) h
+-- the position is under each of the names
+joined : (names : List Text) (index : Index) (position : ℕ) (n : Text) → has names n ≡ true → Contains (noted index names position n) position
+joined [] index position n h = cc
+joined (m ∷ rest) index position n h = go (bytes_eq m n) refl (joined rest (with_position index m position) position n) h
   where
-    go : (b : Bool) → bytes_eq m n ≡ b → (has rest n ≡ true → Contains (noted (with_place index m place) rest place n) place) → (b || has rest n) ≡ true → Contains (noted (with_place index m place) rest place n) place
+    go : (b : Bool) → bytes_eq m n ≡ b → (has rest n ≡ true → Contains (noted (with_position index m position) rest position n) position) → (b || has rest n) ≡ true → Contains (noted (with_position index m position) rest position n) position
     go true e later s =
-        let here : with_place index m place n ≡ index m ++ place ∷ [] = cond-true (bytes_eq m n) (index m ++ place ∷ []) (index n) e in
-        stays rest (with_place index m place) place n place (subst (λ (xs : List ℕ). Contains xs place) (sym here) (Contains-push (index m) place))
+        let here : with_position index m position n ≡ index m ++ position ∷ [] = cond-true (bytes_eq m n) (index m ++ position ∷ []) (index n) e in
+        stays rest (with_position index m position) position n position (subst (λ (xs : List ℕ). Contains xs position) (sym here) (Contains-push (index m) position))
     go false e later s = later s
 
--- which definition is at a place, after one joined
+-- which definition is at a position, after one joined
 joined_at : (defs : List TopText) (t : TopText) (n : Text) (p : ℕ) → has (definition (defs ++ t ∷ []) p).targets n ≡ true →
     (has (definition defs p).targets n ≡ true) ⊎ ((p ≡ length defs) × (has t.targets n ≡ true))
 joined_at [] t n zero h = inr (refl, h)

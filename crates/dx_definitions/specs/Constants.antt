@@ -20,7 +20,7 @@ of_one [] c = None
 of_one (t ∷ []) c = c
 of_one (t ∷ u ∷ rest) c = None
 
--- the constant that a name means at a place: that of its last definition before the place, and NULL where it has none
+-- the constant that a name means at a position: that of its last definition before the position, and NULL where it has none
 abbrev pub constant_at : List TopText → ℕ → Text → Option Const
 constant_at defs zero n = Some const.Null
 constant_at defs (suc i) n =
@@ -33,12 +33,12 @@ constant_of defs i = of_one (definition defs i).targets (value_constant (definit
 -- what definition number i assigns is the constant that stands in definition number j
 pub record StandsIn (defs : List TopText) (i j : ℕ) : Type 0 where
   pub first : i < length defs
-  pub place : j < length defs
+  pub position : j < length defs
   pub constant : Const
   pub stands : (definition defs j).value ≡ Constant constant
   pub assigned : constant_of defs i ≡ Some constant
 
--- each place that is noted for a definition is so
+-- each position that is noted for a definition is so
 abbrev pub AreNoted : List TopText → List (Option ℕ) → Type 0
 AreNoted defs noted = (i j : ℕ) → slice_get noted i ≡ Some (Some j) → StandsIn defs i j
 

@@ -19,7 +19,7 @@ definition [] i = no_text
 definition (t ∷ later) zero = t
 definition (t ∷ later) (suc i) = definition later i
 
--- the last definition of a name before a place
+-- the last definition of a name before a position
 abbrev pub last_named : List TopText → ℕ → Text → Option ℕ
 last_named definitions zero n = None
 last_named definitions (suc i) n = if has (definition definitions i).targets n then Some i else last_named definitions i n

@@ -1,10 +1,10 @@
-//! The definitions of the top level, and under each name the places of its definitions.
+//! The definitions of the top level, and under each name the positions of its definitions.
 ghost use Rattle.std.specs.Prelude.{◌≡◌, ◌<◌, ◌≤◌, ◌∷◌, ◌++◌, [], ℕ, List, Some, map, slice_get, length, nat_lt, true, false, OnOk, OnErr, IfSome, IsOk};
 ghost use Rattle.std.specs.List.Sorted.{IsNonDecreasing, IsPartitionPoint};
 ghost use Rattle.dx_base.specs.NameLists.{has};
 ghost use Rattle.dx_definitions.specs.Constants.{StandsIn, IsDefined, constant_at};
 ghost use Rattle.dx_definitions.specs.TopTexts.{TopText, definition, last_named};
-ghost use Rattle.dx_definitions.specs.Index.{text_of, index_of, with_place, noted, ArePlaces, Indexes, IsIndexed, IsLastFrom};
+ghost use Rattle.dx_definitions.specs.Index.{text_of, index_of, with_position, noted, ArePositions, Indexes, IsIndexed, IsLastFrom};
 
 use dx_ast::{Assign, Const, Expr};
 use dx_base::Bytes;
@@ -16,11 +16,11 @@ use std::marker::Model;
 #[derive(Drop)]
 pub struct Definitions {
     list: Vec<Assign>,
-    /// Under each name the places of its definitions, in ascending order, as far as they are noted.
-    places: IndexMap<Vec<u8>, Vec<usize>>,
+    /// Under each name the positions of its definitions, in ascending order, as far as they are noted.
+    positions: IndexMap<Vec<u8>, Vec<usize>>,
     /// How many definitions are noted: all, unless memory ran out when the last ones joined.
     noted: usize,
-    /// For each definition the place of the one in which the constant stands that it assigns, where that is seen from assignments
+    /// For each definition the position of the one in which the constant stands that it assigns, where that is seen from assignments
     /// alone; it lacks the last ones where memory ran out when they joined.
     constants: Vec<Option<usize>>,
 }
@@ -38,7 +38,7 @@ impl Model for Definitions {
 
     ghost view = { λ d. record { items = d.list.items; room = vec_capacity d.list - length d.list.items } };
 
-    ghost invariant = { λ d. IsIndexed d.noted (index_of d.places) (map text_of d.list.items) × AreNoted (map text_of d.list.items) d.constants.items };
+    ghost invariant = { λ d. IsIndexed d.noted (index_of d.positions) (map text_of d.list.items) × AreNoted (map text_of d.list.items) d.constants.items };
 }
 
 fn is_one(names: &[Bytes]) -> bool
@@ -70,35 +70,40 @@ fn has_text(names: &[Bytes], name: &[u8]) -> bool
     false
 }
 
-/// How many of some ascending places are before a place.
-fn count_before(places: &[usize], place: usize) -> usize
-    requires { IsNonDecreasing places.now }
-    ensures bound { result ≤ length places.now }
-    ensures parts { IsPartitionPoint (λ p. nat_lt p place ≡ true) (λ p. nat_lt p place ≡ false) places.now result }
+/// How many of some ascending positions are before a position.
+fn count_before(positions: &[usize], position: usize) -> usize
+    requires { IsNonDecreasing positions.now }
+    ensures bound { result ≤ length positions.now }
+    ensures parts { IsPartitionPoint (λ p. nat_lt p position ≡ true) (λ p. nat_lt p position ≡ false) positions.now result }
 {
     // (most names are looked up from behind all definitions)
-    let count = places.len();
-    if count > 0 && places[count - 1] < place {
+    let count = positions.len();
+    if count > 0 && positions[count - 1] < position {
         return count;
     }
-    places.partition_point(
+    positions.partition_point(
         |p: &usize| -> bool
-            ensures { result ≡ nat_lt p.now place }
-        { *p < place },
+            ensures { result ≡ nat_lt p.now position }
+        { *p < position },
     )
 }
 
-/// The last of the definitions before a place that has this target. All of those are among the places, which ascend; but
-/// where memory ran out once, a place can be that of another definition.
-fn last_named(definitions: &[Assign], places: &[usize], place: usize, name: &[u8]) -> Option<usize>
-    requires { ArePlaces places.now (map text_of definitions.now) name.now }
-    ensures last { result ≡ last_named (map text_of definitions.now) place name.now }
+/// The last of the definitions before a position that has this target. All of those are among the positions, which ascend; but
+/// where memory ran out once, a position can be that of another definition.
+fn last_named(
+    definitions: &[Assign],
+    positions: &[usize],
+    position: usize,
+    name: &[u8],
+) -> Option<usize>
+    requires { ArePositions positions.now (map text_of definitions.now) name.now }
+    ensures last { result ≡ last_named (map text_of definitions.now) position name.now }
     ensures below { IfSome result (λ i. i < length definitions.now) }
 {
-    let mut left = count_before(places, place);
+    let mut left = count_before(positions, position);
     while left > 0 {
         left -= 1;
-        let i = places[left];
+        let i = positions[left];
         if let Some(a) = definitions.get(i) {
             if has_text(a.targets.as_slice(), name) {
                 return Some(i);
@@ -108,64 +113,64 @@ fn last_named(definitions: &[Assign], places: &[usize], place: usize, name: &[u8
     None
 }
 
-/// A name is defined at a place behind all definitions.
+/// A name is defined at a position behind all definitions.
 fn note(
     alloc: Global,
-    places: &mut IndexMap<Vec<u8>, Vec<usize>>,
+    positions: &mut IndexMap<Vec<u8>, Vec<usize>>,
     name: &[u8],
-    place: usize,
+    position: usize,
 ) -> Result<(), AllocError>
-    ensures ok { OnOk result (index_of places.new ≡ with_place (index_of places.old) name.now place) }
-    ensures err { OnErr result (index_of places.new ≡ index_of places.old) }
+    ensures ok { OnOk result (index_of positions.new ≡ with_position (index_of positions.old) name.now position) }
+    ensures err { OnErr result (index_of positions.new ≡ index_of positions.old) }
 {
-    match places.get_mut(name) {
+    match positions.get_mut(name) {
         Some(list) => {
-            list.push(place)?;
+            list.push(position)?;
             Ok(())
         }
-        None => note_first(alloc, places, name, place),
+        None => note_first(alloc, positions, name, position),
     }
 }
 
 fn note_first(
     alloc: Global,
-    places: &mut IndexMap<Vec<u8>, Vec<usize>>,
+    positions: &mut IndexMap<Vec<u8>, Vec<usize>>,
     name: &[u8],
-    place: usize,
+    position: usize,
 ) -> Result<(), AllocError>
-    requires { index_of places.old name.now ≡ [] }
-    ensures ok { OnOk result (index_of places.new ≡ with_place (index_of places.old) name.now place) }
-    ensures err { OnErr result (index_of places.new ≡ index_of places.old) }
+    requires { index_of positions.old name.now ≡ [] }
+    ensures ok { OnOk result (index_of positions.new ≡ with_position (index_of positions.old) name.now position) }
+    ensures err { OnErr result (index_of positions.new ≡ index_of positions.old) }
 {
     let key = Vec::from_slice(alloc, name)?;
     let mut list = Vec::new(alloc);
-    list.push(place)?;
-    places.insert(key, list)?;
+    list.push(position)?;
+    positions.insert(key, list)?;
     Ok(())
 }
 
 fn note_all(
     alloc: Global,
-    places: &mut IndexMap<Vec<u8>, Vec<usize>>,
+    positions: &mut IndexMap<Vec<u8>, Vec<usize>>,
     names: &[Bytes],
-    place: usize,
+    position: usize,
 ) -> Result<(), AllocError>
-    ensures ok { OnOk result (index_of places.new ≡ noted (index_of places.old) names.now place) }
-    ensures keeps { (defs : List TopText) → length defs ≡ place → Indexes (index_of places.old) defs → Indexes (index_of places.new) defs }
+    ensures ok { OnOk result (index_of positions.new ≡ noted (index_of positions.old) names.now position) }
+    ensures keeps { (defs : List TopText) → length defs ≡ position → Indexes (index_of positions.old) defs → Indexes (index_of positions.new) defs }
 {
     for n in names {
-        note(alloc, places, n.bytes(), place)?;
+        note(alloc, positions, n.bytes(), position)?;
     }
     Ok(())
 }
 
-/// The last definition before a place that has this target, and isn't among the first so many.
-fn last_from(definitions: &[Assign], from: usize, place: usize, name: &[u8]) -> Option<usize>
-    requires { from ≤ place }
-    ensures last { IsLastFrom (map text_of definitions.now) from place name.now result }
+/// The last definition before a position that has this target, and isn't among the first so many.
+fn last_from(definitions: &[Assign], from: usize, position: usize, name: &[u8]) -> Option<usize>
+    requires { from ≤ position }
+    ensures last { IsLastFrom (map text_of definitions.now) from position name.now result }
     ensures below { IfSome result (λ i. i < length definitions.now) }
 {
-    let mut left = place;
+    let mut left = position;
     while left > from {
         left -= 1;
         if let Some(a) = definitions.get(left) {
@@ -177,34 +182,34 @@ fn last_from(definitions: &[Assign], from: usize, place: usize, name: &[u8]) -> 
     None
 }
 
-/// The last definition before a place of those that are noted.
+/// The last definition before a position of those that are noted.
 fn last_noted(
     definitions: &[Assign],
-    places: &IndexMap<Vec<u8>, Vec<usize>>,
+    positions: &IndexMap<Vec<u8>, Vec<usize>>,
     noted: usize,
-    place: usize,
+    position: usize,
     name: &[u8],
 ) -> Option<usize>
-    requires indexed { IsIndexed noted (index_of places.now) (map text_of definitions.now) }
-    requires within { place ≤ noted }
-    ensures last { result ≡ last_named (map text_of definitions.now) place name.now }
+    requires indexed { IsIndexed noted (index_of positions.now) (map text_of definitions.now) }
+    requires within { position ≤ noted }
+    ensures last { result ≡ last_named (map text_of definitions.now) position name.now }
     ensures below { IfSome result (λ i. i < length definitions.now) }
 {
-    match places.get(name) {
+    match positions.get(name) {
         None => None,
-        Some(places) => last_named(&definitions[..noted], places, place, name),
+        Some(positions) => last_named(&definitions[..noted], positions, position, name),
     }
 }
 
-/// The definition right before a place, if it has this target: most names are used right behind their definition.
-fn right_before(definitions: &[Assign], place: usize, name: &[u8]) -> Option<usize>
-    ensures last { IfSome result (λ i. Some i ≡ last_named (map text_of definitions.now) place name.now) }
+/// The definition right before a position, if it has this target: most names are used right behind their definition.
+fn right_before(definitions: &[Assign], position: usize, name: &[u8]) -> Option<usize>
+    ensures last { IfSome result (λ i. Some i ≡ last_named (map text_of definitions.now) position name.now) }
     ensures below { IfSome result (λ i. i < length definitions.now) }
 {
-    if place == 0 {
+    if position == 0 {
         return None;
     }
-    let i = place - 1;
+    let i = position - 1;
     if let Some(a) = definitions.get(i) {
         if has_text(a.targets.as_slice(), name) {
             return Some(i);
@@ -217,16 +222,16 @@ fn right_before(definitions: &[Assign], place: usize, name: &[u8]) -> Option<usi
 fn note_new(
     alloc: Global,
     definitions: &[Assign],
-    places: &mut IndexMap<Vec<u8>, Vec<usize>>,
+    positions: &mut IndexMap<Vec<u8>, Vec<usize>>,
     noted: usize,
 ) -> usize
-    requires { IsIndexed noted (index_of places.old) (map text_of definitions.now) }
-    ensures { IsIndexed result (index_of places.new) (map text_of definitions.now) }
+    requires { IsIndexed noted (index_of positions.old) (map text_of definitions.now) }
+    ensures { IsIndexed result (index_of positions.new) (map text_of definitions.now) }
 {
     let mut noted = noted;
     while noted < definitions.len() {
         let a = &definitions[noted];
-        match note_all(alloc, places, a.targets.as_slice(), noted) {
+        match note_all(alloc, positions, a.targets.as_slice(), noted) {
             Ok(()) => noted += 1,
             Err(_) => return noted,
         }
@@ -241,7 +246,7 @@ impl Definitions {
     {
         Definitions {
             list: Vec::new(alloc),
-            places: IndexMap::new(alloc),
+            positions: IndexMap::new(alloc),
             noted: 0,
             constants: Vec::new(alloc),
         }
@@ -268,7 +273,7 @@ impl Definitions {
         ensures room { 0 < self.old.room → IsOk result }
     {
         self.list.push(a)?;
-        self.noted = note_new(alloc, &self.list, &mut self.places, self.noted);
+        self.noted = note_new(alloc, &self.list, &mut self.positions, self.noted);
         self.note_constant();
         Ok(())
     }
@@ -277,9 +282,9 @@ impl Definitions {
     fn note_constant(&mut self)
         ensures { self.new ≡ self.old }
     {
-        let place = self.constants.len();
-        if place < self.list.len() {
-            let constant = self.constant_place(place);
+        let position = self.constants.len();
+        if position < self.list.len() {
+            let constant = self.constant_position(position);
             match self.constants.push(constant) {
                 Ok(()) => {}
                 Err(_) => {}
@@ -287,26 +292,26 @@ impl Definitions {
         }
     }
 
-    // The place where the constant stands that the definition at a place assigns, as far as that is noted for those before it.
-    fn constant_place(&self, place: usize) -> Option<usize>
-        requires { place < length self.now.items }
-        ensures { (j : ℕ) → result ≡ Some j → StandsIn (map text_of self.now.items) place j }
+    // The position where the constant stands that the definition at a position assigns, as far as that is noted for those before it.
+    fn constant_position(&self, position: usize) -> Option<usize>
+        requires { position < length self.now.items }
+        ensures { (j : ℕ) → result ≡ Some j → StandsIn (map text_of self.now.items) position j }
     {
-        let a = self.at(place);
+        let a = self.at(position);
         if !is_one(a.targets.as_slice()) {
             return None;
         }
         match &a.value {
-            Expr::Constant(_) => Some(place),
+            Expr::Constant(_) => Some(position),
             Expr::Name(name) => {
-                let named = self.last_before(place, name.bytes())?;
+                let named = self.last_before(position, name.bytes())?;
                 self.noted_constant(named)
             }
             _ => None,
         }
     }
 
-    // The place that is noted for the constant of a definition.
+    // The position that is noted for the constant of a definition.
     fn noted_constant(&self, i: usize) -> Option<usize>
         ensures { (j : ℕ) → result ≡ Some j → StandsIn (map text_of self.now.items) i j }
     {
@@ -321,30 +326,30 @@ impl Definitions {
         &self.as_slice()[i]
     }
 
-    /// The place of the last definition of a name before a place.
-    pub fn last_before(&self, place: usize, name: &[u8]) -> Option<usize>
-        ensures last { result ≡ last_named (map text_of self.now.items) place name.now }
+    /// The position of the last definition of a name before a position.
+    pub fn last_before(&self, position: usize, name: &[u8]) -> Option<usize>
+        ensures last { result ≡ last_named (map text_of self.now.items) position name.now }
         ensures below { IfSome result (λ i. i < length self.now.items) }
     {
-        if let Some(i) = right_before(&self.list, place, name) {
+        if let Some(i) = right_before(&self.list, position, name) {
             return Some(i);
         }
-        if place <= self.noted {
-            return last_noted(&self.list, &self.places, self.noted, place, name);
+        if position <= self.noted {
+            return last_noted(&self.list, &self.positions, self.noted, position, name);
         }
-        match last_from(&self.list, self.noted, place, name) {
+        match last_from(&self.list, self.noted, position, name) {
             Some(i) => Some(i),
-            None => last_noted(&self.list, &self.places, self.noted, self.noted, name),
+            None => last_noted(&self.list, &self.positions, self.noted, self.noted, name),
         }
     }
 
-    /// The constant that a name means at a place, where that is seen at once: its last definition before the place assigns it to
+    /// The constant that a name means at a position, where that is seen at once: its last definition before the position assigns it to
     /// this name alone, as it stands or by a name that means it so. None where it is anything else.
-    pub fn constant_before(&self, place: usize, name: &[u8]) -> Option<&Const>
-        ensures means { IfSome result (λ c. constant_at (map text_of self.now.items) place name.now ≡ Some c.now) }
+    pub fn constant_before(&self, position: usize, name: &[u8]) -> Option<&Const>
+        ensures means { IfSome result (λ c. constant_at (map text_of self.now.items) position name.now ≡ Some c.now) }
         ensures defined { IfSome result (λ c. IsDefined (map text_of self.now.items) c.now) }
     {
-        let i = self.last_before(place, name)?;
+        let i = self.last_before(position, name)?;
         let j = self.noted_constant(i)?;
         match &self.at(j).value {
             Expr::Constant(c) => Some(c),

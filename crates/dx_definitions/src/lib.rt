@@ -1,4 +1,4 @@
-//! The definitions of the top level in order, and the last one of a name before a place.
+//! The definitions of the top level in order, and the last one of a name before a position.
 #![tactic(auto)]
 
 mod definitions;

@@ -49,10 +49,10 @@ scope_none nodes own top e =
     λ i n. each n i
 
 -- what a text comes to in the setting of the top level
-pub at_top : (w : World) (place : ℕ) (t : TopText) (s : Setting) (spot : Spot) (before : List Name) (old mid new : Graph) (r : Results) → before ≡ [] → s ≡ top_setting w place spot → spot ≡ top_spot t.targets →
-    graph_of mid ≡ graph_of old → Expands (expr_in s before t.value) mid new r → Expands (top_expanded w place t) old new r
-at_top w place t s spot before old mid new r none is here same h =
-    let e : expr_in s before t.value ≡ top_expanded w place t = ap₂ (λ (x : Setting) (names : List Name). expr_in x names t.value) (is ∙ ap (top_setting w place) here) none in
+pub at_top : (w : World) (position : ℕ) (t : TopText) (s : Setting) (spot : Spot) (before : List Name) (old mid new : Graph) (r : Results) → before ≡ [] → s ≡ top_setting w position spot → spot ≡ top_spot t.targets →
+    graph_of mid ≡ graph_of old → Expands (expr_in s before t.value) mid new r → Expands (top_expanded w position t) old new r
+at_top w position t s spot before old mid new r none is here same h =
+    let e : expr_in s before t.value ≡ top_expanded w position t = ap₂ (λ (x : Setting) (names : List Name). expr_in x names t.value) (is ∙ ap (top_setting w position) here) none in
     record {
       gives = subst (λ (x : Expanded). Gives (graph_of new).nodes r x.result) e h.gives;
       effects = h.effects ∙ ap₂ (λ (g : plain.Graph) (x : Expanded). unfolded g ++ effects_among x.kept) same e;
@@ -145,24 +145,24 @@ same_on u v w a b = record {
 -- ---- the last text
 
 abbrev effects_at : Option TopText → Dictionary → Frames → ℕ → List CallTree
-effects_at None d f place = []
-effects_at (Some t) d f place =
+effects_at None d f position = []
+effects_at (Some t) d f position =
     let plain = dictionary_of d in
-    effects_among (expand_within 64 plain.macros f (scope_within 64 plain.macros f plain.definitions place) t).kept
+    effects_among (expand_within 64 plain.macros f (scope_within 64 plain.macros f plain.definitions position) t).kept
 
-shown_at : (t : Option TopText) (w : World) (place : ℕ) → effects_in t w place ≡ effects_at t w.dictionary.now w.frames place
+shown_at : (t : Option TopText) (w : World) (position : ℕ) → effects_in t w position ≡ effects_at t w.dictionary.now w.frames position
 unfolding top_scope
-shown_at None w place = refl
-shown_at (Some t) w place = refl
+shown_at None w position = refl
+shown_at (Some t) w position = refl
 
 plain_at : (t : Option TopText) (d : Dictionary) (f : Frames) → effects_at t d f (length (dictionary_of d).definitions) ≡ effects_among (kept_of 64 (dictionary_of d) f t)
 plain_at None d f = refl
 plain_at (Some t) d f = refl
 
-pub last_effects : (w v : World) (place : ℕ) (t : Option TopText) → SameWorld w v → place ≡ length (dictionary_in w).definitions → effects_in t v place ≡ effects_among (kept_of 64 (dictionary_in w) w.frames t)
-last_effects w v place t same here =
-    shown_at t v place
-    ∙ ap₂ (λ (d : Dictionary) (f : Frames). effects_at t d f place) same.dictionary same.frames
+pub last_effects : (w v : World) (position : ℕ) (t : Option TopText) → SameWorld w v → position ≡ length (dictionary_in w).definitions → effects_in t v position ≡ effects_among (kept_of 64 (dictionary_in w) w.frames t)
+last_effects w v position t same here =
+    shown_at t v position
+    ∙ ap₂ (λ (d : Dictionary) (f : Frames). effects_at t d f position) same.dictionary same.frames
     ∙ ap (effects_at t w.dictionary.now w.frames) here
     ∙ plain_at t w.dictionary.now w.frames
 

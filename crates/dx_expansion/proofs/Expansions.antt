@@ -186,13 +186,13 @@ body_one w s after body old mid now t u before_mid before_now x rest e b same so
     }
 
 abbrev enter_at : World → ℕ → ℕ → syntax.Macro → List plain.Given → Spot → Expanded
-enter_at w place left = plain.enter_macro (dictionary_in w).macros w.frames (top_scope w place) left
+enter_at w position left = plain.enter_macro (dictionary_in w).macros w.frames (top_scope w position) left
 
 setting_after : (w : World) (t u : Text) (mid now : Graph) → SameText t u → spot_under (spots_in now) t.trail ≡ spot_under (spots_in mid) t.trail →
     setting w u now ≡ record { under = under_of w t; spot = spot_under (spots_in mid) t.trail; scope = scope_of w u (graph_of now).nodes }
 setting_after w t u mid now same spot =
     let spots : spot_under (spots_in now) u.trail ≡ spot_under (spots_in mid) t.trail = ap (spot_under (spots_in now)) same.trail ∙ spot in
-    let under : under_of w u ≡ under_of w t = ap₂ (λ (p l : ℕ). record { macros = (under_of w t).macros; frames = (under_of w t).frames; enter = enter_at w p l }) same.place same.left in
+    let under : under_of w u ≡ under_of w t = ap₂ (λ (p l : ℕ). record { macros = (under_of w t).macros; frames = (under_of w t).frames; enter = enter_at w p l }) same.position same.left in
     ap₂ (λ (a : plain.Under) (b : Spot). record { under = a; spot = b; scope = scope_of w u (graph_of now).nodes }) under spots
 
 pub body_step : (w : World) (s : Setting) (body : List Stmt) (i : ℕ) (x : Stmt) (old mid now : Graph) (t u : Text) (before_mid before_now : List Name) → i < length body → x ≡ get_or body i x →
@@ -241,24 +241,24 @@ calls_after_call before first all c name args n a f e =
 
 -- ---- a macro
 
-entered : (w : World) (t : Text) (s : Setting) (place left inner : ℕ) (m : MacroDef) (gs : List plain.Given) (spot : Spot) → left ≡ suc inner →
-    plain.enter_macro (dictionary_in w).macros w.frames (top_scope w place) left (plain_macro m) gs spot
-    ≡ plain.expand_body (record { macros = (dictionary_in w).macros; frames = w.frames; enter = enter_at w place inner }) spot (out-MacroDef m).results (plain.with_params (out-MacroDef m).params 0 gs (top_scope w place)) [] (plain_stmts (out-MacroDef m).body)
-entered w t s place left inner m gs spot e =
-    ap₂ (λ (n : ℕ) (x : syntax.Macro). plain.enter_macro (dictionary_in w).macros w.frames (top_scope w place) n x gs spot) e (plain_macro_out m)
+entered : (w : World) (t : Text) (s : Setting) (position left inner : ℕ) (m : MacroDef) (gs : List plain.Given) (spot : Spot) → left ≡ suc inner →
+    plain.enter_macro (dictionary_in w).macros w.frames (top_scope w position) left (plain_macro m) gs spot
+    ≡ plain.expand_body (record { macros = (dictionary_in w).macros; frames = w.frames; enter = enter_at w position inner }) spot (out-MacroDef m).results (plain.with_params (out-MacroDef m).params 0 gs (top_scope w position)) [] (plain_stmts (out-MacroDef m).body)
+entered w t s position left inner m gs spot e =
+    ap₂ (λ (n : ℕ) (x : syntax.Macro). plain.enter_macro (dictionary_in w).macros w.frames (top_scope w position) n x gs spot) e (plain_macro_out m)
 
 -- a macro's body and then its results
 pub macro_made : {E : Type 0} (w : World) (t inner after : Text) (old mid now : Graph) (m : MacroDef) (body : List Stmt) (results : List Name) (step : Step) (gs : List plain.Given) (r : Result Results E) →
     inner.left + 1 ≡ t.left → graph_of mid ≡ graph_of old →
-    setting w inner mid ≡ inner_setting (setting w t old) (top_scope w t.place) inner.left (out-MacroDef m).params step gs →
+    setting w inner mid ≡ inner_setting (setting w t old) (top_scope w t.position) inner.left (out-MacroDef m).params step gs →
     body ≡ (out-MacroDef m).body → results ≡ (out-MacroDef m).results →
     ((names : List Name) → ExpandsBody (body_in (setting w inner mid) names [] (plain_stmts body)) mid now (plain.results_in names (scope_of w after (graph_of now).nodes))) →
     IfOk r (λ x. Gives (graph_of now).nodes x (plain.results_in results (scope_of w after (graph_of now).nodes))) →
     IfOk r (λ x. Expands ((setting w t old).under.enter (plain_macro m) gs (plain.spot_of_call (setting w t old).spot step)) old now x)
 macro_made w t inner after old mid now m body results step gs (Ok x) l g same b p expands gives =
     let spot = plain.spot_of_call (setting w t old).spot step in
-    let is : (setting w t old).under.enter (plain_macro m) gs spot ≡ body_in (inner_setting (setting w t old) (top_scope w t.place) inner.left (out-MacroDef m).params step gs) (out-MacroDef m).results [] (plain_stmts (out-MacroDef m).body) =
-    entered w t (setting w t old) t.place t.left inner.left m gs spot (omega (arith, l)) in
+    let is : (setting w t old).under.enter (plain_macro m) gs spot ≡ body_in (inner_setting (setting w t old) (top_scope w t.position) inner.left (out-MacroDef m).params step gs) (out-MacroDef m).results [] (plain_stmts (out-MacroDef m).body) =
+    entered w t (setting w t old) t.position t.left inner.left m gs spot (omega (arith, l)) in
     let here : (setting w t old).under.enter (plain_macro m) gs spot ≡ body_in (setting w inner mid) results [] (plain_stmts body) =
     is ∙ ap (λ (y : Setting). body_in y (out-MacroDef m).results [] (plain_stmts (out-MacroDef m).body)) (sym same)
     ∙ ap₂ (λ (ns : List Name) (ss : List Stmt). body_in (setting w inner mid) ns [] (plain_stmts ss)) (sym p) (sym b) in
@@ -281,17 +281,17 @@ name_made w t g before e n o is m = subst (λ (x : syntax.Expr). Expands (expr_i
 pub call_statement : (w : World) (t : Text) (before : List Name) (s : syntax.Stmt) (c : syntax.Call) (old new : Graph) (r : Results) → s ≡ syntax.Calls c → Grows old new → OwnFits (graph_of old).nodes (under_name t.own) →
     Expands (call_in (setting w t old) before c) old new r → ExpandsStatement (setting w t old) before s old new (scope_of w t (graph_of new).nodes)
 call_statement w t before s c old new r is g fits e = subst (λ (x : syntax.Stmt). ExpandsStatement (setting w t old) before x old new (scope_of w t (graph_of new).nodes)) (sym is) (record {
-  scope_after = scope_later (graph_of old).nodes (graph_of new).nodes (under_name t.own) (top_scope w t.place) g.nodes fits;
+  scope_after = scope_later (graph_of old).nodes (graph_of new).nodes (under_name t.own) (top_scope w t.position) g.nodes fits;
   effects = e.effects;
 })
 
 pub assign_statement : (w : World) (t : Text) (before targets names : List Name) (s : syntax.Stmt) (e : syntax.Expr) (old new : Graph) (own : Own) (r : Results) → s ≡ syntax.Assigns targets e → names ≡ targets → Grows old new → OwnFits (graph_of old).nodes (under_name t.own) →
     Expands (expr_in (setting w t old) before e) old new r →
-    scope_with (graph_of new).nodes own (top_scope w t.place) ≡ plain.assigned names 0 (results_trees (graph_of new).nodes r) (scope_with (graph_of new).nodes (under_name t.own) (top_scope w t.place)) →
-    ExpandsStatement (setting w t old) before s old new (scope_with (graph_of new).nodes own (top_scope w t.place))
+    scope_with (graph_of new).nodes own (top_scope w t.position) ≡ plain.assigned names 0 (results_trees (graph_of new).nodes r) (scope_with (graph_of new).nodes (under_name t.own) (top_scope w t.position)) →
+    ExpandsStatement (setting w t old) before s old new (scope_with (graph_of new).nodes own (top_scope w t.position))
 assign_statement w t before targets names s e old new own r is n g fits h a =
-    let scope = scope_with (graph_of new).nodes own (top_scope w t.place) in
-    let stays = scope_later (graph_of old).nodes (graph_of new).nodes (under_name t.own) (top_scope w t.place) g.nodes fits in
+    let scope = scope_with (graph_of new).nodes own (top_scope w t.position) in
+    let stays = scope_later (graph_of old).nodes (graph_of new).nodes (under_name t.own) (top_scope w t.position) g.nodes fits in
     subst (λ (x : syntax.Stmt). ExpandsStatement (setting w t old) before x old new scope) (sym is) (record {
       scope_after = a ∙ ap₂ (λ (f : ℕ → Tree) (y : Scope). plain.assigned names 0 f y) h.gives.trees stays
           ∙ ap (λ (ts : List Name). plain.assigned ts 0 (expr_in (setting w t old) before e).result (setting w t old).scope) n;

@@ -1,32 +1,28 @@
 -- A call over constants has no fault beside its own, and its effects are those of the call itself.
-use Rattle.std.proofs.Common.{◌≡◌, ℕ, zero, suc, ◌<◌, ◌≤◌, ◌+◌, List, [], ◌∷◌, ◌++◌, length, get_or, map, drop, Option, Some, None, Bool, true, false, refl, sym, ap, ap₂, subst, ◌∙◌, arith, append-nil, append_assoc}
+use Rattle.std.proofs.Common.{◌≡◌, ℕ, zero, suc, ◌<◌, ◌≤◌, ◌+◌, List, [], ◌∷◌, ◌++◌, length, get_or, map, drop, Option, Some, None, Bool, true, false, refl, sym, ap, ap₂, subst, ◌∙◌, append-nil, append_assoc}
 use Rattle.std.specs.Prelude.{if◌then◌else◌, slice_index_or, slice_set}
 use Rattle.std.specs.Str.{bytes_eq}
 use Rattle.std.proofs.lemmas.List.{map-append, drop_more, drop_all}
 use Rattle.dx_base.specs.NameLists.{has}
 use Rattle.dx_base.specs.declared.function.Function.{Function}
 use Rattle.dx_ast.specs.Classes.{Text}
-use Rattle.dx_ast.specs.Table.{row_of}
 use Rattle.dx_ast.specs.declared.constants.Const.{Const}
 use Rattle.dx_ast.specs.declared.expressions.Arg.{Arg, out-Arg}
-use Rattle.dx_ast.specs.declared.expressions.Call.{out-Call}
-use Rattle.dx_ast.specs.declared.expressions.Call as code
 use Rattle.dx_ast.specs.declared.sequencing.Frames.{Frames}
 use Rattle.dx_ast.specs.Limits.{max_macro_steps}
-use Rattle.dx_ast.specs.Plain.{plain_expr, plain_call, plain_args}
-use Rattle.dx_ast.specs.Syntax.{Expr, Constant, Name, Frame, CallOf, Call, MakeCall, Args, NoArg, AndArg}
-use Rattle.dx_ast.proofs.PlainLaws.{plain_call_out}
+use Rattle.dx_ast.specs.Plain.{plain_expr, plain_args}
+use Rattle.dx_ast.specs.Syntax.{Expr, Constant, Name, Frame, CallOf, MakeCall, Args, NoArg, AndArg}
 use Rattle.dx_definitions.specs.Constants.{value_constant, of_one, constant_at, constant_of}
 use Rattle.dx_definitions.specs.TopTexts.{TopText, definition}
 use Rattle.dx_graph.specs.Graph.{Node}
 use Rattle.dx_graph.specs.Operands.{operand_tree, given_of}
 use Rattle.dx_graph.specs.declared.given.Given as graph
 use Rattle.dx_macros.specs.Dictionary.{Macros, Dictionary, callee, of_call}
-use Rattle.dx_macros.specs.Expansion.{Scope, Given, Expanded, ArgsExpanded, Under, only, plainly, null_tree, under_top, top_spot, scope_within, expand_within, expand_expr, expand_call, expand_args, call_expanded, kept_of, effects_among}
+use Rattle.dx_macros.specs.Expansion.{Scope, Given, Expanded, ArgsExpanded, Under, plainly, under_top, top_spot, scope_within, expand_within, expand_expr, expand_args, call_expanded, kept_of, effects_among}
 use Rattle.dx_macros.specs.Names.{calls_in}
 use Rattle.dx_macros.specs.Site.{Spot, Step, Nth, next_step}
 use Rattle.dx_macros.specs.Tree.{Tree, CallTree, ConstantTree}
-use Rattle.dx_macros.specs.Walk.{Walk, Walked, Goes, and_then, walked_by, Reader, WalkUnder, pick, walk_expr, walk_args, walk_call, walk_text, walk_at_top, enter_callee, read_definition, reader_at, reader_of, walk_begins, walk_of, fault_in}
+use Rattle.dx_macros.specs.Walk.{Walk, Walked, Goes, and_then, walked_by, Reader, WalkUnder, pick, walk_expr, walk_args, walk_text, walk_at_top, enter_callee, read_definition, reader_at, reader_of, walk_begins, walk_of, fault_in}
 use Rattle.dx_signatures.specs.Callees.{Callee, CallsFunction}
 use Rattle.dx_signatures.specs.Faults.{arg_names, fault_of_call}
 use Rattle.dx_expansion.specs.Expanding.{last_target, function_call, function_expanded}

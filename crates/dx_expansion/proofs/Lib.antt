@@ -9,7 +9,9 @@ pub mod Adding
 pub mod LawfulParts
 pub mod Expansions
 pub mod Measures
+pub mod Numbering
 pub mod Driving
 pub mod Marked
+pub mod Counted
 pub mod Silence
 pub mod FlatCalls

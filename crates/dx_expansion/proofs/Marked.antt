@@ -29,8 +29,8 @@ use Rattle.dx_expansion.specs.declared.text.World.{World}
 -- ---- the places of a list
 
 -- the places tell which elements there are
-abbrev pub ArePlacesOf : List ℕ → Marks → Type 0
-ArePlacesOf places marks = (place : ℕ) → is_member (eq_by_cmp nat_cmp) places place ≡ is_some (slice_index_or marks place None)
+abbrev pub ArePositionsOf : List ℕ → Marks → Type 0
+ArePositionsOf places marks = (position : ℕ) → is_member (eq_by_cmp nat_cmp) places position ≡ is_some (slice_index_or marks position None)
 
 found_by : (b : Bool) (q k : ℕ) (ks : List ℕ) → eq_by_cmp nat_cmp q k ≡ b → (b || is_member (eq_by_cmp nat_cmp) ks q) ≡ true →
     (is_member (eq_by_cmp nat_cmp) ks q ≡ true → (m : ℕ) × (m < length ks) × (get_or ks m 0 ≡ q)) → (m : ℕ) × (m < length (k ∷ ks)) × (get_or (k ∷ ks) m 0 ≡ q)
@@ -59,11 +59,11 @@ before_in ks m n sorted h less = ⊎_elim (λ lt. lt) (λ ge. ⊎_elim (λ same.
     same_or (suc n) zero h = absurd (omega arith)
     same_or (suc n) (suc m) h = ⊎_elim (λ e. inl (ap suc e)) (λ lt. inr (omega (arith, lt))) (same_or n m (omega (arith, h)))
 
-flag_is : (marks : Marks) (i : ℕ) → slice_index_or (flags marks) i false ≡ is_some (slice_index_or marks i None)
+pub flag_is : (marks : Marks) (i : ℕ) → slice_index_or (flags marks) i false ≡ is_some (slice_index_or marks i None)
 flag_is marks i = get_or-map is_some marks i None
 
 -- an element that is there is within the list
-within : (marks : Marks) (i : ℕ) → is_some (slice_index_or marks i None) ≡ true → i < length marks
+pub within : (marks : Marks) (i : ℕ) → is_some (slice_index_or marks i None) ≡ true → i < length marks
 within [] i h = cc
 within (x ∷ marks) zero h = omega arith
 within (x ∷ marks) (suc i) h = omega (arith, within marks i h)
@@ -92,21 +92,21 @@ one_done old new places n i learned lt is done m h =
     (λ ge. let same : m ≡ n = omega (arith, h, ge) in subst (λ (k : ℕ). is_some (slice_index_or memo k None) ≡ true) (is ∙ sym (ap (λ (k : ℕ). get_or places k 0) same)) (now_known old i learned.0 lt)) (less_or_not m n) in
     subst (λ (x : Memo). is_some (slice_index_or x (get_or places m 0) None) ≡ true) (sym learned.1) at
 
-pub all_done : (memo : Memo) (marks : Marks) (places : List ℕ) (n : ℕ) → ArePlacesOf places marks → length places ≤ n → AreDone memo places n → HaveResults memo (flags marks)
+pub all_done : (memo : Memo) (marks : Marks) (places : List ℕ) (n : ℕ) → ArePositionsOf places marks → length places ≤ n → AreDone memo places n → HaveResults memo (flags marks)
 all_done memo marks places n are le done i h =
     let x = member_at places i (are i ∙ sym (flag_is marks i) ∙ h) in
     subst (λ (k : ℕ). is_some (slice_index_or memo k None) ≡ true) x.2 (done x.0 (omega (arith, x.1, le)))
 
 -- ---- the next definition
 
-marked_at : (marks : Marks) (places : List ℕ) (n i : ℕ) → ArePlacesOf places marks → n < length places → i ≡ get_or places n 0 → is_some (slice_index_or marks i None) ≡ true
+pub marked_at : (marks : Marks) (places : List ℕ) (n i : ℕ) → ArePositionsOf places marks → n < length places → i ≡ get_or places n 0 → is_some (slice_index_or marks i None) ≡ true
 marked_at marks places n i are lt is = sym (are i) ∙ ap (is_member (eq_by_cmp nat_cmp) places) is ∙ at_member places n lt
 
-pub next_below : (marks : Marks) (places : List ℕ) (n i : ℕ) → ArePlacesOf places marks → n < length places → i ≡ get_or places n 0 → i < length marks
+pub next_below : (marks : Marks) (places : List ℕ) (n i : ℕ) → ArePositionsOf places marks → n < length places → i ≡ get_or places n 0 → i < length marks
 next_below marks places n i are lt is = within marks i (marked_at marks places n i are lt is)
 
 -- what the next definition reads has its results
-next_walked_here : (w : World) (memo : Memo) (marks : Marks) (places : List ℕ) (n i : ℕ) → AreWalked w (flags marks) → IsStrictlySortedBy nat_cmp places → ArePlacesOf places marks →
+next_walked_here : (w : World) (memo : Memo) (marks : Marks) (places : List ℕ) (n i : ℕ) → AreWalked w (flags marks) → IsStrictlySortedBy nat_cmp places → ArePositionsOf places marks →
     n < length places → i ≡ get_or places n 0 → AreDone memo places n → IsWalked memo i (definition_walk (dictionary_in w).macros (dictionary_in w).definitions i)
 next_walked_here w memo marks places n i walked sorted are lt is done =
     let b = walked.walk in
@@ -125,7 +125,7 @@ next_walked_here w memo marks places n i walked sorted are lt is done =
           subst (λ (k : ℕ). is_some (slice_index_or memo k None) ≡ true) at.2 (done at.0 before);
     }
 
-pub next_walked : (w v : World) (marks : Marks) (places : List ℕ) (n i : ℕ) → SameWorld w v → AreWalked w (flags marks) → IsStrictlySortedBy nat_cmp places → ArePlacesOf places marks →
+pub next_walked : (w v : World) (marks : Marks) (places : List ℕ) (n i : ℕ) → SameWorld w v → AreWalked w (flags marks) → IsStrictlySortedBy nat_cmp places → ArePositionsOf places marks →
     n < length places → i ≡ get_or places n 0 → AreDone v.memo places n → TopWalked v i (definition (dictionary_in v).definitions i)
 next_walked w v marks places n i same walked sorted are lt is done =
     let at : Dictionary → Type 0 = λ d. IsWalked v.memo i (definition_walk (dictionary_of d).macros (dictionary_of d).definitions i) in
@@ -158,15 +158,15 @@ all_of_text w (Some t) marks e is =
 pub all_walked : (w : World) (s : Stmt) (marks : List Bool) → first_fault (dictionary_in w) s ≡ None → marks ≡ definitions_read (dictionary_in w) s → AreWalked w marks
 all_walked w s marks e is = all_of_text w (top_text s) marks e is
 
-text_walked : (w : World) (memo : Memo) (o : Option TopText) (t : TopText) (place : ℕ) (marks : List Bool) → place ≡ length (dictionary_in w).definitions → fault_of_text (dictionary_in w) o ≡ None →
-    marks ≡ read_in (walk_by (dictionary_in w) o) → HaveResults memo marks → o ≡ Some t → IsWalked memo place (walk_text (dictionary_in w).macros (top_reader w place) t)
-text_walked w memo None t place marks here e is have some = cc
-text_walked w memo (Some x) t place marks here e is have some =
+text_walked : (w : World) (memo : Memo) (o : Option TopText) (t : TopText) (position : ℕ) (marks : List Bool) → position ≡ length (dictionary_in w).definitions → fault_of_text (dictionary_in w) o ≡ None →
+    marks ≡ read_in (walk_by (dictionary_in w) o) → HaveResults memo marks → o ≡ Some t → IsWalked memo position (walk_text (dictionary_in w).macros (top_reader w position) t)
+text_walked w memo None t position marks here e is have some = cc
+text_walked w memo (Some x) t position marks here e is have some =
     let d = dictionary_in w in
     let same : x ≡ t = cc in
     let g = goes_of (walk_of d x) e in
     let read : marks ≡ g.0.read = is ∙ ap read_in g.1 in
-    let goes : walk_text d.macros (top_reader w place) t (walk_begins d) ≡ Goes g.0 = ap₂ (λ (p : ℕ) (y : TopText). walk_text d.macros (top_reader w p) y (walk_begins d)) here (sym same) ∙ g.1 in
+    let goes : walk_text d.macros (top_reader w position) t (walk_begins d) ≡ Goes g.0 = ap₂ (λ (p : ℕ) (y : TopText). walk_text d.macros (top_reader w p) y (walk_begins d)) here (sym same) ∙ g.1 in
     record {
       from = walk_begins d;
       to = g.0;
@@ -176,11 +176,11 @@ text_walked w memo (Some x) t place marks here e is have some =
     }
 
 -- the statement reads no definition without results
-pub last_walked : (w v : World) (s : Stmt) (t : TopText) (place : ℕ) (marks : List Bool) → SameWorld w v → place ≡ length (dictionary_in w).definitions → first_fault (dictionary_in w) s ≡ None →
-    marks ≡ definitions_read (dictionary_in w) s → HaveResults v.memo marks → top_text s ≡ Some t → TopWalked v place t
-last_walked w v s t place marks same here e is have some =
-    let at : Dictionary → Type 0 = λ d. IsWalked v.memo place (walk_text (dictionary_of d).macros (reader_at (dictionary_of d).macros (dictionary_of d).definitions place) t) in
-    subst at (sym same.dictionary) (text_walked w v.memo (top_text s) t place marks here e is have some)
+pub last_walked : (w v : World) (s : Stmt) (t : TopText) (position : ℕ) (marks : List Bool) → SameWorld w v → position ≡ length (dictionary_in w).definitions → first_fault (dictionary_in w) s ≡ None →
+    marks ≡ definitions_read (dictionary_in w) s → HaveResults v.memo marks → top_text s ≡ Some t → TopWalked v position t
+last_walked w v s t position marks same here e is have some =
+    let at : Dictionary → Type 0 = λ d. IsWalked v.memo position (walk_text (dictionary_of d).macros (reader_at (dictionary_of d).macros (dictionary_of d).definitions position) t) in
+    subst at (sym same.dictionary) (text_walked w v.memo (top_text s) t position marks here e is have some)
 
 -- what is known of a dictionary holds of the same dictionary
 pub of_dictionary : (d e : Dictionary) (s : Stmt) → e ≡ d → first_fault (dictionary_of d) s ≡ None → first_fault (dictionary_of e) s ≡ None

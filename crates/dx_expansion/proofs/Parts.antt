@@ -38,13 +38,13 @@ use Rattle.dx_expansion.proofs.TopLevel.{named_below}
 
 -- ---- two walks, one after the other
 
-first_part : (m : Macros) (ds : List TopText) (memo : Memo) (place : ℕ) (f g : Walk → Walked) → ((a b : Walk) → g a ≡ Goes b → Grown m ds a b) → IsWalked memo place (λ a. and_then (f a) g) → IsWalked memo place f
-first_part m ds memo place f g grows h =
+first_part : (m : Macros) (ds : List TopText) (memo : Memo) (position : ℕ) (f g : Walk → Walked) → ((a b : Walk) → g a ≡ Goes b → Grown m ds a b) → IsWalked memo position (λ a. and_then (f a) g) → IsWalked memo position f
+first_part m ds memo position f g grows h =
     let x = goes_inv (f h.from) g h.to h.goes in
     record { from = h.from; to = x.0; goes = x.1; count = h.count; known = λ i lt k. h.known i lt ((grows x.0 h.to x.2).marks i k) }
 
-second_part : (m : Macros) (ds : List TopText) (memo : Memo) (place : ℕ) (f g : Walk → Walked) → ((a b : Walk) → f a ≡ Goes b → Grown m ds a b) → IsWalked memo place (λ a. and_then (f a) g) → IsWalked memo place g
-second_part m ds memo place f g grows h =
+second_part : (m : Macros) (ds : List TopText) (memo : Memo) (position : ℕ) (f g : Walk → Walked) → ((a b : Walk) → f a ≡ Goes b → Grown m ds a b) → IsWalked memo position (λ a. and_then (f a) g) → IsWalked memo position g
+second_part m ds memo position f g grows h =
     let x = goes_inv (f h.from) g h.to h.goes in
     record { from = x.0; to = h.to; goes = x.2; count = omega (arith, h.count, (grows h.from x.0 x.1).count); known = h.known }
 
@@ -102,30 +102,30 @@ module _ (w : World) (t : Text) where
   abbrev u : WalkUnder
   u = walk_under w t
 
-  top_marks : Marks macros defs (top_reader w t.place)
-  top_marks = reader_marks macros defs t.place
+  top_marks : Marks macros defs (top_reader w t.position)
+  top_marks = reader_marks macros defs t.position
 
   enters : Enters macros defs u.enter
-  enters = macro_marks macros defs (top_reader w t.place) top_marks t.left
+  enters = macro_marks macros defs (top_reader w t.position) top_marks t.left
 
-  beside_by : (b : Bool) (own : List Name) (name : Name) → has own name ≡ b → Holds (under_name t.own) own → under_name t.own name ≡ None → beside own (top_reader w t.place) name ≡ top_reader w t.place name
+  beside_by : (b : Bool) (own : List Name) (name : Name) → has own name ≡ b → Holds (under_name t.own) own → under_name t.own name ≡ None → beside own (top_reader w t.position) name ≡ top_reader w t.position name
   beside_by true own name h all none = absurd (none_is (under_name t.own name) none (all name h))
   beside_by false own name h all none = rw h refl
 
-  pub beside_reader : (own : List Name) → Holds (under_name t.own) own → IsReader w t (beside own (top_reader w t.place))
+  pub beside_reader : (own : List Name) → Holds (under_name t.own) own → IsReader w t (beside own (top_reader w t.position))
   beside_reader own h = record {
     top = λ name none. beside_by (has own name) own name refl h none;
-    marks = beside_marks macros defs own (top_reader w t.place) top_marks;
+    marks = beside_marks macros defs own (top_reader w t.position) top_marks;
   }
 
   -- ---- a call
 
   call_rest : (name : Name) (cache : ℕ) (args : syntax.Args) (h : CallWalked w t (syntax.MakeCall name cache args)) →
-      IsWalked w.memo t.place (λ w1. and_then (walk_args u h.base h.read (h.before ++ name ∷ []) args w1) (λ w2. enter_callee u (h.base ++ next_step name h.before ∷ []) (callee macros name) w2))
+      IsWalked w.memo t.position (λ w1. and_then (walk_args u h.base h.read (h.before ++ name ∷ []) args w1) (λ w2. enter_callee u (h.base ++ next_step name h.before ∷ []) (callee macros name) w2))
   call_rest name cache args h =
       let site = h.base ++ next_step name h.before ∷ [] in
       let fault : Walk → _ = λ a. fault_of_call a.calls (callee macros name) t.left (arg_names args) h.targets in
-      second_part macros defs w.memo t.place (λ a. walked_by (fault a) site a) (λ w1. and_then (walk_args u h.base h.read (h.before ++ name ∷ []) args w1) (λ w2. enter_callee u site (callee macros name) w2))
+      second_part macros defs w.memo t.position (λ a. walked_by (fault a) site a) (λ w1. and_then (walk_args u h.base h.read (h.before ++ name ∷ []) args w1) (λ w2. enter_callee u site (callee macros name) w2))
       (λ a b e. grown_read macros defs a b (walked_inv (fault a) site a b e).1) h.walked
 
   pub args_of_call : (name : Name) (cache : ℕ) (args : syntax.Args) → CallWalked w t (syntax.MakeCall name cache args) → ArgsWalked w t args
@@ -137,7 +137,7 @@ module _ (w : World) (t : Text) where
         before = h.before ++ name ∷ [];
         targets = 0;
         reader = h.reader;
-        walked = first_part macros defs w.memo t.place (walk_args u h.base h.read (h.before ++ name ∷ []) args) (λ w2. enter_callee u site (callee macros name) w2)
+        walked = first_part macros defs w.memo t.position (walk_args u h.base h.read (h.before ++ name ∷ []) args) (λ w2. enter_callee u site (callee macros name) w2)
             (λ a b e. callee_marks macros defs u enters (callee macros name) site a b e) (call_rest name cache args h);
       }
 
@@ -150,7 +150,7 @@ module _ (w : World) (t : Text) where
         before = [];
         targets = 0;
         reader = h.reader;
-        walked = second_part macros defs w.memo t.place (walk_args u h.base h.read (h.before ++ name ∷ []) args) (λ w2. enter_callee u site (callee macros name) w2)
+        walked = second_part macros defs w.memo t.position (walk_args u h.base h.read (h.before ++ name ∷ []) args) (λ w2. enter_callee u site (callee macros name) w2)
             (λ a b e. args_mark macros defs u enters args h.read h.reader.marks h.base (h.before ++ name ∷ []) a b e) (call_rest name cache args h);
       }
 
@@ -169,7 +169,7 @@ module _ (w : World) (t : Text) where
     before = h.before;
     targets = h.targets;
     reader = h.reader;
-    walked = subst (λ (c : Callee). IsWalked w.memo t.place (enter_callee u h.base c)) e h.walked;
+    walked = subst (λ (c : Callee). IsWalked w.memo t.position (enter_callee u h.base c)) e h.walked;
   }
 
   -- ---- arguments
@@ -184,7 +184,7 @@ module _ (w : World) (t : Text) where
     before = h.before;
     targets = 0;
     reader = h.reader;
-    walked = first_part macros defs w.memo t.place (walk_expr u h.base h.read h.before 0 (plain_expr (out-Arg a).value)) (arg_rest a rest h)
+    walked = first_part macros defs w.memo t.position (walk_expr u h.base h.read h.before 0 (plain_expr (out-Arg a).value)) (arg_rest a rest h)
         (λ x y e. args_mark macros defs u enters (plain_args rest) h.read h.reader.marks h.base (h.before ++ calls_in (plain_expr (out-Arg a).value)) x y e) h.walked;
   }
 
@@ -195,7 +195,7 @@ module _ (w : World) (t : Text) where
     before = h.before ++ calls_in (plain_expr (out-Arg a).value);
     targets = 0;
     reader = h.reader;
-    walked = second_part macros defs w.memo t.place (walk_expr u h.base h.read h.before 0 (plain_expr (out-Arg a).value)) (arg_rest a rest h)
+    walked = second_part macros defs w.memo t.position (walk_expr u h.base h.read h.before 0 (plain_expr (out-Arg a).value)) (arg_rest a rest h)
         (λ x y e. expr_marks macros defs u enters (plain_expr (out-Arg a).value) h.read h.reader.marks h.base h.before 0 x y e) h.walked;
   }
 
@@ -245,7 +245,7 @@ module _ (w : World) (t : Text) where
     before = h.before;
     targets = 0;
     reader = h.reader;
-    walked = first_part macros defs w.memo t.place (h.read name) (λ w1. read_all h.read rest w1) (λ a b e. all_mark macros defs h.read h.reader.marks rest a b e) h.walked;
+    walked = first_part macros defs w.memo t.position (h.read name) (λ w1. read_all h.read rest w1) (λ a b e. all_mark macros defs h.read h.reader.marks rest a b e) h.walked;
   }
 
   pub later_names : (name : Name) (rest : List Name) → NamesWalked w t (name ∷ rest) → NamesWalked w t rest
@@ -255,7 +255,7 @@ module _ (w : World) (t : Text) where
     before = h.before;
     targets = 0;
     reader = h.reader;
-    walked = second_part macros defs w.memo t.place (h.read name) (λ w1. read_all h.read rest w1) (λ a b e. h.reader.marks name a b e) h.walked;
+    walked = second_part macros defs w.memo t.position (h.read name) (λ w1. read_all h.read rest w1) (λ a b e. h.reader.marks name a b e) h.walked;
   }
 
   at_name : (names : List Name) (i : ℕ) (n : Name) → i < length names → n ≡ get_or names i n → NamesWalked w t (drop i names) → NamesWalked w t (n ∷ drop (i + 1) names)
@@ -268,43 +268,43 @@ module _ (w : World) (t : Text) where
   names_left names i n lt e h = later_names n (drop (i + 1) names) (at_name names i n lt e h)
 
   -- a name without a meaning of its own was read at the top level
-  pub read_at_top : (name : Name) → under_name t.own name ≡ None → NameWalked w t name → IsWalked w.memo t.place (top_reader w t.place name)
-  read_at_top name none h = subst (IsWalked w.memo t.place) (h.reader.top name none) h.walked
+  pub read_at_top : (name : Name) → under_name t.own name ≡ None → NameWalked w t name → IsWalked w.memo t.position (top_reader w t.position name)
+  read_at_top name none h = subst (IsWalked w.memo t.position) (h.reader.top name none) h.walked
 
   -- ---- bodies
 
   abbrev body_rest : (results : List Name) (s : Stmt) (rest : List Stmt) (h : BodyWalked w t results (plain_stmts (s ∷ rest))) → Walk → Walked
-  body_rest results s rest h = λ w1. walk_body u h.base (top_reader w t.place) results (names_after h.own (plain_stmt s)) (calls_after h.before (plain_stmt s)) (plain_stmts rest) w1
+  body_rest results s rest h = λ w1. walk_body u h.base (top_reader w t.position) results (names_after h.own (plain_stmt s)) (calls_after h.before (plain_stmt s)) (plain_stmts rest) w1
 
   pub first_statement : (results : List Name) (s : Stmt) (rest : List Stmt) → BodyWalked w t results (plain_stmts (s ∷ rest)) → StatementWalked w t (plain_stmt s)
   first_statement results s rest h =
       let reader = beside_reader h.own h.holds in
       record {
         base = h.base;
-        read = beside h.own (top_reader w t.place);
+        read = beside h.own (top_reader w t.position);
         before = h.before;
         targets = 0;
         reader = reader;
-        walked = first_part macros defs w.memo t.place (walk_statement u h.base (beside h.own (top_reader w t.place)) h.before (plain_stmt s)) (body_rest results s rest h)
-            (λ a b e. body_marks macros defs u enters (plain_stmts rest) (top_reader w t.place) top_marks results (names_after h.own (plain_stmt s)) h.base (calls_after h.before (plain_stmt s)) a b e) h.walked;
+        walked = first_part macros defs w.memo t.position (walk_statement u h.base (beside h.own (top_reader w t.position)) h.before (plain_stmt s)) (body_rest results s rest h)
+            (λ a b e. body_marks macros defs u enters (plain_stmts rest) (top_reader w t.position) top_marks results (names_after h.own (plain_stmt s)) h.base (calls_after h.before (plain_stmt s)) a b e) h.walked;
       }
 
-  later_walk : (results : List Name) (s : Stmt) (rest : List Stmt) (h : BodyWalked w t results (plain_stmts (s ∷ rest))) → IsWalked w.memo t.place (body_rest results s rest h)
+  later_walk : (results : List Name) (s : Stmt) (rest : List Stmt) (h : BodyWalked w t results (plain_stmts (s ∷ rest))) → IsWalked w.memo t.position (body_rest results s rest h)
   later_walk results s rest h =
-      second_part macros defs w.memo t.place (walk_statement u h.base (beside h.own (top_reader w t.place)) h.before (plain_stmt s)) (body_rest results s rest h)
-      (λ a b e. statement_marks macros defs u enters (plain_stmt s) (beside h.own (top_reader w t.place)) (beside_reader h.own h.holds).marks h.base h.before a b e) h.walked
+      second_part macros defs w.memo t.position (walk_statement u h.base (beside h.own (top_reader w t.position)) h.before (plain_stmt s)) (body_rest results s rest h)
+      (λ a b e. statement_marks macros defs u enters (plain_stmt s) (beside h.own (top_reader w t.position)) (beside_reader h.own h.holds).marks h.base h.before a b e) h.walked
 
   -- when all statements were walked, the results are read
   pub names_at_end : (results : List Name) → BodyWalked w t results syntax.NoStmt → NamesWalked w t results
-  names_at_end results h = record { base = []; read = beside h.own (top_reader w t.place); before = []; targets = 0; reader = beside_reader h.own h.holds; walked = h.walked }
+  names_at_end results h = record { base = []; read = beside h.own (top_reader w t.position); before = []; targets = 0; reader = beside_reader h.own h.holds; walked = h.walked }
 
 -- in a text whose own names are others
 body_in_text : (w : World) (t v : Text) (base : List Step) (own before : List Name) (results : List Name) (body : syntax.Stmts) → SameText t v → Holds (under_name v.own) own →
-    IsWalked w.memo t.place (walk_body (walk_under w t) base (top_reader w t.place) results own before body) → BodyWalked w v results body
+    IsWalked w.memo t.position (walk_body (walk_under w t) base (top_reader w t.position) results own before body) → BodyWalked w v results body
 body_in_text w t v base own before results body same holds h =
-    let at : (place left : ℕ) → Type 0 = λ place left.
-    IsWalked w.memo place (walk_body (record { macros = (dictionary_in w).macros; left = left; enter = walk_macro (dictionary_in w).macros (top_reader w place) left }) base (top_reader w place) results own before body) in
-    record { base = base; own = own; before = before; holds = holds; walked = subst (λ (p : ℕ). at p v.left) (sym same.place) (subst (at t.place) (sym same.left) h) }
+    let at : (position left : ℕ) → Type 0 = λ position left.
+    IsWalked w.memo position (walk_body (record { macros = (dictionary_in w).macros; left = left; enter = walk_macro (dictionary_in w).macros (top_reader w position) left }) base (top_reader w position) results own before body) in
+    record { base = base; own = own; before = before; holds = holds; walked = subst (λ (p : ℕ). at p v.left) (sym same.position) (subst (at t.position) (sym same.left) h) }
 
 at_statement : (w : World) (t : Text) (results : List Name) (body : List Stmt) (i : ℕ) (s : Stmt) → i < length body → s ≡ get_or body i s → BodyWalked w t results (plain_stmts (drop i body)) → BodyWalked w t results (plain_stmts (s ∷ drop (i + 1) body))
 at_statement w t results body i s lt e h = subst (λ (xs : List Stmt). BodyWalked w t results (plain_stmts xs)) (drop_more body i s lt ∙ ap (λ (x : Stmt). x ∷ drop (i + 1) body) (sym e)) h
@@ -326,34 +326,34 @@ results_walked w t results body i le h = names_at_end w t results (subst (λ (xs
 -- ---- the top level
 
 -- a text of the top level has no names of its own
-pub top_name : (w : World) (place : ℕ) (t : TopText) (n : Name) → t.value ≡ syntax.Name n → TopWalked w place t → IsWalked w.memo place (top_reader w place n)
-top_name w place t n is h = subst (λ (v : syntax.Expr). TopWalked w place (record { targets = t.targets; value = v })) is h
+pub top_name : (w : World) (position : ℕ) (t : TopText) (n : Name) → t.value ≡ syntax.Name n → TopWalked w position t → IsWalked w.memo position (top_reader w position n)
+top_name w position t n is h = subst (λ (v : syntax.Expr). TopWalked w position (record { targets = t.targets; value = v })) is h
 
-pub at_top_walked : (w : World) (v : Text) (t : TopText) → v.left ≡ 64 → TopWalked w v.place t → ExprWalked w v t.value
+pub at_top_walked : (w : World) (v : Text) (t : TopText) → v.left ≡ 64 → TopWalked w v.position t → ExprWalked w v t.value
 at_top_walked w v t left h =
     let d = dictionary_in w in
-    let top = top_reader w v.place in
+    let top = top_reader w v.position in
     let under : ℕ → WalkUnder = λ n. record { macros = d.macros; left = n; enter = walk_macro d.macros top n } in
     record {
       base = first_target t.targets;
       read = top;
       before = [];
       targets = length t.targets;
-      reader = record { top = λ name none. refl; marks = reader_marks d.macros d.definitions v.place };
-      walked = subst (λ (n : ℕ). IsWalked w.memo v.place (walk_expr (under n) (first_target t.targets) top [] (length t.targets) t.value)) (sym left) h;
+      reader = record { top = λ name none. refl; marks = reader_marks d.macros d.definitions v.position };
+      walked = subst (λ (n : ℕ). IsWalked w.memo v.position (walk_expr (under n) (first_target t.targets) top [] (length t.targets) t.value)) (sym left) h;
     }
 
 -- ---- macros
 
-pub macro_body : (w : World) (t inner : Text) (m : MacroDef) (results : List Name) (body : List Stmt) → inner.left + 1 ≡ t.left → inner.place ≡ t.place → results ≡ (out-MacroDef m).results → body ≡ (out-MacroDef m).body →
+pub macro_body : (w : World) (t inner : Text) (m : MacroDef) (results : List Name) (body : List Stmt) → inner.left + 1 ≡ t.left → inner.position ≡ t.position → results ≡ (out-MacroDef m).results → body ≡ (out-MacroDef m).body →
     Holds (under_name inner.own) (param_names (out-MacroDef m).params) → MacroWalked w t (plain_macro m) → BodyWalked w inner results (plain_stmts body)
 macro_body w t inner m results body l p r b holds h =
     let out = out-MacroDef m in
-    let walks : (place left : ℕ) → syntax.Macro → Type 0 = λ place left x. IsWalked w.memo place (walk_macro (dictionary_in w).macros (top_reader w place) left x h.base) in
+    let walks : (position left : ℕ) → syntax.Macro → Type 0 = λ position left x. IsWalked w.memo position (walk_macro (dictionary_in w).macros (top_reader w position) left x h.base) in
     let left : t.left ≡ suc inner.left = omega (arith, l) in
-    let here : walks inner.place (suc inner.left) (syntax.MakeMacro out.name out.params out.results (plain_stmts out.body)) =
+    let here : walks inner.position (suc inner.left) (syntax.MakeMacro out.name out.params out.results (plain_stmts out.body)) =
     subst (λ (q : ℕ). walks q (suc inner.left) (syntax.MakeMacro out.name out.params out.results (plain_stmts out.body))) (sym p)
-    (subst (λ (n : ℕ). walks t.place n (syntax.MakeMacro out.name out.params out.results (plain_stmts out.body))) left (subst (walks t.place t.left) (plain_macro_out m) h.walked)) in
+    (subst (λ (n : ℕ). walks t.position n (syntax.MakeMacro out.name out.params out.results (plain_stmts out.body))) left (subst (walks t.position t.left) (plain_macro_out m) h.walked)) in
     let whole : BodyWalked w inner out.results (plain_stmts out.body) = record { base = h.base; own = param_names out.params; before = []; holds = holds; walked = here } in
     subst (λ (ss : List Stmt). BodyWalked w inner results (plain_stmts ss)) (sym b) (subst (λ (ns : List Name). BodyWalked w inner ns (plain_stmts out.body)) (sym r) whole)
 
@@ -362,8 +362,8 @@ macro_body w t inner m results body l p r b holds h =
 none_known : (o : Option Results) → o ≡ None → is_some o ≡ true → ⊥
 none_known o e h = cc
 
--- a name that was read at a place has a definition with results, or none at all
-pub result_known : (w : World) (place i : ℕ) (name : Name) → IsWalked w.memo place (top_reader w place name) → last_named (dictionary_in w).definitions place name ≡ Some i → slice_index_or w.memo i None ≡ None → ⊥
-result_known w place i name h last none =
+-- a name that was read at a position has a definition with results, or none at all
+pub result_known : (w : World) (position i : ℕ) (name : Name) → IsWalked w.memo position (top_reader w position name) → last_named (dictionary_in w).definitions position name ≡ Some i → slice_index_or w.memo i None ≡ None → ⊥
+result_known w position i name h last none =
     let d = dictionary_in w in
-    none_known (slice_index_or w.memo i None) none (h.known i (named_below place i d.definitions name last) (read_marks d.macros d.definitions place i name h.from h.to h.count h.goes last))
+    none_known (slice_index_or w.memo i None) none (h.known i (named_below position i d.definitions name last) (read_marks d.macros d.definitions position i name h.from h.to h.count h.goes last))

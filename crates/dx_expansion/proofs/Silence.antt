@@ -82,5 +82,5 @@ macro_silent macros left inner m body e b h =
     (λ frames top spot step cache args. ap (λ (xs : List _). args.kept ++ xs) (h frames top _ _ _ []) ∙ append-nil args.kept))
 
 -- an assignment whose value keeps no call has no effect
-pub assignment_silent : (w : World) (place : ℕ) (t : TopText) → IsSilentExpr (dictionary_in w).macros 64 t.value → effects_in (Some t) w place ≡ []
-assignment_silent w place t h = ap effects_among (h w.frames (top_scope w place) (top_spot t.targets) (top_scope w place) [])
+pub assignment_silent : (w : World) (position : ℕ) (t : TopText) → IsSilentExpr (dictionary_in w).macros 64 t.value → effects_in (Some t) w position ≡ []
+assignment_silent w position t h = ap effects_among (h w.frames (top_scope w position) (top_spot t.targets) (top_scope w position) [])

@@ -118,7 +118,7 @@ pub setting_later : (w : World) (t : Text) (old new : Graph) → Grows old new �
 setting_later w t old new g r =
     ap₂ (λ (spot : Spot) (scope : plain.Scope). record { under = under_of w t; spot = spot; scope = scope })
     (spot_later (spots_in old) (spots_in new) t.trail g.spots r.trail)
-    (scope_later (graph_of old).nodes (graph_of new).nodes (under_name t.own) (top_scope w t.place) g.nodes r.own)
+    (scope_later (graph_of old).nodes (graph_of new).nodes (under_name t.own) (top_scope w t.position) g.nodes r.own)
 
 -- ---- growing
 

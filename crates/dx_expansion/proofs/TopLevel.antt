@@ -1,4 +1,4 @@
--- What a name means at a place of the top level.
+-- What a name means at a position of the top level.
 use Rattle.std.proofs.Common.{◌≡◌, ℕ, zero, suc, ◌<◌, List, Some, None, Bool, true, false, refl, ap, subst, ◌∙◌, arith}
 use Rattle.std.specs.Prelude.{if◌then◌else◌}
 use Rattle.dx_ast.specs.declared.sequencing.Frames.{Frames}
@@ -53,16 +53,16 @@ module _ (steps : ℕ) (macros : Macros) (frames : Frames) (defs : List TopText)
   scope_some zero i e = cc
   scope_some (suc p) i e = some_by (has (definition defs p).targets n) p i refl (scope_some p i) e
 
-  -- a name means what its last definition before the place gave it
+  -- a name means what its last definition before the position gave it
   pub scope_named : (p i : ℕ) → last_named defs p n ≡ Some i → scope_at p n ≡ (expand_within steps macros frames (scope_at i) (definition defs i)).result (last_target (definition defs i).targets 0 0 n)
   scope_named p i e = scope_some p i e ∙ assigned_named (definition defs i).targets 0 0 (expand_within steps macros frames (scope_at i) (definition defs i)).result (scope_at i) n (has_named p i defs n e)
 
 -- ---- the same of the code's world
 
-pub unbound : (w : World) (place : ℕ) (n : Text) → last_named (dictionary_in w).definitions place n ≡ None → top_scope w place n ≡ null_tree
+pub unbound : (w : World) (position : ℕ) (n : Text) → last_named (dictionary_in w).definitions position n ≡ None → top_scope w position n ≡ null_tree
 unfolding top_scope
-unbound w place n e = scope_none 64 (dictionary_in w).macros w.frames (dictionary_in w).definitions n place e
+unbound w position n e = scope_none 64 (dictionary_in w).macros w.frames (dictionary_in w).definitions n position e
 
-pub bound_at : (w : World) (place i : ℕ) (n : Text) → last_named (dictionary_in w).definitions place n ≡ Some i → top_scope w place n ≡ top_results w i (last_target (definition (dictionary_in w).definitions i).targets 0 0 n)
+pub bound_at : (w : World) (position i : ℕ) (n : Text) → last_named (dictionary_in w).definitions position n ≡ Some i → top_scope w position n ≡ top_results w i (last_target (definition (dictionary_in w).definitions i).targets 0 0 n)
 unfolding top_scope top_results
-bound_at w place i n e = scope_named 64 (dictionary_in w).macros w.frames (dictionary_in w).definitions n place i e
+bound_at w position i n e = scope_named 64 (dictionary_in w).macros w.frames (dictionary_in w).definitions n position i e

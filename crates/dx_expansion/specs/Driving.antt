@@ -14,15 +14,15 @@ use Rattle.dx_expansion.specs.declared.text.World.{World}
 -- ---- a text of the top level
 
 abbrev pub top_setting : World → ℕ → Spot → Setting
-top_setting w place spot = record { under = under_top 64 (dictionary_in w).macros w.frames (top_scope w place); spot = spot; scope = top_scope w place }
+top_setting w position spot = record { under = under_top 64 (dictionary_in w).macros w.frames (top_scope w position); spot = spot; scope = top_scope w position }
 
--- what a text comes to at a place
+-- what a text comes to at a position
 abbrev pub top_expanded : World → ℕ → TopText → Expanded
-top_expanded w place t = expand_within 64 (dictionary_in w).macros w.frames (top_scope w place) t
+top_expanded w position t = expand_within 64 (dictionary_in w).macros w.frames (top_scope w position) t
 
 abbrev pub effects_in : Option TopText → World → ℕ → List CallTree
-effects_in None w place = []
-effects_in (Some t) w place = effects_among (top_expanded w place t).kept
+effects_in None w position = []
+effects_in (Some t) w position = effects_among (top_expanded w position t).kept
 
 -- ---- what is remembered
 
@@ -38,6 +38,6 @@ pub record Rests (w : World) (g : Graph) : Type 0 where
   pub places : length w.memo ≡ length (dictionary_in w).definitions
   pub effects : (graph_of g).effects ≡ []
 
--- the definition at a place got its results
+-- the definition at a position got its results
 abbrev pub Learned : ℕ → Memo → Memo → Type 0
 Learned i old new = (r : Results) × (new ≡ slice_set old i (Some r))

@@ -32,11 +32,11 @@ use Rattle.dx_expansion.specs.declared.text.Text.{Text}
 abbrev pub dictionary_in : World → Dictionary
 dictionary_in w = dictionary_of w.dictionary.now
 
--- what a name means at a place
+-- what a name means at a position
 unfoldable pub top_scope : World → ℕ → Scope
-top_scope w place = scope_within 64 (dictionary_in w).macros w.frames (dictionary_in w).definitions place
+top_scope w position = scope_within 64 (dictionary_in w).macros w.frames (dictionary_in w).definitions position
 
--- the results of the definition at a place
+-- the results of the definition at a position
 unfoldable pub top_results : World → ℕ → ℕ → Tree
 top_results w i = (expand_within 64 (dictionary_in w).macros w.frames (top_scope w i) (definition (dictionary_in w).definitions i)).result
 
@@ -44,7 +44,7 @@ top_results w i = (expand_within 64 (dictionary_in w).macros w.frames (top_scope
 abbrev pub Remembers : List Node → World → Type 0
 Remembers nodes w = (i : ℕ) (r : Results) → slice_index_or w.memo i None ≡ Some r → Gives nodes r (top_results w i)
 
--- the place of the last target with a name, counted from i; else the one that was found
+-- the position of the last target with a name, counted from i; else the one that was found
 abbrev pub last_target : List Name → ℕ → ℕ → Name → ℕ
 last_target [] i found name = found
 last_target (t ∷ rest) i found name = last_target rest (suc i) (if bytes_eq t name then i else found) name
@@ -52,7 +52,7 @@ last_target (t ∷ rest) i found name = last_target rest (suc i) (if bytes_eq t 
 -- ---- a text
 
 abbrev pub scope_of : World → Text → List Node → Scope
-scope_of w t nodes = scope_with nodes (under_name t.own) (top_scope w t.place)
+scope_of w t nodes = scope_with nodes (under_name t.own) (top_scope w t.position)
 
 -- what the meaning of a text's expressions depends on
 pub record Setting : Type 0 where
@@ -64,7 +64,7 @@ abbrev pub under_of : World → Text → Under
 under_of w t = record {
   macros = (dictionary_in w).macros;
   frames = w.frames;
-  enter = enter_macro (dictionary_in w).macros w.frames (top_scope w t.place) t.left;
+  enter = enter_macro (dictionary_in w).macros w.frames (top_scope w t.position) t.left;
 }
 
 abbrev pub setting : World → Text → Graph → Setting
@@ -129,7 +129,7 @@ pub record IsCallOf (nodes : List Node) (n : ℕ) (f : Function) : Type 0 where
 pub record SameText (old new : Text) : Type 0 where
   pub trail : new.trail ≡ old.trail
   pub left : new.left ≡ old.left
-  pub place : new.place ≡ old.place
+  pub position : new.position ≡ old.position
 
 -- ---- what an expansion adds
 

@@ -3,3 +3,4 @@ pub mod Marks
 pub mod Driving
 pub mod Flat
 pub mod Silence
+pub mod Numbering

@@ -28,9 +28,9 @@ IsMarked w i = slice_index_or w.read i false ≡ true
 abbrev pub Includes : Walk → Walk → Type 0
 Includes a b = (i : ℕ) → IsMarked a i → IsMarked b i
 
--- the definitions before a place that are marked have their results
+-- the definitions before a position that are marked have their results
 abbrev pub AreKnown : Memo → ℕ → Walk → Type 0
-AreKnown memo place w = (i : ℕ) → i < place → IsMarked w i → is_some (slice_index_or memo i None) ≡ true
+AreKnown memo position w = (i : ℕ) → i < position → IsMarked w i → is_some (slice_index_or memo i None) ≡ true
 
 -- the walk of definition number i
 abbrev pub definition_walk : Macros → List TopText → ℕ → Walk → Walked
@@ -50,30 +50,30 @@ pub record Grown (macros : Macros) (defs : List TopText) (a b : Walk) : Type 0 w
   pub marks : Includes a b
   pub fresh : (i : ℕ) → IsMarked b i → IsMarked a i ⊎ WalkedWithin macros defs b i
 
--- a walk comes to its end, and what it read before the place has its results
-pub record IsWalked (memo : Memo) (place : ℕ) (walk : Walk → Walked) : Type 0 where
+-- a walk comes to its end, and what it read before the position has its results
+pub record IsWalked (memo : Memo) (position : ℕ) (walk : Walk → Walked) : Type 0 where
   pub from : Walk
   pub to : Walk
   pub goes : walk from ≡ Goes to
-  pub count : place ≤ length from.read
-  pub known : AreKnown memo place to
+  pub count : position ≤ length from.read
+  pub known : AreKnown memo position to
 
 -- ---- the walk of a text
 
--- how names are read at a place of the top level
+-- how names are read at a position of the top level
 abbrev pub top_reader : World → ℕ → Reader
-top_reader w place = reader_at (dictionary_in w).macros (dictionary_in w).definitions place
+top_reader w position = reader_at (dictionary_in w).macros (dictionary_in w).definitions position
 
 abbrev pub walk_under : World → Text → WalkUnder
-walk_under w t = record { macros = (dictionary_in w).macros; left = t.left; enter = walk_macro (dictionary_in w).macros (top_reader w t.place) t.left }
+walk_under w t = record { macros = (dictionary_in w).macros; left = t.left; enter = walk_macro (dictionary_in w).macros (top_reader w t.position) t.left }
 
 -- the names have meanings of the text's own
 abbrev pub Holds : Own → List Name → Type 0
 Holds own names = (name : Name) → has names name ≡ true → is_some (own name) ≡ true
 
--- a way to read the names of a text: those without a meaning of its own as at its place of the top level
+-- a way to read the names of a text: those without a meaning of its own as at its position of the top level
 pub record IsReader (w : World) (t : Text) (read : Reader) : Type 0 where
-  pub top : (name : Name) → under_name t.own name ≡ None → read name ≡ top_reader w t.place name
+  pub top : (name : Name) → under_name t.own name ≡ None → read name ≡ top_reader w t.position name
   pub marks : (name : Name) (a b : Walk) → read name a ≡ Goes b → Grown (dictionary_in w).macros (dictionary_in w).definitions a b
 
 -- a part of a text was walked, whatever its site, the calls before it and the number of its targets
@@ -83,7 +83,7 @@ pub record WasWalked (w : World) (t : Text) (walk : List Step → Reader → Lis
   pub before : List Name
   pub targets : ℕ
   pub reader : IsReader w t read
-  pub walked : IsWalked w.memo t.place (walk base read before targets)
+  pub walked : IsWalked w.memo t.position (walk base read before targets)
 
 abbrev pub ExprWalked : World → Text → Expr → Type 0
 ExprWalked w t e = WasWalked w t (λ base read before targets. walk_expr (walk_under w t) base read before targets e)
@@ -119,11 +119,11 @@ pub record BodyWalked (w : World) (t : Text) (results : List Name) (body : Stmts
   pub own : List Name
   pub before : List Name
   pub holds : Holds (under_name t.own) own
-  pub walked : IsWalked w.memo t.place (walk_body (walk_under w t) base (top_reader w t.place) results own before body)
+  pub walked : IsWalked w.memo t.position (walk_body (walk_under w t) base (top_reader w t.position) results own before body)
 
 -- a text of the top level was walked
 abbrev pub TopWalked : World → ℕ → TopText → Type 0
-TopWalked w place t = IsWalked w.memo place (walk_text (dictionary_in w).macros (top_reader w place) t)
+TopWalked w position t = IsWalked w.memo position (walk_text (dictionary_in w).macros (top_reader w position) t)
 
 -- the marks of a walk: each definition that has one was walked
 pub record AreWalked (w : World) (marks : List Bool) : Type 0 where

@@ -17,6 +17,8 @@ ghost use Rattle.dx_graph.specs.GraphView.{graph_of, spots_in};
 ghost use Rattle.dx_expansion.specs.Expanding.{Remembers, Ready, Grows, Expands, setting, dictionary_in, top_results};
 ghost use Rattle.dx_graph.specs.Operands.{Gives};
 ghost use Rattle.dx_expansion.specs.Driving.{top_setting, top_expanded, effects_in, SameWorld, Rests, Learned};
+ghost use Rattle.dx_expansion.specs.Numbering.{HasNumbers, Adds, expr_calls};
+ghost use Rattle.dx_counting.specs.Counting.{count_text, count_in, count_marked};
 ghost use Rattle.dx_expansion.specs.Marks.{ExprWalked, TopWalked, AreWalked, HaveResults};
 ghost use Rattle.dx_graph.specs.declared.graph.Graph.{Graph};
 
@@ -35,7 +37,7 @@ fn first_trail(
     alloc: Global,
     graph: &mut Graph,
     targets: &[Bytes],
-) -> Result<Option<u32>, AllocError>
+) -> Result<Option<usize>, AllocError>
     ensures grows { Grows graph.old graph.new }
     ensures graph { graph_of graph.new ≡ graph_of graph.old }
     ensures trail { IfOk result (λ t. IsTrail (length (spots_in graph.new)) t) }
@@ -47,60 +49,65 @@ fn first_trail(
     }
 }
 
-/// A text of the top level at a place.
-fn text_at_top<'a>(w: &World<'a>, trail: Option<u32>, place: usize) -> Text<'a>
-    ensures place { result.place ≡ place }
+/// A text of the top level at a position.
+fn text_at_top<'a>(w: &World<'a>, trail: Option<usize>, position: usize) -> Text<'a>
+    ensures position { result.position ≡ position }
     ensures ready { (g : Graph) → Remembers (graph_of g).nodes w.now → IsTrail (length (spots_in g)) trail → ∥ IsLawfulSpot 64 (spot_under (spots_in g) trail) ∥₁ → Ready w.now result g }
-    ensures setting { (g : Graph) → setting w.now result g ≡ top_setting w.now place (spot_under (spots_in g) trail) }
-    ensures walked { (t : TopText) → TopWalked w.now place t → ExprWalked w.now result t.value }
+    ensures setting { (g : Graph) → setting w.now result g ≡ top_setting w.now position (spot_under (spots_in g) trail) }
+    ensures walked { (t : TopText) → TopWalked w.now position t → ExprWalked w.now result t.value }
+    ensures calls { (t : TopText) → expr_calls w.now result t.value ≡ count_text (dictionary_in w.now).macros t }
 {
     Text {
         trail,
         left: MAX_STEPS,
-        place,
+        position,
         own: IndexMap::new(w.alloc),
     }
 }
 
-/// An assignment at a place of the top level.
+/// An assignment at a position of the top level.
 fn expand_assign<'a>(
     w: &World<'a>,
     graph: &mut Graph,
     a: &'a Assign,
-    place: usize,
+    position: usize,
 ) -> Result<Results<'a>, AllocError>
     requires memo { Remembers (graph_of graph.old).nodes w.now }
     requires names { ∥ All IsName a.now.targets ∥₁ }
     requires lawful { ∥ IsLawfulExpr (plain_expr a.now.value) ∥₁ }
-    requires walked { TopWalked w.now place (text_of a.now) }
+    requires walked { TopWalked w.now position (text_of a.now) }
+    requires few { HasNumbers graph.old (count_text (dictionary_in w.now).macros (text_of a.now)) }
     ensures grows { Grows graph.old graph.new }
-    ensures expands { IfOk result (λ r. Expands (top_expanded w.now place (text_of a.now)) graph.old graph.new r) }
+    ensures expands { IfOk result (λ r. Expands (top_expanded w.now position (text_of a.now)) graph.old graph.new r) }
+    ensures adds { OnOk result (Adds (count_text (dictionary_in w.now).macros (text_of a.now)) graph.old graph.new) }
 {
     let trail = first_trail(w.alloc, graph, a.targets.as_slice())?;
-    let text = text_at_top(w, trail, place);
+    let text = text_at_top(w, trail, position);
     let mut before: Names<'a> = Names::new(w.alloc);
     expand_expr(w, &text, graph, &mut before, &a.value)
 }
 
-/// A call at a place of the top level.
+/// A call at a position of the top level.
 fn expand_top_call<'a>(
     w: &World<'a>,
     graph: &mut Graph,
     c: &'a Call,
-    place: usize,
+    position: usize,
 ) -> Result<Results<'a>, AllocError>
     requires memo { Remembers (graph_of graph.old).nodes w.now }
     requires lawful { ∥ IsLawfulCall (plain_call c.now) ∥₁ }
-    requires walked { TopWalked w.now place (of_call (plain_call c.now)) }
+    requires walked { TopWalked w.now position (of_call (plain_call c.now)) }
+    requires few { HasNumbers graph.old (count_text (dictionary_in w.now).macros (of_call (plain_call c.now))) }
     ensures grows { Grows graph.old graph.new }
-    ensures expands { IfOk result (λ r. Expands (top_expanded w.now place (of_call (plain_call c.now))) graph.old graph.new r) }
+    ensures expands { IfOk result (λ r. Expands (top_expanded w.now position (of_call (plain_call c.now))) graph.old graph.new r) }
+    ensures adds { OnOk result (Adds (count_text (dictionary_in w.now).macros (of_call (plain_call c.now))) graph.old graph.new) }
 {
-    let text = text_at_top(w, None, place);
+    let text = text_at_top(w, None, position);
     let mut before: Names<'a> = Names::new(w.alloc);
     expand_call(w, &text, graph, &mut before, c)
 }
 
-/// A definition at its place. One that only names another has no call, and so no text of its own.
+/// A definition at its position. One that only names another has no call, and so no text of its own.
 fn expand_definition<'a>(
     w: &World<'a>,
     graph: &mut Graph,
@@ -109,8 +116,10 @@ fn expand_definition<'a>(
     requires rests { Rests w.now graph.old }
     requires below { i < length w.now.memo }
     requires walked { TopWalked w.now i (definition (dictionary_in w.now).definitions i) }
+    requires few { HasNumbers graph.old (count_text (dictionary_in w.now).macros (definition (dictionary_in w.now).definitions i)) }
     ensures grows { Grows graph.old graph.new }
     ensures gives { IfOk result (λ r. Gives (graph_of graph.new).nodes r (top_results w.now i)) }
+    ensures adds { OnOk result (Adds (count_text (dictionary_in w.now).macros (definition (dictionary_in w.now).definitions i)) graph.old graph.new) }
 {
     let a = w.dictionary.definition(i);
     match &a.value {
@@ -119,14 +128,16 @@ fn expand_definition<'a>(
     }
 }
 
-/// The definition at a place is expanded and remembered. Its effects are no effects of the graph.
+/// The definition at a position is expanded and remembered. Its effects are no effects of the graph.
 fn define<'a>(w: &mut World<'a>, graph: &mut Graph, i: usize) -> Result<(), AllocError>
     requires rests { Rests w.old graph.old }
     requires below { i < length w.old.memo }
     requires walked { TopWalked w.old i (definition (dictionary_in w.old).definitions i) }
+    requires few { HasNumbers graph.old (count_text (dictionary_in w.old).macros (definition (dictionary_in w.old).definitions i)) }
     ensures rests { OnOk result (Rests w.new graph.new) }
     ensures same { OnOk result (SameWorld w.old w.new) }
     ensures learned { OnOk result (Learned i w.old.memo w.new.memo) }
+    ensures adds { OnOk result (Adds (count_text (dictionary_in w.old).macros (definition (dictionary_in w.old).definitions i)) graph.old graph.new) }
 {
     let results = expand_definition(w, graph, i)?;
     graph.forget_effects(0);
@@ -142,40 +153,43 @@ fn define_marked<'a>(
 ) -> Result<(), AllocError>
     requires rests { Rests w.old graph.old }
     requires walked { AreWalked w.old (flags marks.now) }
+    requires few { HasNumbers graph.old (count_marked (dictionary_in w.old).macros (dictionary_in w.old).definitions (flags marks.now) (length (dictionary_in w.old).definitions)) }
     ensures rests { OnOk result (Rests w.new graph.new) }
     ensures same { OnOk result (SameWorld w.old w.new) }
     ensures known { OnOk result (HaveResults w.new.memo (flags marks.now)) }
+    ensures adds { OnOk result (Adds (count_marked (dictionary_in w.old).macros (dictionary_in w.old).definitions (flags marks.now) (length (dictionary_in w.old).definitions)) graph.old graph.new) }
 {
-    for place in marks.places() {
-        define(w, graph, *place)?;
+    for position in marks.places() {
+        define(w, graph, *position)?;
     }
     Ok(())
 }
 
-/// A statement at a place of the top level.
+/// A statement at a position of the top level.
 fn expand_last<'a>(
     w: &World<'a>,
     graph: &mut Graph,
     s: &'a Stmt,
-    place: usize,
+    position: usize,
 ) -> Result<(), AllocError>
     requires memo { Remembers (graph_of graph.old).nodes w.now }
     requires lawful { IsLawful (plain_stmt s.now) }
-    requires walked { (t : TopText) → top_text (plain_stmt s.now) ≡ Some t → TopWalked w.now place t }
+    requires walked { (t : TopText) → top_text (plain_stmt s.now) ≡ Some t → TopWalked w.now position t }
+    requires few { HasNumbers graph.old (count_in (dictionary_in w.now).macros (top_text (plain_stmt s.now))) }
     ensures grows { Grows graph.old graph.new }
-    ensures expands { OnOk result (unfolded (graph_of graph.new) ≡ unfolded (graph_of graph.old) ++ effects_in (top_text (plain_stmt s.now)) w.now place) }
+    ensures expands { OnOk result (unfolded (graph_of graph.new) ≡ unfolded (graph_of graph.old) ++ effects_in (top_text (plain_stmt s.now)) w.now position) }
 {
     match s {
         Stmt::Call(c) => {
-            expand_top_call(w, graph, c, place)?;
+            expand_top_call(w, graph, c, position)?;
             Ok(())
         }
         Stmt::Sequence(c) => {
-            expand_top_call(w, graph, c, place)?;
+            expand_top_call(w, graph, c, position)?;
             Ok(())
         }
         Stmt::Assign(a) => {
-            expand_assign(w, graph, a, place)?;
+            expand_assign(w, graph, a, position)?;
             Ok(())
         }
         _ => Ok(()),
@@ -234,6 +248,10 @@ pub fn check_and_expand<'a>(
 /// The expansion of a statement: the graph whose effects are those of the statement, in order, which is empty where the
 /// statement isn't executed. What a definition comes to stands in it once, however often it is read. A definition that is
 /// read has no effects.
+///
+/// # Errors
+///
+/// Only where memory ran out: the numbers of nodes can't run out, since a walk without a fault came by at most 65,536 calls.
 pub fn expand(alloc: Global, d: &Dictionary, s: &Stmt, f: &Frames) -> Result<Graph, AllocError>
     requires lawful { IsLawful (plain_stmt s.now) }
     requires no_fault { first_fault (dictionary_of d.now) (plain_stmt s.now) ≡ None }

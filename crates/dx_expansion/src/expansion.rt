@@ -1,5 +1,5 @@
 //! The expansion of a text: each call becomes a node, and each macro its body.
-ghost use Rattle.std.specs.Prelude.{◌≡◌, ◌<◌, ◌≤◌, ◌+◌, ◌∷◌, ◌++◌, [], ℕ, List, Some, All, map, length, IfOk, OnOk};
+ghost use Rattle.std.specs.Prelude.{◌≡◌, ◌<◌, ◌≤◌, ◌+◌, ◌∷◌, ◌++◌, [], ℕ, suc, List, Some, All, map, length, IfOk, OnOk};
 ghost use Rattle.dx_base.specs.NameTable.{under_name};
 ghost use Rattle.dx_graph.specs.Sites.{IsLawfulSpot};
 ghost use Rattle.dx_ast.specs.Lawful.{IsName, IsLawfulExpr, IsLawfulCall, AreLawfulArgs, IsLawfulInBody, IsLawfulBody, IsLawfulMacro};
@@ -16,6 +16,7 @@ ghost use Rattle.dx_graph.specs.Unfolding as trees;
 ghost use Rattle.dx_graph.specs.GraphView.{graph_of, spots_in};
 ghost use Rattle.dx_graph.specs.Operands.{GivenFits, given_of, OwnFits, Gives};
 ghost use Rattle.dx_expansion.specs.Expanding.{Ready, Remembers, Grows, Expands, ExpandsArgs, ExpandsStatement, ExpandsBody, IsCallOf, SameText, dictionary_in, top_scope, setting, inner_setting, scope_of, expr_in, call_in, args_in, body_in, function_call, function_expanded, own_effect, applied};
+ghost use Rattle.dx_expansion.specs.Numbering.{HasNumbers, Adds, macro_calls, expr_calls, call_calls, args_calls, callee_calls, statement_calls, body_calls};
 ghost use Rattle.dx_expansion.specs.Marks.{ExprWalked, CallWalked, ArgsWalked, CalleeWalked, MacroWalked, StatementWalked, NamesWalked, BodyWalked, Holds};
 
 use crate::own::{assign, bind_params};
@@ -46,9 +47,10 @@ fn add_node<'a>(
     f: Function,
     given: &[Given<'a>],
     cache: u8,
-    trail: Option<u32>,
+    trail: Option<usize>,
     k: usize,
 ) -> Result<u32, AllocError>
+    requires few { HasNumbers graph.old 1 }
     requires given { All (GivenFits (graph_of graph.old).nodes) given.now }
     requires cache { cache ≤ 2 }
     requires trail { IsTrail (length (spots_in graph.old)) trail }
@@ -58,6 +60,7 @@ fn add_node<'a>(
     ensures unfolds { IfOk result (λ n. trees.call_at (trees.calls_of (graph_of graph.new).nodes) n ≡
         function_call (spot_under (spots_in graph.old) trail) f cache k (map (given_of (graph_of graph.old).nodes) given.now)) }
     ensures effects { trees.unfolded (graph_of graph.new) ≡ trees.unfolded (graph_of graph.old) }
+    ensures adds { Adds 1 graph.old graph.new }
 {
     let inputs = inputs_of(alloc, f, given)?;
     graph.call(f, inputs, cache, trail, k)
@@ -70,15 +73,17 @@ pub(crate) fn call_function<'a>(
     f: Function,
     given: &[Given<'a>],
     cache: u8,
-    trail: Option<u32>,
+    trail: Option<usize>,
     k: usize,
 ) -> Result<Results<'a>, AllocError>
+    requires few { HasNumbers graph.old 1 }
     requires given { All (GivenFits (graph_of graph.old).nodes) given.now }
     requires cache { cache ≤ 2 }
     requires trail { IsTrail (length (spots_in graph.old)) trail }
     requires spot { ∥ IsLawfulSpot 0 (spot_under (spots_in graph.old) trail) ∥₁ }
     ensures grows { Grows graph.old graph.new }
     ensures expands { IfOk result (λ r. Expands (function_expanded f (function_call (spot_under (spots_in graph.old) trail) f cache k (map (given_of (graph_of graph.old).nodes) given.now))) graph.old graph.new r) }
+    ensures adds { Adds 1 graph.old graph.new }
 {
     let n = add_node(alloc, graph, f, given, cache, trail, k)?;
     note_effect(graph, f, n)?;
@@ -97,9 +102,11 @@ pub fn expand_expr<'a>(
     requires ready { Ready w.now t.now graph.old }
     requires lawful { ∥ IsLawfulExpr (plain_expr e.now) ∥₁ }
     requires walked { ExprWalked w.now t.now (plain_expr e.now) }
+    requires few { HasNumbers graph.old (expr_calls w.now t.now (plain_expr e.now)) }
     ensures grows { Grows graph.old graph.new }
     ensures before { OnOk result (before.new ≡ before.old ++ calls_in (plain_expr e.now)) }
     ensures expands { IfOk result (λ r. Expands (expr_in (setting w.now t.now graph.old) before.old (plain_expr e.now)) graph.old graph.new r) }
+    ensures adds { OnOk result (Adds (expr_calls w.now t.now (plain_expr e.now)) graph.old graph.new) }
 {
     match e {
         Expr::Constant(c) => Ok(Results::One(Operand::Constant(c))),
@@ -121,9 +128,11 @@ pub fn expand_call<'a>(
     requires ready { Ready w.now t.now graph.old }
     requires lawful { ∥ IsLawfulCall (plain_call c.now) ∥₁ }
     requires walked { CallWalked w.now t.now (plain_call c.now) }
+    requires few { HasNumbers graph.old (call_calls w.now t.now (plain_call c.now)) }
     ensures grows { Grows graph.old graph.new }
     ensures before { OnOk result (before.new ≡ before.old ++ calls_of (plain_call c.now)) }
     ensures expands { IfOk result (λ r. Expands (call_in (setting w.now t.now graph.old) before.old (plain_call c.now)) graph.old graph.new r) }
+    ensures adds { OnOk result (Adds (call_calls w.now t.now (plain_call c.now)) graph.old graph.new) }
 {
     let name = c.name.bytes();
     let k = before.count(name) + 1;
@@ -144,9 +153,11 @@ fn expand_args<'a>(
     requires ready { Ready w.now t.now graph.old }
     requires lawful { ∥ AreLawfulArgs (plain_args args.now) ∥₁ }
     requires walked { ArgsWalked w.now t.now (plain_args args.now) }
+    requires few { HasNumbers graph.old (args_calls w.now t.now (plain_args args.now)) }
     ensures grows { Grows graph.old graph.new }
     ensures before { OnOk result (before.new ≡ before.old ++ calls_in_args (plain_args args.now)) }
     ensures expands { IfOk result (λ given. ExpandsArgs (args_in (setting w.now t.now graph.old) before.old (plain_args args.now)) graph.old graph.new given.items) }
+    ensures adds { OnOk result (Adds (args_calls w.now t.now (plain_args args.now)) graph.old graph.new) }
 {
     let mut given = Vec::new(w.alloc);
     for arg in args {
@@ -171,8 +182,10 @@ fn apply<'a>(
     requires lawful { ∥ IsLawfulCall (plain_call c.now) ∥₁ }
     requires given { All (GivenFits (graph_of graph.old).nodes) given.now }
     requires walked { CalleeWalked w.now t.now (out-Call c.now).name }
+    requires few { HasNumbers graph.old (suc (callee_calls w.now t.now (out-Call c.now).name)) }
     ensures grows { Grows graph.old graph.new }
     ensures expands { IfOk result (λ r. Expands (applied (setting w.now t.now graph.old) (out-Call c.now).name (out-Call c.now).cache k (map (given_of (graph_of graph.old).nodes) given.now)) graph.old graph.new r) }
+    ensures adds { OnOk result (Adds (suc (callee_calls w.now t.now (out-Call c.now).name)) graph.old graph.new) }
 {
     match called(w.dictionary, c.name.bytes()) {
         Callee::Unknown => Ok(Results::One(Operand::Null)),
@@ -200,16 +213,16 @@ fn inner_text<'a>(
     ensures graph { graph_of graph.new ≡ graph_of graph.old }
     ensures ready { IfOk result (λ inner. Ready w.now inner graph.new) }
     ensures left { IfOk result (λ inner. inner.left + 1 ≡ t.now.left) }
-    ensures place { IfOk result (λ inner. inner.place ≡ t.now.place) }
+    ensures position { IfOk result (λ inner. inner.position ≡ t.now.position) }
     ensures own { IfOk result (λ inner. Holds (under_name inner.own) (param_names (out-MacroDef m.now).params)) }
-    ensures setting { IfOk result (λ inner. setting w.now inner graph.new ≡ inner_setting (setting w.now t.now graph.old) (top_scope w.now t.now.place) inner.left (out-MacroDef m.now).params (Nth name.now k) (map (given_of (graph_of graph.old).nodes) given.now)) }
+    ensures setting { IfOk result (λ inner. setting w.now inner graph.new ≡ inner_setting (setting w.now t.now graph.old) (top_scope w.now t.now.position) inner.left (out-MacroDef m.now).params (Nth name.now k) (map (given_of (graph_of graph.old).nodes) given.now)) }
 {
     let trail = graph.step(w.alloc, t.trail, name, k)?;
     let own = bind_params(w.alloc, m.params.as_slice(), given)?;
     Ok(Text {
         trail: Some(trail),
         left: t.left - 1,
-        place: t.place,
+        position: t.position,
         own,
     })
 }
@@ -231,8 +244,10 @@ fn enter<'a>(
     requires name { IsName name.now }
     requires known { (dictionary_in w.now).macros name.now ≡ Some (plain_macro m.now) }
     requires walked { MacroWalked w.now t.now (plain_macro m.now) }
+    requires few { HasNumbers graph.old (macro_calls w.now t.now (plain_macro m.now)) }
     ensures grows { Grows graph.old graph.new }
     ensures expands { IfOk result (λ r. Expands ((setting w.now t.now graph.old).under.enter (plain_macro m.now) (map (given_of (graph_of graph.old).nodes) given.now) (plain.spot_of_call (setting w.now t.now graph.old).spot (Nth name.now k))) graph.old graph.new r) }
+    ensures adds { OnOk result (Adds (macro_calls w.now t.now (plain_macro m.now)) graph.old graph.new) }
 {
     if t.left == 0 {
         return Ok(Results::One(Operand::Null));
@@ -265,11 +280,13 @@ fn expand_body<'a>(
     requires ready { Ready w.now t.old graph.old }
     requires lawful { ∥ IsLawfulBody (plain_stmts body.now) ∥₁ }
     requires walked { (results : List (List ℕ)) × BodyWalked w.now t.old results (plain_stmts body.now) }
+    requires few { HasNumbers graph.old (body_calls w.now t.old (plain_stmts body.now)) }
     ensures grows { Grows graph.old graph.new }
     ensures text { SameText t.old t.new }
     ensures ready { OnOk result (Ready w.now t.new graph.new) }
     ensures walked { OnOk result ((results : List (List ℕ)) → BodyWalked w.now t.old results (plain_stmts body.now) → NamesWalked w.now t.new results) }
     ensures expands { OnOk result ((results : List (List ℕ)) → ExpandsBody (body_in (setting w.now t.old graph.old) results [] (plain_stmts body.now)) graph.old graph.new (plain.results_in results (scope_of w.now t.new (graph_of graph.new).nodes))) }
+    ensures adds { OnOk result (Adds (body_calls w.now t.old (plain_stmts body.now)) graph.old graph.new) }
 {
     let mut before = Names::new(w.alloc);
     for s in body {
@@ -290,12 +307,14 @@ fn expand_statement<'a>(
     requires ready { Ready w.now t.old graph.old }
     requires lawful { ∥ IsLawfulInBody (plain_stmt s.now) ∥₁ }
     requires walked { StatementWalked w.now t.old (plain_stmt s.now) }
+    requires few { HasNumbers graph.old (statement_calls w.now t.old (plain_stmt s.now)) }
     ensures grows { Grows graph.old graph.new }
     ensures text { SameText t.old t.new }
     ensures before { OnOk result (before.new ≡ calls_after before.old (plain_stmt s.now)) }
     ensures own { OnOk result ((names : List (List ℕ)) → Holds (under_name t.old.own) names → Holds (under_name t.new.own) (names_after names (plain_stmt s.now))) }
     ensures ready { OnOk result (Ready w.now t.new graph.new) }
     ensures expands { OnOk result (ExpandsStatement (setting w.now t.old graph.old) before.old (plain_stmt s.now) graph.old graph.new (scope_of w.now t.new (graph_of graph.new).nodes)) }
+    ensures adds { OnOk result (Adds (statement_calls w.now t.old (plain_stmt s.now)) graph.old graph.new) }
 {
     match s {
         Stmt::Call(c) => {

@@ -26,7 +26,7 @@ fn put<'a>(alloc: Global, own: &mut Own<'a>, name: &[u8], o: Operand<'a>) -> Res
     Ok(())
 }
 
-/// Each target means the result of its place.
+/// Each target means the result of its position.
 pub fn assign<'a>(
     alloc: Global,
     own: &mut Own<'a>,

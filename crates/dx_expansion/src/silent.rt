@@ -88,7 +88,7 @@ fn is_silent_statement(w: &World<'_>, left: u8, s: &Stmt) -> bool
 
 /// Whether a statement is an assignment without an effect, whatever its names mean.
 pub fn is_silent(w: &World<'_>, s: &Stmt) -> bool
-    ensures { (place : ℕ) → result ≡ true → effects_in (top_text (plain_stmt s.now)) w.now place ≡ [] }
+    ensures { (position : ℕ) → result ≡ true → effects_in (top_text (plain_stmt s.now)) w.now position ≡ [] }
 {
     match s {
         Stmt::Assign(a) => is_silent_expr(w, MAX_STEPS, &a.value),

@@ -19,7 +19,7 @@ pub struct World<'a> {
     pub alloc: Global,
     pub dictionary: &'a Dictionary,
     pub frames: Frames,
-    /// The results of each definition that was expanded, by its place.
+    /// The results of each definition that was expanded, by its position.
     pub memo: Sparse<Results<'a>>,
 }
 
@@ -27,16 +27,16 @@ pub struct World<'a> {
 #[derive(Drop)]
 pub struct Text<'a> {
     /// The trail of the graph that leads to it.
-    pub trail: Option<u32>,
+    pub trail: Option<usize>,
     /// How many macro steps are left.
     pub left: u8,
-    /// The place of its top-level text.
-    pub place: usize,
+    /// The position of its top-level text.
+    pub position: usize,
     /// What its parameters and targets mean.
     pub own: Own<'a>,
 }
 
-/// The place of the last target with this name; 0 where no target has it.
+/// The position of the last target with this name; 0 where no target has it.
 fn last_target(targets: &[Bytes], name: &[u8]) -> usize
     ensures { result ≡ last_target targets.now 0 0 name.now }
 {
@@ -49,12 +49,12 @@ fn last_target(targets: &[Bytes], name: &[u8]) -> usize
     found
 }
 
-/// What a name means at a place of the top level.
-pub fn top_meaning<'a>(w: &World<'a>, place: usize, name: &[u8]) -> Operand<'a>
-    requires walked { IsWalked w.now.memo place (top_reader w.now place name.now) }
-    ensures { (nodes : List Node) → Remembers nodes w.now → Means nodes result (top_scope w.now place name.now) }
+/// What a name means at a position of the top level.
+pub fn top_meaning<'a>(w: &World<'a>, position: usize, name: &[u8]) -> Operand<'a>
+    requires walked { IsWalked w.now.memo position (top_reader w.now position name.now) }
+    ensures { (nodes : List Node) → Remembers nodes w.now → Means nodes result (top_scope w.now position name.now) }
 {
-    match w.dictionary.last_before(place, name) {
+    match w.dictionary.last_before(position, name) {
         None => Operand::Null,
         Some(i) => match w.memo.get(i) {
             None => unreachable!(),
@@ -73,6 +73,6 @@ pub fn meaning<'a>(w: &World<'a>, t: &Text<'a>, name: &[u8]) -> Operand<'a>
 {
     match t.own.get(name) {
         Some(o) => *o,
-        None => top_meaning(w, t.place, name),
+        None => top_meaning(w, t.position, name),
     }
 }

@@ -1,5 +1,6 @@
 //! Graphs of calls: what is asked of them, and how they grow.
 ghost use Rattle.std.specs.Prelude.{◌≡◌, ◌<◌, ◌≤◌, ◌^◌, ◌++◌, ◌∷◌, [], length, take, IfOk, OnOk, OnErr};
+ghost use Rattle.dx_ast.specs.Limits.{max_walk_calls};
 ghost use Rattle.dx_macros.specs.Site.{steps_text, Nth, Target};
 ghost use Rattle.dx_macros.specs.Expansion.{spot_of_call};
 ghost use Rattle.dx_graph.specs.Trails.{spot_under, IsTrail};
@@ -9,7 +10,7 @@ ghost use Rattle.dx_graph.specs.Shown.{own, graph_with, ArePlaced};
 
 use crate::node::{Inputs, Node, Placed};
 use crate::trail::Trail;
-use crate::trails::{Trails, next_number};
+use crate::trails::Trails;
 use dx_ast::name;
 use dx_base::{Bytes, Function};
 use dx_macros::{SiteStep, site_text};
@@ -75,8 +76,7 @@ impl Graph {
     }
 }
 
-/// How a graph grows while a statement is expanded. Where memory runs out, or a number is too large for a u32, it stays as
-/// it was.
+/// How a graph grows while a statement is expanded. Where memory runs out it stays as it was.
 impl Graph {
     ghost use Rattle.dx_graph.specs.GraphView.{graph_of, spots_in};
 
@@ -107,7 +107,7 @@ impl Graph {
     }
 
     /// A trail at the end: the text of an assignment at the top level with this first target.
-    pub fn target(&mut self, alloc: Global, name: &[u8]) -> Result<u32, AllocError>
+    pub fn target(&mut self, alloc: Global, name: &[u8]) -> Result<usize, AllocError>
         ensures number { IfOk result (λ t. t ≡ length (spots_in self.old)) }
         ensures ok { OnOk result (spots_in self.new ≡ spots_in self.old ++ record { base = Target name.now ∷ []; path = [] } ∷ []) }
         ensures err { OnErr result (spots_in self.new ≡ spots_in self.old) }
@@ -121,10 +121,10 @@ impl Graph {
     pub fn step(
         &mut self,
         alloc: Global,
-        parent: Option<u32>,
+        parent: Option<usize>,
         name: &[u8],
         k: usize,
-    ) -> Result<u32, AllocError>
+    ) -> Result<usize, AllocError>
         requires { IsTrail (length (spots_in self.old)) parent }
         ensures number { IfOk result (λ t. t ≡ length (spots_in self.old)) }
         ensures ok { OnOk result (spots_in self.new ≡ spots_in self.old ++ spot_of_call (spot_under (spots_in self.old) parent) (Nth name.now k) ∷ []) }
@@ -135,15 +135,17 @@ impl Graph {
         self.trails.push(Trail::Macro(parent, name, k))
     }
 
-    /// A node at the end, and its number: the k-th call of a function in the text of a trail.
+    /// A node at the end, and its number: the k-th call of a function in the text of a trail. A graph has at most as many nodes as a
+    /// walk may come by calls, so each has a number.
     pub fn call(
         &mut self,
         called: Function,
         inputs: Inputs,
         cache: u8,
-        trail: Option<u32>,
+        trail: Option<usize>,
         k: usize,
     ) -> Result<u32, AllocError>
+        requires few { length (graph_of self.old).nodes < max_walk_calls }
         requires trail { IsTrail (length (spots_in self.old)) trail }
         requires node { IsNode (graph_of self.old).nodes (length (graph_of self.old).nodes) (node_of (spot_under (spots_in self.old) trail) called called inputs cache k) }
         ensures number { IfOk result (λ n. n ≡ length (graph_of self.old).nodes) }
@@ -151,7 +153,7 @@ impl Graph {
         ensures err { OnErr result (graph_of self.new ≡ graph_of self.old) }
         ensures spots { spots_in self.new ≡ spots_in self.old }
     {
-        let number = next_number(self.nodes.len())?;
+        let number = self.nodes.len() as u32;
         self.nodes.push(Placed {
             node: Node {
                 what: called,

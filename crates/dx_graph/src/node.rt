@@ -29,7 +29,7 @@ pub struct Placed {
     /// The function that a script calls there, by whose name the site ends.
     pub called: Function,
     /// The trail of the text that it stands in; None where that is a call at the top level.
-    pub trail: Option<u32>,
+    pub trail: Option<usize>,
     /// It is the k-th call of that function in that text.
     pub k: usize,
 }

@@ -8,5 +8,5 @@ pub enum Trail {
     Target(Bytes),
     /// The text is the body of a macro: the trail of the text in which the macro is called, the macro's name, and the k of
     /// this call.
-    Macro(Option<u32>, Bytes, usize),
+    Macro(Option<usize>, Bytes, usize),
 }

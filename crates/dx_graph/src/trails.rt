@@ -1,5 +1,5 @@
 //! The ways to the texts of a graph, from which sites and paths are made.
-ghost use Rattle.std.specs.Prelude.{◌≡◌, ◌<◌, ◌++◌, ◌∷◌, [], length, reverse, IfOk, OnOk, OnErr};
+ghost use Rattle.std.specs.Prelude.{◌≡◌, ◌++◌, ◌∷◌, [], length, reverse, IfOk, OnOk, OnErr};
 ghost use Rattle.dx_macros.specs.Steps.{plain_steps};
 ghost use Rattle.dx_graph.specs.Trails.{spots_of, spot_under, parent, IsTrail};
 ghost use Rattle.dx_graph.specs.Walked.{target_step};
@@ -41,18 +41,6 @@ struct Way<'a> {
     target: Option<&'a [u8]>,
 }
 
-/// The number of the element behind so many, if there are not too many for numbers.
-pub fn next_number(count: usize) -> Result<u32, AllocError>
-    ensures number { IfOk result (λ n. n ≡ count) }
-    ensures fits { IfOk result (λ n. n < 4294967295) }
-{
-    if count < 4294967295 {
-        Ok(count as u32)
-    } else {
-        Err(AllocError)
-    }
-}
-
 impl Trails {
     /// No trails, which take no memory.
     pub fn new(alloc: Global) -> Trails
@@ -63,21 +51,20 @@ impl Trails {
         }
     }
 
-    /// One more trail at the end, and its number. Where memory runs out, or there is no number left, the trails stay as
-    /// they were.
-    pub fn push(&mut self, trail: Trail) -> Result<u32, AllocError>
+    /// One more trail at the end, and its number. Where memory runs out the trails stay as they were.
+    pub fn push(&mut self, trail: Trail) -> Result<usize, AllocError>
         requires { IsTrail (length self.old) (parent trail) }
         ensures number { IfOk result (λ t. t ≡ length self.old) }
         ensures ok { OnOk result (self.new ≡ self.old ++ trail ∷ []) }
         ensures err { OnErr result (self.new ≡ self.old) }
     {
-        let number = next_number(self.list.len())?;
+        let number = self.list.len();
         self.list.push(trail)?;
         Ok(number)
     }
 
     /// The way back from the text of a trail.
-    fn way<'a>(&'a self, alloc: Global, trail: Option<u32>) -> Result<Way<'a>, AllocError>
+    fn way<'a>(&'a self, alloc: Global, trail: Option<usize>) -> Result<Way<'a>, AllocError>
         requires { IsTrail (length self.now) trail }
         ensures base { IfOk result (λ way. target_step way.target ++ reverse (plain_steps way.steps.items) ≡ (spot_under (spots_of self.now) trail).base) }
         ensures path { IfOk result (λ way. reverse (plain_steps way.steps.items) ≡ (spot_under (spots_of self.now) trail).path) }
@@ -85,7 +72,7 @@ impl Trails {
         let mut steps = Vec::new(alloc);
         let mut at = trail;
         while let Some(t) = at {
-            match &self.list[t as usize] {
+            match &self.list[t] {
                 Trail::Target(name) => {
                     return Ok(Way {
                         steps,
@@ -108,7 +95,7 @@ impl Trails {
     pub fn base<'a>(
         &'a self,
         alloc: Global,
-        trail: Option<u32>,
+        trail: Option<usize>,
     ) -> Result<Vec<SiteStep<'a>>, AllocError>
         requires { IsTrail (length self.now) trail }
         ensures { IfOk result (λ steps. plain_steps steps.items ≡ (spot_under (spots_of self.now) trail).base) }
@@ -132,7 +119,7 @@ impl Trails {
     pub fn path<'a>(
         &'a self,
         alloc: Global,
-        trail: Option<u32>,
+        trail: Option<usize>,
     ) -> Result<Vec<SiteStep<'a>>, AllocError>
         requires { IsTrail (length self.now) trail }
         ensures { IfOk result (λ steps. plain_steps steps.items ≡ (spot_under (spots_of self.now) trail).path) }

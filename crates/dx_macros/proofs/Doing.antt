@@ -250,9 +250,9 @@ reads (Ok read) a b e h = sym h.2 ∙ ap read_in (sym h.1 ∙ e)
 reads (Err why) a b e h = tt
 
 -- the walk of a text of the top level, whose first job is this
-pub started : (d : Dictionary) (f : Activation) (place n : ℕ) (ts : List Text) (t : TopText) → ((waiting : List m.Activation) → plain_activation waiting f ≡ m.at_top (first_target ts) place) → place ≡ length d.definitions → ts ≡ t.targets → n ≡ length t.targets →
+pub started : (d : Dictionary) (f : Activation) (position n : ℕ) (ts : List Text) (t : TopText) → ((waiting : List m.Activation) → plain_activation waiting f ≡ m.at_top (first_target ts) position) → position ≡ length d.definitions → ts ≡ t.targets → n ≡ length t.targets →
     m.do_job d (m.ExprJob n t.value) m.at_end (m.alone (plain_activation [] f)) (walk_begins d) ≡ walk_of d t
-started d f place n ts t e h a l =
+started d f position n ts t e h a l =
     ap₂ (λ k g. m.do_job d (m.ExprJob k t.value) m.at_end (m.alone g) (walk_begins d)) l (e [] ∙ ap₂ (λ us p. m.at_top (first_target us) p) a h) ∙ then_goes (walk_of d t)
 
 stopped : (A : Type 0) (e : Stop) (a before after : Walked) → a ≡ before → Continues {A = A} before (Err e) after → Stops a e

@@ -31,7 +31,7 @@ then_same (Faulty site fault) g h e = refl
 pub met_twice : (s : Stack) (xs ys : List Text) → met ys (met xs s) ≡ met (xs ++ ys) s
 met_twice s xs ys =
     let a = s.active in
-    ap (λ (b : List Text). with_active s (record { base = a.base; left = a.left; place = a.place; own = a.own; before = b })) (append_assoc a.before xs ys)
+    ap (λ (b : List Text). with_active s (record { base = a.base; left = a.left; position = a.position; own = a.own; before = b })) (append_assoc a.before xs ys)
 
 module _ (d : Dictionary) (k : Rest) (s : Stack) (w : Walk) where
   pub args_step : (n : Option Text) (e : Expr) (args : Args) → do_job d (ArgsJob (AndArg n e args)) k s w ≡ do_job d (ExprJob 0 e) (do_job d (ArgsJob args) k) s w
@@ -102,13 +102,13 @@ module _ (macros : Macros) (definitions : List TopText) (n : Text) where
   reader_some (suc p) i e = some_by (has (definition definitions p).targets n) p i (reader_some p i) e
 
 module _ (d : Dictionary) (k : Rest) (s : Stack) (w : Walk) (n : Text) where
-  pub unbound_step : has s.active.own n ≡ false → last_named d.definitions s.active.place n ≡ None → and_then (reads d s.active n w) (k s) ≡ k s w
-  unbound_step e h = rw (e, reader_none d.macros d.definitions n s.active.place h) refl
+  pub unbound_step : has s.active.own n ≡ false → last_named d.definitions s.active.position n ≡ None → and_then (reads d s.active n w) (k s) ≡ k s w
+  unbound_step e h = rw (e, reader_none d.macros d.definitions n s.active.position h) refl
 
-  pub read_again_step : (i : ℕ) → has s.active.own n ≡ false → last_named d.definitions s.active.place n ≡ Some i → slice_index_or w.read i false ≡ true → and_then (reads d s.active n w) (k s) ≡ k s w
-  read_again_step i e h r = rw (e, reader_some d.macros d.definitions n s.active.place i h, r) refl
+  pub read_again_step : (i : ℕ) → has s.active.own n ≡ false → last_named d.definitions s.active.position n ≡ Some i → slice_index_or w.read i false ≡ true → and_then (reads d s.active n w) (k s) ≡ k s w
+  read_again_step i e h r = rw (e, reader_some d.macros d.definitions n s.active.position i h, r) refl
 
-  pub first_read_step : (i : ℕ) → has s.active.own n ≡ false → last_named d.definitions s.active.place n ≡ Some i → slice_index_or w.read i false ≡ false →
+  pub first_read_step : (i : ℕ) → has s.active.own n ≡ false → last_named d.definitions s.active.position n ≡ Some i → slice_index_or w.read i false ≡ false →
       and_then (reads d s.active n w) (k s) ≡
       do_job d (ExprJob (length (definition d.definitions i).targets) (definition d.definitions i).value) (do_job d LeaveJob k) (entered (at_top (first_target (definition d.definitions i).targets) i) s) (record { calls = w.calls; read = slice_set w.read i true })
-  first_read_step i e h r = rw (e, reader_some d.macros d.definitions n s.active.place i h, r) refl
+  first_read_step i e h r = rw (e, reader_some d.macros d.definitions n s.active.position i h, r) refl

@@ -8,12 +8,12 @@ use Rattle.dx_macros.specs.Site.{Step}
 use Rattle.dx_macros.specs.Dictionary.{Dictionary}
 use Rattle.dx_macros.specs.Walk.{Walk, Walked, Goes, and_then, WalkUnder, Reader, beside, reader_at, walk_macro, walk_call, walk_expr, walk_args, walk_body, read_all}
 
--- a text that is walked: the steps that lead to it, the macro steps left, the place of its top-level text,
+-- a text that is walked: the steps that lead to it, the macro steps left, the position of its top-level text,
 -- the names of its parameters and targets so far, and the names of its calls so far
 pub record Activation : Type 0 where
   pub base : List Step
   pub left : ℕ
-  pub place : ℕ
+  pub position : ℕ
   pub own : List Text
   pub before : List Text
 
@@ -33,7 +33,7 @@ pub data Job : Type 0 where
   LeaveJob : Job
 
 abbrev pub top_reader : Dictionary → Activation → Reader
-top_reader d a = reader_at d.macros d.definitions a.place
+top_reader d a = reader_at d.macros d.definitions a.position
 
 abbrev pub reads : Dictionary → Activation → Reader
 reads d a = beside a.own (top_reader d a)
@@ -43,14 +43,14 @@ under d a = record { macros = d.macros; left = a.left; enter = walk_macro d.macr
 
 -- these calls were met
 abbrev pub meeting : List Text → Activation → Activation
-meeting names a = record { base = a.base; left = a.left; place = a.place; own = a.own; before = a.before ++ names }
+meeting names a = record { base = a.base; left = a.left; position = a.position; own = a.own; before = a.before ++ names }
 
 -- these names were assigned
 abbrev pub assigning : List Text → Activation → Activation
-assigning names a = record { base = a.base; left = a.left; place = a.place; own = a.own ++ names; before = a.before }
+assigning names a = record { base = a.base; left = a.left; position = a.position; own = a.own ++ names; before = a.before }
 
 abbrev pub after_statement : Activation → Stmt → Activation
-after_statement a s = record { base = a.base; left = a.left; place = a.place; own = names_after a.own s; before = calls_after a.before s }
+after_statement a s = record { base = a.base; left = a.left; position = a.position; own = names_after a.own s; before = calls_after a.before s }
 
 abbrev pub after_body : Activation → Stmts → Activation
 after_body a NoStmt = a
@@ -104,11 +104,11 @@ rest_of d jobs = jobs_above d at_end jobs
 
 -- the activation of a macro's body
 abbrev pub in_macro : Activation → ℕ → List Text → Step → Activation
-in_macro a left params step = record { base = a.base ++ step ∷ []; left = left; place = a.place; own = params; before = [] }
+in_macro a left params step = record { base = a.base ++ step ∷ []; left = left; position = a.position; own = params; before = [] }
 
--- the activation of a text of the top level at a place
+-- the activation of a text of the top level at a position
 abbrev pub at_top : List Step → ℕ → Activation
-at_top base place = record { base = base; left = max_macro_steps; place = place; own = []; before = [] }
+at_top base position = record { base = base; left = max_macro_steps; position = position; own = []; before = [] }
 
 -- only the text itself, for which none waits
 abbrev pub alone : Activation → Stack

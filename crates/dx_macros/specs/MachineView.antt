@@ -35,7 +35,7 @@ abbrev pub plain_activation : List m.Activation → Activation → m.Activation
 plain_activation waiting a = record {
   base = steps_to (base_of waiting) a.reached;
   left = a.left;
-  place = a.place;
+  position = a.position;
   own = param_names a.params.now ++ a.assigned;
   before = a.before;
 }
@@ -55,7 +55,7 @@ steps_behind base (a ∷ rest) = steps_behind (steps_to base a.reached) rest
 
 -- a text of the top level begins, or the body of a macro that is called in another text, whatever waits
 abbrev pub BeginsAtTop : List Text → ℕ → Activation → Type 0
-BeginsAtTop targets place a = (waiting : List m.Activation) → plain_activation waiting a ≡ m.at_top (site.first_target targets) place
+BeginsAtTop targets position a = (waiting : List m.Activation) → plain_activation waiting a ≡ m.at_top (site.first_target targets) position
 
 abbrev pub BeginsIn : Activation → ℕ → List Text → site.Step → Activation → Type 0
 BeginsIn caller left params step a =

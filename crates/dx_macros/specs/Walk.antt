@@ -124,7 +124,7 @@ read_definition macros top i t = λ w.
 abbrev pub no_reader : Reader
 no_reader name w = Goes w
 
--- a name at a place means its last definition before that place, which is read as the names before it are
+-- a name at a position means its last definition before that position, which is read as the names before it are
 abbrev pub reader_at : Macros → List TopText → ℕ → Reader
 reader_at macros definitions zero = no_reader
 reader_at macros definitions (suc i) = λ name.

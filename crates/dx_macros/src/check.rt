@@ -63,9 +63,9 @@ fn walk_call<'a>(alloc: Global, d: &'a Dictionary, c: &'a Call) -> Result<Sparse
     ensures finds { Finds (fault_in (walk_of (dictionary_of d.now) (of_call (plain_call c.now)))) result }
     ensures reads { IfOk result (λ read. flags read ≡ read_in (walk_of (dictionary_of d.now) (of_call (plain_call c.now)))) }
 {
-    let place = d.len();
+    let position = d.len();
     let none: &'a [Bytes] = &[];
-    let text = text_at_top(alloc, none, place);
+    let text = text_at_top(alloc, none, position);
     let m = begin(alloc, d, text, Job::Call(0, c))?;
     run(alloc, d, m)
 }
@@ -74,8 +74,8 @@ fn walk_assign<'a>(alloc: Global, d: &'a Dictionary, a: &'a Assign) -> Result<Sp
     ensures finds { Finds (fault_in (walk_of (dictionary_of d.now) (text_of a.now))) result }
     ensures reads { IfOk result (λ read. flags read ≡ read_in (walk_of (dictionary_of d.now) (text_of a.now))) }
 {
-    let place = d.len();
-    let text = text_at_top(alloc, a.targets.as_slice(), place);
+    let position = d.len();
+    let text = text_at_top(alloc, a.targets.as_slice(), position);
     let m = begin(alloc, d, text, Job::Expr(a.targets.len(), &a.value))?;
     run(alloc, d, m)
 }

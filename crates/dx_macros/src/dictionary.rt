@@ -85,12 +85,12 @@ impl Dictionary {
         self.definitions.as_slice().len()
     }
 
-    /// The place of the last definition of a name before a place.
-    pub fn last_before(&self, place: usize, name: &[u8]) -> Option<usize>
-        ensures last { result ≡ last_named (dictionary_of self.now).definitions place name.now }
+    /// The position of the last definition of a name before a position.
+    pub fn last_before(&self, position: usize, name: &[u8]) -> Option<usize>
+        ensures last { result ≡ last_named (dictionary_of self.now).definitions position name.now }
         ensures below { IfSome result (λ i. i < length (dictionary_of self.now).definitions) }
     {
-        self.definitions.last_before(place, name)
+        self.definitions.last_before(position, name)
     }
 
     /// Definition number i, in the order in which they joined.

@@ -83,14 +83,14 @@ fn do_own<'a>(d: &'a Dictionary, m: &mut Machine<'a>, names: &'a [Bytes]) -> Res
 /// The most macro steps of a site.
 pub const MAX_STEPS: u8 = 64;
 
-/// A text of the top level at a place.
-pub fn text_at_top<'a>(alloc: Global, targets: &'a [Bytes], place: usize) -> Activation<'a>
-    ensures { BeginsAtTop targets.now place result }
+/// A text of the top level at a position.
+pub fn text_at_top<'a>(alloc: Global, targets: &'a [Bytes], position: usize) -> Activation<'a>
+    ensures { BeginsAtTop targets.now position result }
 {
     Activation {
         reached: Reached::Top(targets),
         left: MAX_STEPS,
-        place,
+        position,
         params: &[],
         assigned: Names::new(alloc),
         before: Names::new(alloc),
@@ -110,7 +110,7 @@ fn text_of_macro<'a>(
     Activation {
         reached: Reached::Call(step),
         left: caller.left - 1,
-        place: caller.place,
+        position: caller.position,
         params,
         assigned: Names::new(alloc),
         before: Names::new(alloc),
@@ -147,7 +147,7 @@ fn read_name<'a>(
     if is_own(&m.active, name) {
         return Ok(());
     }
-    match d.last_before(m.active.place, name) {
+    match d.last_before(m.active.position, name) {
         None => Ok(()),
         Some(i) => {
             if is_read(&m.read, i) {

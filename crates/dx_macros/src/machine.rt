@@ -30,8 +30,8 @@ pub struct Activation<'a> {
     pub reached: Reached<'a>,
     /// How many macro steps are left.
     pub left: u8,
-    /// The place of its top-level text.
-    pub place: usize,
+    /// The position of its top-level text.
+    pub position: usize,
     pub params: &'a [Param],
     /// Its targets so far.
     pub assigned: Names<'a>,

@@ -4,7 +4,7 @@ use Rattle.dx_definitions.proofs.Looking.{AreLeft}
 use Rattle.dx_definitions.proofs.definitions.last_named.Given as goal
 
 abbrev pub invariant-loop-left : goal.invariant-loop-left
-invariant-loop-left l = AreLeft l.places l.left (map text_of l.definitions) l.place l.name
+invariant-loop-left l = AreLeft l.positions l.left (map text_of l.definitions) l.position l.name
 
 abbrev pub decreases-loop-left : goal.decreases-loop-left
 decreases-loop-left l = l.left

@@ -6,17 +6,17 @@ use Rattle.dx_definitions.proofs.definitions.note.Goals as goal
 
 pub returns-in_ok-push-in-Some-clause-ok : goal.returns-in_ok-push-in-Some-clause-ok
 returns-in_ok-push-in-Some-clause-ok c =
-    let old = c.args.places.now in
+    let old = c.args.positions.now in
     let list = c.push.new.self in
     let new = c.get_mut.follows.lender list in
     let name = c.args.name.now in
     let there = subst (λ (o : Option (Vec ℕ Global)). IsSome o) c.in-Some.ensures.value refl in
-    index_grown old new name list c.args.place (written old new name (Some list) ((c.get_mut.follows.holds list).3 there))
-    (◌∙◌ {A = List ℕ} c.in_ok-push-in-Some.ensures.items (ap (λ (xs : List ℕ). xs ++ c.args.place ∷ []) (ap listed c.in-Some.ensures.value)))
+    index_grown old new name list c.args.position (written old new name (Some list) ((c.get_mut.follows.holds list).3 there))
+    (◌∙◌ {A = List ℕ} c.in_ok-push-in-Some.ensures.items (ap (λ (xs : List ℕ). xs ++ c.args.position ∷ []) (ap listed c.in-Some.ensures.value)))
 
 pub returns-in_err-push-in-Some-clause-err : goal.returns-in_err-push-in-Some-clause-err
 returns-in_err-push-in-Some-clause-err c =
-    let old = c.args.places.now in
+    let old = c.args.positions.now in
     let list = c.push.new.self in
     let new = c.get_mut.follows.lender list in
     let name = c.args.name.now in

@@ -8,12 +8,12 @@ returns-in_err-note-clause-keeps c = λ defs l all. subst (λ (index : Index). I
 
 pub loop-n-preserved : goal.loop-n-preserved
 loop-n-preserved c =
-    let old = index_of c.loop-n.places in
+    let old = index_of c.loop-n.positions in
     let names = c.args.names.now in
-    let place = c.args.place in
+    let position = c.args.position in
     let grown = c.in_ok-note.ensures.ok in
-    let step = note_next names c.loop-n.n-index (c.loop-n.n-index + 1) c.n-item.result c.bytes.result.now old place c.loop-n-test.true c.n-item.is c.bytes.ensures (omega arith) in
+    let step = note_next names c.loop-n.n-index (c.loop-n.n-index + 1) c.n-item.result c.bytes.result.now old position c.loop-n-test.true c.n-item.is c.bytes.ensures (omega arith) in
     record {
-      ok = ap (λ (index : Index). noted index (drop (c.loop-n.n-index + 1) names) place) grown ∙ step ∙ c.loop-n.invariant.ok;
-      keeps = λ defs l all. keeps_note old (index_of c.note.new.places) c.bytes.result.now place defs grown l (c.loop-n.invariant.keeps defs l all);
+      ok = ap (λ (index : Index). noted index (drop (c.loop-n.n-index + 1) names) position) grown ∙ step ∙ c.loop-n.invariant.ok;
+      keeps = λ defs l all. keeps_note old (index_of c.note.new.positions) c.bytes.result.now position defs grown l (c.loop-n.invariant.keeps defs l all);
     }

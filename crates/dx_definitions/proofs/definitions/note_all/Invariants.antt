@@ -5,6 +5,6 @@ use Rattle.dx_definitions.proofs.definitions.note_all.Given as goal
 
 abbrev pub invariant-loop-n : goal.invariant-loop-n
 invariant-loop-n l = record {
-  ok : noted (index_of l.places) (drop l.n-index l.names) l.place ≡ noted (index_of l.initial.places) l.names l.place;
-  keeps : (defs : List TopText) → length defs ≡ l.place → Indexes (index_of l.initial.places) defs → Indexes (index_of l.places) defs;
+  ok : noted (index_of l.positions) (drop l.n-index l.names) l.position ≡ noted (index_of l.initial.positions) l.names l.position;
+  keeps : (defs : List TopText) → length defs ≡ l.position → Indexes (index_of l.initial.positions) defs → Indexes (index_of l.positions) defs;
 }

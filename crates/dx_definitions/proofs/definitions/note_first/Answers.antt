@@ -7,6 +7,6 @@ pub returns-clause-ok : goal.returns-clause-ok
 returns-clause-ok c =
     let name = c.args.name.now in
     let list = c.push.new.self in
-    let changed = under_changed c.args.places.now c.insert.new.self name (Some list) c.in_ok-key.key c.in_ok-key.ensures.items c.in_ok-insert.ensures.updates in
-    index_grown c.args.places.now c.insert.new.self name list c.args.place changed
-    (c.in_ok-push.ensures.items ∙ ap (λ (xs : List ℕ). xs ++ c.args.place ∷ []) (c.new-list.ensures.items ∙ sym c.requires))
+    let changed = under_changed c.args.positions.now c.insert.new.self name (Some list) c.in_ok-key.key c.in_ok-key.ensures.items c.in_ok-insert.ensures.updates in
+    index_grown c.args.positions.now c.insert.new.self name list c.args.position changed
+    (c.in_ok-push.ensures.items ∙ ap (λ (xs : List ℕ). xs ++ c.args.position ∷ []) (c.new-list.ensures.items ∙ sym c.requires))

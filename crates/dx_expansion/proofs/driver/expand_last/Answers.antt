@@ -10,4 +10,4 @@ pub returns-in_default-clause-expands : goal.returns-in_default-clause-expands
 returns-in_default-clause-expands c =
     let none = no_text c.args.s.now c.in_default.not-Assign c.in_default.not-Call c.in_default.not-Sequence in
     let old = unfolded (graph_of c.args.graph.now) in
-    sym (append-nil old) ∙ sym (ap (λ (t : Option TopText). old ++ effects_in t c.args.w.now c.args.place) none)
+    sym (append-nil old) ∙ sym (ap (λ (t : Option TopText). old ++ effects_in t c.args.w.now c.args.position) none)

@@ -13,8 +13,8 @@ pub returns : goal.returns
 returns c =
     let text = top_text (plain_stmt c.args.s.now) in
     let w = c.new_world-w.result in
-    let place = length (dictionary_of c.args.d.now).definitions in
+    let position = length (dictionary_of c.args.d.now).definitions in
     no_effects (graph_of c.new.result) (ap (λ g. g.effects) c.new.ensures.graph)
-    ∙ sym (c.is_silent.ensures place cc)
-    ∙ last_effects w w place text (record { dictionary = refl; frames = refl; places = refl }) (sym (ap (λ (x : Dictionary). length (dictionary_of x).definitions) c.new_world-w.ensures.dictionary))
+    ∙ sym (c.is_silent.ensures position cc)
+    ∙ last_effects w w position text (record { dictionary = refl; frames = refl; places = refl }) (sym (ap (λ (x : Dictionary). length (dictionary_of x).definitions) c.new_world-w.ensures.dictionary))
     ∙ ap₂ (λ (x : Dictionary) (f : Frames). effects (dictionary_of x) f (plain_stmt c.args.s.now)) c.new_world-w.ensures.dictionary c.new_world-w.ensures.frames

@@ -1,7 +1,9 @@
-use Rattle.std.proofs.Common.{List, ◌+◌, ◌*◌, [], drop}
+use Rattle.std.proofs.Common.{List, ◌+◌, ◌*◌, ◌≤◌, [], drop, length}
 use Rattle.dx_ast.specs.Plain.{plain_expr, plain_call, plain_args, plain_stmt, plain_stmts}
 use Rattle.dx_macros.specs.Weight.{expr_weight, call_weight, args_weight, statement_weight, body_weight}
+use Rattle.dx_graph.specs.GraphView.{graph_of}
 use Rattle.dx_expansion.specs.Expanding.{Ready, Grows, SameText, setting}
+use Rattle.dx_expansion.specs.Numbering.{HasNumbers, args_calls, body_calls}
 use Rattle.dx_expansion.proofs.Expansions.{ArgsSoFar, BodySoFar}
 use Rattle.dx_expansion.proofs.Measures.{cap}
 use Rattle.dx_ast.specs.Classes.{Text as Name}
@@ -32,6 +34,8 @@ decreases-expand_statement l = l.t.now.left * cap l.w.now + (3 * statement_weigh
 abbrev pub invariant-expand_args-loop-arg : goal.invariant-expand_args-loop-arg
 invariant-expand_args-loop-arg l = record {
   grows : Grows l.initial.graph l.graph;
+  few : HasNumbers l.graph (args_calls l.w l.t (plain_args (drop l.arg-index l.args)));
+  adds : length (graph_of l.graph).nodes + args_calls l.w l.t (plain_args (drop l.arg-index l.args)) ≤ length (graph_of l.initial.graph).nodes + args_calls l.w l.t (plain_args l.args);
   walked : ArgsWalked l.w l.t (plain_args (drop l.arg-index l.args));
   so_far : ArgsSoFar (setting l.w l.t l.initial.graph) l.initial.before l.args l.initial.graph l.graph l.before l.given.items (drop l.arg-index l.args);
 }
@@ -41,6 +45,8 @@ invariant-expand_body-loop-s l = record {
   grows : Grows l.initial.graph l.graph;
   same : SameText l.initial.t l.t;
   ready : Ready l.w l.t l.graph;
+  few : HasNumbers l.graph (body_calls l.w l.initial.t (plain_stmts (drop l.s-index l.body)));
+  adds : length (graph_of l.graph).nodes + body_calls l.w l.initial.t (plain_stmts (drop l.s-index l.body)) ≤ length (graph_of l.initial.graph).nodes + body_calls l.w l.initial.t (plain_stmts l.body);
   walked : (results : List Name) → BodyWalked l.w l.initial.t results (plain_stmts l.body) → BodyWalked l.w l.t results (plain_stmts (drop l.s-index l.body));
   so_far : BodySoFar l.w (setting l.w l.initial.t l.initial.graph) l.body l.initial.graph l.graph l.t l.before (drop l.s-index l.body);
 }

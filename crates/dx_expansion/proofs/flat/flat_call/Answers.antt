@@ -1,7 +1,7 @@
 use Rattle.std.proofs.Common.{◌≡◌, ◌∙◌, ◌++◌, [], List, Some, None, All, map, sym, ap, ap₂, subst}
 use Rattle.dx_ast.specs.declared.expressions.Arg.{Arg}
 use Rattle.dx_ast.specs.declared.expressions.Call.{out-Call}
-use Rattle.dx_ast.specs.Plain.{plain_call, plain_args}
+use Rattle.dx_ast.specs.Plain.{plain_args}
 use Rattle.dx_ast.specs.Syntax.{Call}
 use Rattle.dx_ast.proofs.PlainLaws.{plain_call_out}
 use Rattle.dx_graph.specs.Graph as graphs

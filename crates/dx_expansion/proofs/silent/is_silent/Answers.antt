@@ -8,6 +8,6 @@ use Rattle.dx_expansion.proofs.Silence.{assignment_silent}
 use Rattle.dx_expansion.proofs.silent.is_silent.Goals as goal
 
 pub returns-in-Assign : goal.returns-in-Assign
-returns-in-Assign c = λ place h.
-    ap (λ (t : Option TopText). effects_in t c.args.w.now place) (ap (λ s. top_text (plain_stmt s)) c.in-Assign.is ∙ ap top_text (stmt_assign _))
-    ∙ assignment_silent c.args.w.now place (record { targets = c.in-Assign.a.targets; value = plain_expr c.in-Assign.a.value }) (c.is_silent_expr.ensures h)
+returns-in-Assign c = λ position h.
+    ap (λ (t : Option TopText). effects_in t c.args.w.now position) (ap (λ s. top_text (plain_stmt s)) c.in-Assign.is ∙ ap top_text (stmt_assign _))
+    ∙ assignment_silent c.args.w.now position (record { targets = c.in-Assign.a.targets; value = plain_expr c.in-Assign.a.value }) (c.is_silent_expr.ensures h)

@@ -10,8 +10,8 @@ top_meaning-requires c = record { walked = read_at_top c.args.w.now c.args.t.now
 
 pub returns-in-Some : goal.returns-in-Some
 returns-in-Some c = λ nodes memo own.
-    own_means nodes (under_name c.args.t.now.own) (top_scope c.args.w.now c.args.t.now.place) c.args.name.now c.in-Some.o.now (sym c.in-Some.ensures.value) own
+    own_means nodes (under_name c.args.t.now.own) (top_scope c.args.w.now c.args.t.now.position) c.args.name.now c.in-Some.o.now (sym c.in-Some.ensures.value) own
 
 pub returns-in-None : goal.returns-in-None
 returns-in-None c = λ nodes memo own.
-    top_means nodes (under_name c.args.t.now.own) (top_scope c.args.w.now c.args.t.now.place) c.args.name.now c.top_meaning.result (sym c.in-None.ensures.value) (c.top_meaning.ensures nodes memo)
+    top_means nodes (under_name c.args.t.now.own) (top_scope c.args.w.now c.args.t.now.position) c.args.name.now c.top_meaning.result (sym c.in-None.ensures.value) (c.top_meaning.ensures nodes memo)

@@ -8,14 +8,14 @@ use Rattle.dx_expansion.proofs.Parts.{result_known}
 use Rattle.dx_expansion.proofs.text.top_meaning.Goals as goal
 
 pub returns-in-None : goal.returns-in-None
-returns-in-None c = λ nodes memo. record { fits = tt; tree = sym (unbound c.args.w.now c.args.place c.args.name.now (sym c.last_before.ensures.last ∙ c.in-None.is)) }
+returns-in-None c = λ nodes memo. record { fits = tt; tree = sym (unbound c.args.w.now c.args.position c.args.name.now (sym c.last_before.ensures.last ∙ c.in-None.is)) }
 
 pub returns-in-Some-get : goal.returns-in-Some-get
 returns-in-Some-get c = λ nodes memo.
     let w = c.args.w.now in
     let i = c.in-Some.i in
     let name = c.args.name.now in
-    let here = bound_at w c.args.place i name (sym c.last_before.ensures.last ∙ c.in-Some.is) in
+    let here = bound_at w c.args.position i name (sym c.last_before.ensures.last ∙ c.in-Some.is) in
     let targets = c.as_slice-targets.ensures ∙ ap (λ (t : TopText). t.targets) c.definition.ensures in
     let gives : Gives nodes c.in-Some-get.r.now (top_results w i) = memo i c.in-Some-get.r.now (sym c.in-Some-get.ensures) in
     record {
@@ -29,4 +29,4 @@ returns-in-Some-get c = λ nodes memo.
 pub unreachable-requires : goal.unreachable-requires
 unreachable-requires c =
     let w = c.args.w.now in
-    result_known w c.args.place c.in-Some.i c.args.name.now c.requires.walked (sym c.last_before.ensures.last ∙ c.in-Some.is) (sym c.in-None-get.ensures)
+    result_known w c.args.position c.in-Some.i c.args.name.now c.requires.walked (sym c.last_before.ensures.last ∙ c.in-Some.is) (sym c.in-None-get.ensures)

@@ -9,12 +9,12 @@ pub returns-clause-finds : goal.returns-clause-finds
 returns-clause-finds c =
     let d = dictionary_of c.args.d.now in
     finds c.run.result _ _
-    (c.in_ok-m.ensures.means ∙ started d c.text_at_top-text.result c.len-place.result 0 [] (of_call (plain_call c.args.c.now)) c.text_at_top-text.ensures c.len-place.ensures refl refl)
+    (c.in_ok-m.ensures.means ∙ started d c.text_at_top-text.result c.len-position.result 0 [] (of_call (plain_call c.args.c.now)) c.text_at_top-text.ensures c.len-position.ensures refl refl)
     c.run.ensures
 
 pub returns-clause-reads : goal.returns-clause-reads
 returns-clause-reads c =
     let d = dictionary_of c.args.d.now in
     reads c.run.result _ _
-    (c.in_ok-m.ensures.means ∙ started d c.text_at_top-text.result c.len-place.result 0 [] (of_call (plain_call c.args.c.now)) c.text_at_top-text.ensures c.len-place.ensures refl refl)
+    (c.in_ok-m.ensures.means ∙ started d c.text_at_top-text.result c.len-position.result 0 [] (of_call (plain_call c.args.c.now)) c.text_at_top-text.ensures c.len-position.ensures refl refl)
     c.run.ensures

@@ -8,14 +8,14 @@ use Rattle.dx_definitions.proofs.definitions.Definitions.note_constant.Goals as 
 
 pub invariant_of-self : goal.invariant_of-self
 invariant_of-self c =
-    let at : c.len-place.result ≡ length c.self.inside.constants.items = first_of (search rules, omega arith) in
-    let stands : (k : ℕ) → c.constant_place-constant.result ≡ Some k → StandsIn (map text_of c.self.inside.list.items) c.len-place.result k = λ k e.
-    subst (λ (defs : List TopText). StandsIn defs c.len-place.result k) (ap (λ (h : Held). map text_of h.items) (sym c.self.view_is)) (c.constant_place-constant.ensures k e) in
-    (c.self.invariant.0, noted_after (map text_of c.self.inside.list.items) c.self.inside.constants.items c.push.new.self.items c.constant_place-constant.result c.len-place.result _ c.push.ensures.items at c.self.invariant.1 stands)
+    let at : c.len-position.result ≡ length c.self.inside.constants.items = first_of (search rules, omega arith) in
+    let stands : (k : ℕ) → c.constant_position-constant.result ≡ Some k → StandsIn (map text_of c.self.inside.list.items) c.len-position.result k = λ k e.
+    subst (λ (defs : List TopText). StandsIn defs c.len-position.result k) (ap (λ (h : Held). map text_of h.items) (sym c.self.view_is)) (c.constant_position-constant.ensures k e) in
+    (c.self.invariant.0, noted_after (map text_of c.self.inside.list.items) c.self.inside.constants.items c.push.new.self.items c.constant_position-constant.result c.len-position.result _ c.push.ensures.items at c.self.invariant.1 stands)
 
 pub invariant_of-self-in-Err : goal.invariant_of-self-in-Err
 invariant_of-self-in-Err c =
-    let at : c.len-place.result ≡ length c.self.inside.constants.items = first_of (search rules, omega arith) in
-    let stands : (k : ℕ) → c.constant_place-constant.result ≡ Some k → StandsIn (map text_of c.self.inside.list.items) c.len-place.result k = λ k e.
-    subst (λ (defs : List TopText). StandsIn defs c.len-place.result k) (ap (λ (h : Held). map text_of h.items) (sym c.self.view_is)) (c.constant_place-constant.ensures k e) in
-    (c.self.invariant.0, noted_after (map text_of c.self.inside.list.items) c.self.inside.constants.items c.push.new.self.items c.constant_place-constant.result c.len-place.result _ c.push.ensures.items at c.self.invariant.1 stands)
+    let at : c.len-position.result ≡ length c.self.inside.constants.items = first_of (search rules, omega arith) in
+    let stands : (k : ℕ) → c.constant_position-constant.result ≡ Some k → StandsIn (map text_of c.self.inside.list.items) c.len-position.result k = λ k e.
+    subst (λ (defs : List TopText). StandsIn defs c.len-position.result k) (ap (λ (h : Held). map text_of h.items) (sym c.self.view_is)) (c.constant_position-constant.ensures k e) in
+    (c.self.invariant.0, noted_after (map text_of c.self.inside.list.items) c.self.inside.constants.items c.push.new.self.items c.constant_position-constant.result c.len-position.result _ c.push.ensures.items at c.self.invariant.1 stands)

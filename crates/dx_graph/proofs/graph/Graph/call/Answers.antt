@@ -1,7 +1,8 @@
 use Rattle.std.proofs.Common.{◌<◌, ◌++◌, ◌∷◌, [], List, length, subst, is_ok, arith, length-append}
-use Rattle.dx_graph.specs.Trails.{IsTrail}
+use Rattle.std.proofs.lemmas.List.{length-map}
+use Rattle.dx_graph.specs.Trails.{IsTrail, spots_of}
 use Rattle.dx_graph.specs.Graph.{IsGraph}
-use Rattle.dx_graph.specs.Shown.{graph_with, ArePlaced}
+use Rattle.dx_graph.specs.Shown.{graph_with, ArePlaced, plain_node}
 use Rattle.dx_graph.specs.declared.node.Placed.{Placed}
 use Rattle.dx_graph.proofs.Growing.{either, lawful_push, placed_push, count_spots}
 use Rattle.dx_graph.proofs.graph.Graph.call.Goals as goal
@@ -17,7 +18,7 @@ invariant_of-self c =
     let Few : List Placed → Type 0 = λ ps. length ps < 4294967296 in
     let Lawful : List Placed → Type 0 = λ ps. ∥ IsGraph (graph_with self.trails ps self.effects.items) ∥₁ in
     record {
-      few = either Few (is_ok c.push.result) old (old ++ p ∷ []) new (omega (arith, self.few)) (omega (arith, length-append old (p ∷ []), c.in_ok-number.ensures.number, c.in_ok-number.ensures.fits, c.len.ensures)) c.push.ensures.items;
+      few = either Few (is_ok c.push.result) old (old ++ p ∷ []) new (omega (arith, self.few)) (omega (arith, length-append old (p ∷ []), c.requires.few, length-map old (plain_node (spots_of self.trails)))) c.push.ensures.items;
       placed = either (ArePlaced count) (is_ok c.push.result) old (old ++ p ∷ []) new self.placed (placed_push count old p self.placed placed) c.push.ensures.items;
       lawful = either Lawful (is_ok c.push.result) old (old ++ p ∷ []) new self.lawful (lawful_push self.trails old p self.effects.items self.lawful c.requires.node) c.push.ensures.items;
     }
