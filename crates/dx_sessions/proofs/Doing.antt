@@ -1,25 +1,31 @@
 -- What is done one behind the other.
-use Rattle.std.proofs.Common.{◌≡◌, List, [], ◌∷◌, Bool, false, ◌||◌, refl, sym, ap, ap₂, subst, ◌∙◌}
+use Rattle.std.proofs.Common.{◌≡◌, List, [], ◌∷◌, Bool, false, ◌||◌, Result, refl, sym, ap, ap₂, subst, ◌∙◌}
 use Rattle.dx_performing.specs.Course.{Fixed}
 use Rattle.dx_performing.specs.Kept.{Kept, current}
 use Rattle.dx_engine.specs.Keeping.{IsSoundState}
 use Rattle.dx_engine.specs.Executing.{Devices}
-use Rattle.dx_ast.specs.Syntax.{Stmt, Assigns, Calls, Defines, Includes, Sets, Says, Sequences}
+use Rattle.dx_ast.specs.Syntax.{Call, Stmt, Assigns, Calls, Defines, Includes, Sets, Says, Sequences}
 use Rattle.dx_sequencer.specs.Sequencer as seq
 use Rattle.dx_shown.specs.Made.{Coursed, coursed}
-use Rattle.dx_shown.specs.Session.{Done, Shown, State, and_then, silently, statement}
+use Rattle.dx_shown.specs.Session.{Done, Shown, State, and_then, executed, silently, statement}
+use Rattle.dx_making.specs.declared.end.End.{End}
 use Rattle.dx_telling.specs.declared.listings.Listings.{Listings}
-use Rattle.dx_sessions.specs.Does.{IsFront, IsCutAt, IsDone}
+use Rattle.dx_sessions.specs.Does.{DoesSo, IsFront, IsCutAt, IsDone, ShowsSo}
+use Rattle.dx_sessions.specs.Ended.{erred_of}
 use Rattle.dx_sessions.specs.Left.{LeavesCurrent, LeavesSequencer}
 use Rattle.dx_sessions.specs.Places.{here, in_statement}
 use Rattle.dx_sessions.proofs.Statements.{IsDefining}
 use Rattle.dx_sessions.specs.SessionView.{state_of}
+use Rattle.dx_sessions.specs.declared.ended.Ended.{Ended}
 use Rattle.dx_sessions.specs.declared.session.Session.{Session}
 use Rattle.dx_sessions.proofs.Folding.{errors_append, none_whole, whole_on, cut_at_once, cut_in_one}
 
 -- nothing is shown
 pub silently_done : (x : Fixed) (l : Listings) (st : State Kept) (new : Session) (was : Devices) → state_of new ≡ st → IsSoundState x new.state → IsDone x l (silently st) was false new was
 silently_done x l st new was same sound = record { whole = none_whole l was; erred = refl; state = same; sound = sound }
+
+pub silently_by : (x : Fixed) (l : Listings) (done : Done Kept Coursed) (st : State Kept) (new : Session) (was : Devices) → done ≡ silently st → state_of new ≡ st → IsSoundState x new.state → IsDone x l done was false new was
+silently_by x l done st new was is same sound = subst (λ (d : Done Kept Coursed). IsDone x l d was false new was) (sym is) (silently_done x l st new was same sound)
 
 -- and then more
 pub done_on : (x : Fixed) (l : Listings) (first : Done Kept Coursed) (next : State Kept → Done Kept Coursed) (mid new : Session) (was between now : Devices) (erred failed : Bool)
@@ -83,3 +89,17 @@ defining_stays (Includes name) s d = absurd d
 defining_stays (Sets v e) s d = absurd d
 defining_stays (Says w) s d = absurd d
 defining_stays (Sequences c) s d = absurd d
+
+-- ---- the statement that it is
+
+pub statement_does : (x : Fixed) (l : Listings) (st : State Kept) (s t : Stmt) (was now : Devices) (r : Result Bool End) (new : Session) → s ≡ t
+    → DoesSo x l (in_statement (coursed x) st t) (statement (coursed x) st t) was r new now → DoesSo x l (in_statement (coursed x) st s) (statement (coursed x) st s) was r new now
+statement_does x l st s t was now r new is h = subst (λ (y : Stmt). DoesSo x l (in_statement (coursed x) st y) (statement (coursed x) st y) was r new now) (sym is) h
+
+-- a call, which is executed as a statement of the code
+pub call_does : (x : Fixed) (l : Listings) (st : State Kept) (s u : Stmt) (call : Call) (was now : Devices) (ended : Result Ended End) (erred : Result Bool End) (new : Session) → s ≡ Calls call → u ≡ Calls call
+    → erred ≡ erred_of ended → ShowsSo x l st (executed (coursed x) st u) was ended new now → DoesSo x l (in_statement (coursed x) st s) (statement (coursed x) st s) was erred new now
+call_does x l st s u call was now ended erred new is same tells h =
+    statement_does x l st s (Calls call) was now erred new is
+    (subst (λ (r : Result Bool End). DoesSo x l (here st) (executed (coursed x) st (Calls call)) was r new now) (sym tells)
+    (subst (λ (y : Stmt). DoesSo x l (here st) (executed (coursed x) st y) was (erred_of ended) new now) same h))

@@ -1,11 +1,8 @@
 -- One execution on the devices, with what is told behind it.
-use Rattle.std.proofs.Common.{inl, inr, ◌≡◌, ℕ, List, [], ◌∷◌, ◌++◌, Option, Some, None, Bool, true, false, ◌||◌, is_some, option_map, Result, Ok, Err, refl, sym, ap, ap₂, subst, ◌∙◌, append_assoc, append-nil}
+use Rattle.std.proofs.Common.{inl, inr, ◌≡◌, ℕ, List, [], ◌∷◌, ◌++◌, Option, Some, None, Bool, true, false, ◌||◌, is_some, Result, Ok, Err, refl, sym, ap, ap₂, subst, ◌∙◌, append_assoc, append-nil}
 use Rattle.dx_io.specs.Devices.{FileMap as InputFiles, Grows, GrowsInto}
 use Rattle.dx_io.proofs.Growing.{grows_by_nothing, grows_on, grows_on_into, grows_into}
-use Rattle.dx_ast.specs.declared.statements.Stmt.{Stmt as CodeStmt}
-use Rattle.dx_ast.specs.Plain.{plain_stmt}
 use Rattle.dx_ast.specs.Syntax.{Stmt}
-use Rattle.dx_macros.specs.declared.dictionary.Dictionary.{Dictionary}
 use Rattle.dx_macros.specs.DictionaryView.{dictionary_of}
 use Rattle.dx_links.specs.LinkMap.{LinkMap}
 use Rattle.dx_machine.specs.Machine.{tasks_of}
@@ -29,9 +26,8 @@ use Rattle.dx_engine.specs.Fronts.{AddsFront}
 use Rattle.dx_engine.proofs.Fronts.{front_all, front_later}
 use Rattle.dx_engine.specs.declared.state.State.{State}
 use Rattle.dx_shown.specs.Made.{Coursed, coursed, coursed_unless}
-use Rattle.dx_sequencer.specs.Sequencer as seq
 use Rattle.dx_sequencer.specs.Sequencer.{frames_of}
-use Rattle.dx_shown.specs.Session.{Executes, executed, sequence_executed, with_kept, State as SessionState}
+use Rattle.dx_shown.specs.Session.{Done, Executes, executed, sequence_executed, with_kept, State as SessionState}
 use Rattle.dx_making.specs.Ends.{reads_ahead}
 use Rattle.dx_making.specs.Failing.{FailsAs}
 use Rattle.dx_making.specs.Making.{IsMade, IsCutLate, MakesSo}
@@ -41,9 +37,10 @@ use Rattle.dx_making.specs.declared.failing.Failing.{Failing}
 use Rattle.dx_making.specs.declared.failing.Failing.TheVariants.{Faulty, Refused}
 use Rattle.dx_telling.specs.Shown.{behind_of}
 use Rattle.dx_telling.specs.declared.listings.Listings.{Listings}
-use Rattle.dx_sessions.specs.Does.{OverSound, IsFront, IsCutAt, IsDone, OthersStay, ShowsSo}
+use Rattle.dx_sessions.specs.Does.{OverSound, IsFront, DoesSo, ShowsSo}
 use Rattle.dx_sessions.specs.Places.{here}
-use Rattle.dx_sessions.specs.Ended.{is_error}
+use Rattle.dx_sessions.specs.Ended.{erred_of, is_error}
+use Rattle.dx_sessions.specs.Sequence.{IsSequence}
 use Rattle.dx_sessions.specs.Executes.{IsExecuted, IsCutIn, ExecutesSo}
 use Rattle.dx_sessions.specs.Left.{IsBehind, IsLeftIn, before_puts, at_a_put, behind_puts}
 use Rattle.dx_sessions.specs.SessionView.{state_of}
@@ -209,49 +206,47 @@ cut_telling ahead x l st st' made was mid now failing behind m grown told puts =
 
 -- ---- in a session
 
--- the sequence call, which is there
-pub sequence_cut : (ahead : Bool) (x : Fixed) (l : Listings) (st : SessionState Kept) (new : Session) (o : Option Stmt) (s : Stmt) (was now : Devices) → o ≡ Some s
-    → IsCutAt ahead x l (here st) (executed (coursed x) st s).shown was new now → IsCutAt ahead x l (here st) (sequence_executed (coursed x) o st).shown was new now
-sequence_cut ahead x l st new o s was now is cut = subst (λ (y : Option Stmt). IsCutAt ahead x l (here st) (sequence_executed (coursed x) y st).shown was new now) (sym is) cut
-
-pub sequence_done : (x : Fixed) (l : Listings) (st : SessionState Kept) (new : Session) (o : Option Stmt) (s : Stmt) (was now : Devices) (erred failed : Bool) → erred ≡ failed → o ≡ Some s
-    → IsDone x l (executed (coursed x) st s) was failed new now → IsDone x l (sequence_executed (coursed x) o st) was erred new now
-sequence_done x l st new o s was now erred failed same is done =
-    subst (λ (y : Option Stmt). IsDone x l (sequence_executed (coursed x) y st) was erred new now) (sym is) (subst (λ (b : Bool). IsDone x l (executed (coursed x) st s) was b new now) (sym same) done)
-
 or_false : (b : Bool) → b ≡ b || false
 or_false true = refl
 or_false false = refl
 
-abbrev pub made_in : Fixed → Session → Stmt → Coursed × Kept
-made_in x old s = coursed x (state_of old).dictionary (frames_of (state_of old).sequencer) s (state_of old).kept
+abbrev made_in : Fixed → Session → Stmt → Coursed × Kept
+made_in x old s = coursed x (dictionary_of old.dictionary) (frames_of old.sequencer) s (kept_of old.state)
 
--- an execution of a statement with what is current
-pub shows : (x : Fixed) (l : Listings) (old new : Session) (s : Stmt) (was now : Devices) (r : Result Ended End)
-    → OthersStay old new → ExecutesSo x l (state_of old).kept (made_in x old s) was r new.state now
-    → ShowsSo x l (state_of old) (executed (coursed x) (state_of old) s) was r new now
-shows x l old new s was now (Ok ended) stay h = record {
+-- executions change nothing else
+abbrev pub with_state : (old : Session) → State → ∥ IsSequence old.sequence ∥₁ → Session
+with_state old st lawful = record { dictionary = old.dictionary; sequencer = old.sequencer; sequence = old.sequence; state = st; listings = old.listings; lawful = lawful }
+
+shows_so : (x : Fixed) (l : Listings) (old : Session) (st : State) (lawful : ∥ IsSequence old.sequence ∥₁) (s : Stmt) (was now : Devices) (ended : Result Ended End)
+    → ExecutesSo x l (kept_of old.state) (made_in x old s) was ended st now
+    → ShowsSo x l (state_of old) (executed (coursed x) (state_of old) s) was ended (with_state old st lawful) now
+shows_so x l old st lawful s was now (Ok ended) h = record {
   whole = h.whole;
   erred = h.error ∙ or_false (is_some (made_in x old s).0.execution.error);
-  state = same_state x old new s stay h.kept;
+  state = ap (λ (k : Kept). with_kept k (state_of old)) h.kept;
   sound = h.sound;
 }
-  where
-    same_state : (x : Fixed) (old new : Session) (s : Stmt) → OthersStay old new → kept_of new.state ≡ (made_in x old s).1 → state_of new ≡ with_kept (made_in x old s).1 (state_of old)
-    same_state x old new s stay kept =
-        ap (λ (d : Dictionary). let y : SessionState Kept = record { dictionary = dictionary_of d; sequencer = new.sequencer; sequence = option_map plain_stmt new.sequence; kept = kept_of new.state } in y) stay.dictionary
-        ∙ ap (λ (q : seq.State). let y : SessionState Kept = record { dictionary = dictionary_of old.dictionary; sequencer = q; sequence = option_map plain_stmt new.sequence; kept = kept_of new.state } in y) stay.sequencer
-        ∙ ap (λ (c : Option CodeStmt). let y : SessionState Kept = record { dictionary = dictionary_of old.dictionary; sequencer = old.sequencer; sequence = option_map plain_stmt c; kept = kept_of new.state } in y) stay.sequence
-        ∙ ap (λ (k : Kept). with_kept k (state_of old)) kept
-shows x l old new s was now (Err end) stay h = record {
+shows_so x l old st lawful s was now (Err end) h = record {
   short = cut_in_one (reads_ahead end) l (Executes (made_in x old s).0) was now h.front;
   at = state_of old;
   begins = (refl, refl);
-  left = record {
-    dictionary = ap (λ (d : Dictionary). dictionary_of d) stay.dictionary;
-    sequencer = stay.sequencer;
-    sequence = ap (λ (c : Option CodeStmt). option_map plain_stmt c) stay.sequence;
-    current = h.current;
-  };
+  left = record { dictionary = refl; sequencer = refl; sequence = refl; current = h.current };
   sound = h.sound;
 }
+
+-- an execution of a statement with what is current
+pub shows : (x : Fixed) (l : Listings) (old : Session) (st : State) (lawful : ∥ IsSequence old.sequence ∥₁) (frames : Frames) (s : Stmt) (was now : Devices) (ended : Result Ended End) → frames ≡ frames_of old.sequencer
+    → ExecutesSo x l (kept_of old.state) (coursed x (dictionary_of old.dictionary) frames s (kept_of old.state)) was ended st now
+    → ShowsSo x l (state_of old) (executed (coursed x) (state_of old) s) was ended (with_state old st lawful) now
+shows x l old st lawful frames s was now ended same h =
+    shows_so x l old st lawful s was now ended (subst (λ (f : Frames). ExecutesSo x l (kept_of old.state) (coursed x (dictionary_of old.dictionary) f s (kept_of old.state)) was ended st now) same h)
+
+-- whether an error line was due
+pub shows_erred : (x : Fixed) (l : Listings) (st : SessionState Kept) (done : Done Kept Coursed) (was now : Devices) (ended : Result Ended End) (erred : Result Bool End) (new : Session) → erred ≡ erred_of ended
+    → ShowsSo x l st done was ended new now → DoesSo x l (here st) done was erred new now
+shows_erred x l st done was now ended erred new same h = subst (λ (r : Result Bool End). DoesSo x l (here st) done was r new now) (sym same) h
+
+-- the sequence call, which is there
+pub sequence_does : (x : Fixed) (l : Listings) (st : SessionState Kept) (o : Option Stmt) (s : Stmt) (was now : Devices) (erred : Result Bool End) (new : Session) → o ≡ Some s
+    → DoesSo x l (here st) (executed (coursed x) st s) was erred new now → DoesSo x l (here st) (sequence_executed (coursed x) o st) was erred new now
+sequence_does x l st o s was now erred new is h = subst (λ (y : Option Stmt). DoesSo x l (here st) (sequence_executed (coursed x) y st) was erred new now) (sym is) h

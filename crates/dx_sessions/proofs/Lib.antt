@@ -4,7 +4,7 @@ pub mod Executions
 pub mod Staying
 pub mod Stepping
 pub mod Fronts
-pub mod Causes
+pub mod Keeping
 pub mod Joining
 pub mod Statements
 pub mod Switching

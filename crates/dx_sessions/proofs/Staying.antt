@@ -1,11 +1,6 @@
--- What stays, and what was put, over calls one behind the other.
-use Rattle.std.proofs.Common.{◌≡◌, ℕ, ◌<◌, ◌≤◌, List, [], ◌∷◌, ◌++◌, Option, refl, sym, ap, subst, ◌∙◌, inr}
-use Rattle.dx_io.proofs.Growing.{grows_by_nothing, grows_on}
-use Rattle.dx_performing.specs.Execution.{Export, after_exports}
+-- What stays over calls one behind the other.
+use Rattle.std.proofs.Common.{◌≡◌, ℕ, ◌<◌, ◌≤◌, Option, refl, sym, ap, subst, ◌∙◌, inr}
 use Rattle.dx_performing.specs.Kept.{Kept}
-use Rattle.dx_tags.specs.Files.{FileMap, file_put}
-use Rattle.dx_engine.specs.Ending.{HasPut}
-use Rattle.dx_engine.specs.declared.state.State.{State as EngineState}
 use Rattle.std.specs.Prelude.{Result, Ok, Err, OnErr, option_map}
 use Rattle.dx_ast.specs.declared.statements.Stmt.{Stmt as CodeStmt}
 use Rattle.dx_ast.specs.Plain.{plain_stmt}
@@ -36,27 +31,6 @@ stays_by_others old new others = record { dictionary = ap (λ (d : Dictionary). 
 pub on_err_with : {T E A : Type 0} (r : Result T E) → A → OnErr r A
 on_err_with (Ok x) h = tt
 on_err_with (Err e) h = h
-
--- ---- what was put
-
-pub none_put_yet : (was : Option (List Export)) (files : FileMap) → HasPut was was files files
-none_put_yet was files = record { files = []; made = record { told = grows_by_nothing was; files = refl } }
-
-pub none_put_same : (was : Option (List Export)) (st st' : EngineState) → st' ≡ st → HasPut was was st.written.files st'.written.files
-none_put_same was st st' same = record { files = []; made = record { told = grows_by_nothing was; files = ap (λ (s : EngineState). s.written.files) same } }
-
-exports_on : (files : FileMap) (a b : List Export) → after_exports files (a ++ b) ≡ after_exports (after_exports files a) b
-exports_on files [] b = refl
-exports_on files (e ∷ es) b = exports_on (file_put files e.0 e.1) es b
-
-pub put_on : (was mid now : Option (List Export)) (before between behind : FileMap) → HasPut was mid before between → HasPut mid now between behind → HasPut was now before behind
-put_on was mid now before between behind first second = record {
-  files = first.files ++ second.files;
-  made = record {
-    told = grows_on was mid now first.files second.files first.made.told second.made.told;
-    files = second.made.files ∙ ap (λ (files : FileMap). after_exports files second.files) first.made.files ∙ sym (exports_on before first.files second.files);
-  };
-}
 
 -- ---- plays
 

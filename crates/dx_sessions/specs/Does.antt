@@ -1,7 +1,6 @@
 -- What a call did of what is to be shown: all of it, or as much as was done before it was cut short.
 use Rattle.std.specs.Prelude.{◌≡◌, ℕ, ◌≤◌, ℤ, length, List, [], ◌∷◌, ◌++◌, Option, Some, Result, Ok, Err, Bool, true}
 use Rattle.dx_ast.specs.declared.sequencing.FrameVar.{FrameVar}
-use Rattle.dx_ast.specs.Syntax.{Stmt, Assigns}
 use Rattle.dx_io.specs.declared.fails.SinkFail.{SinkFail}
 use Rattle.dx_io.specs.Devices.{FileMap as InputFiles, Grows, GrowsInto}
 use Rattle.dx_objects.specs.Runs.{Ran}
@@ -17,12 +16,12 @@ use Rattle.dx_engine.specs.declared.state.State.{State}
 use Rattle.dx_shown.specs.Made.{Coursed}
 use Rattle.dx_shown.specs.Listed.{all_exports, all_tasks, any_error}
 use Rattle.dx_sequencer.specs.Sequencer.{is_refused}
-use Rattle.dx_shown.specs.Session.{Shown, FrameRange, Done, State as SessionState, with_assignment, set}
+use Rattle.dx_shown.specs.Session.{Shown, FrameRange, Done, State as SessionState, set}
 use Rattle.dx_making.specs.Ends.{reads_ahead}
 use Rattle.dx_making.specs.declared.end.End.{End}
 use Rattle.dx_telling.specs.Shown.{shown_texts}
 use Rattle.dx_telling.specs.declared.listings.Listings.{Listings}
-use Rattle.dx_sessions.specs.Ended.{is_error}
+use Rattle.dx_sessions.specs.Ended.{erred_of}
 use Rattle.dx_sessions.specs.Left.{IsLeft}
 use Rattle.dx_sessions.specs.Places.{here}
 use Rattle.dx_sessions.specs.SessionView.{state_of}
@@ -81,8 +80,7 @@ DoesSo x listings places done was (Err end) new now = IsCutAt (reads_ahead end) 
 
 -- the same of an execution
 abbrev pub ShowsSo : Fixed → Listings → SessionState Kept → Done Kept Coursed → Devices → Result Ended End → Session → Devices → Type 0
-ShowsSo x listings old done was (Ok ended) new now = IsDone x listings done was (is_error ended) new now
-ShowsSo x listings old done was (Err end) new now = IsCutAt (reads_ahead end) x listings (here old) done.shown was new now
+ShowsSo x listings old done was ended new now = DoesSo x listings (here old) done was (erred_of ended) new now
 
 -- macros, definitions, the sequencer and the sequence call are as before
 pub record OthersStay (old new : Session) : Type 0 where
@@ -90,11 +88,6 @@ pub record OthersStay (old new : Session) : Type 0 where
   pub sequencer : new.sequencer ≡ old.sequencer
   pub sequence : new.sequence ≡ old.sequence
   pub listings : new.listings ≡ old.listings
-
--- where an assignment has joined
-abbrev pub joining : Stmt → SessionState Kept → SessionState Kept
-joining (Assigns targets e) st = with_assignment targets e st
-joining other st = st
 
 abbrev pub set_done : FrameVar → ℤ → Session → Done Kept Coursed
 set_done v n old = set v n (state_of old)

@@ -2,7 +2,9 @@ pub mod Sequence
 pub mod SessionView
 pub mod Places
 pub mod Left
+pub mod Keeping
 pub mod Does
 pub mod Ended
 pub mod Executes
+pub mod Joining
 pub mod Switches

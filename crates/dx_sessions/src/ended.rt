@@ -1,12 +1,12 @@
 //! How an execution ended.
 ghost use Rattle.std.specs.Prelude.{◌≡◌, is_some};
 ghost use Rattle.dx_making.specs.Failing.{is_faulty as is_fault};
-ghost use Rattle.dx_sessions.specs.Ended.{is_error, is_faulty};
+ghost use Rattle.dx_sessions.specs.Ended.{erred_of, is_error, is_faulty};
 
-use dx_making::Failing;
+use dx_making::{End, Failing};
 
 /// How an execution ended that wasn't cut short.
-#[derive(Clone, Copy, Debug, PartialEq, Eq)]
+#[derive(Clone, Copy)]
 pub(crate) enum Ended {
     /// Each of its effects was performed.
     Whole,
@@ -47,5 +47,15 @@ pub(crate) fn how(failing: &Option<Failing>) -> Ended
         None => Ended::Whole,
         Some(Failing::Refused(_, _)) => Ended::Refused,
         Some(Failing::Faulty(_, _)) => Ended::Faulty,
+    }
+}
+
+/// Whether an error line was due, where the execution wasn't cut short.
+pub(crate) fn erred(ended: Result<Ended, End>) -> Result<bool, End>
+    ensures { result ≡ erred_of ended }
+{
+    match ended {
+        Ok(ended) => Ok(ended.is_error()),
+        Err(end) => Err(end),
     }
 }

@@ -1,21 +1,19 @@
 //! One execution: what its effects do, and what is told behind it.
 ghost use Rattle.std.specs.Prelude.{◌≡◌, IfOk, is_some};
-ghost use Rattle.dx_io.specs.Devices.{Cause, WriteCause, Writes};
+ghost use Rattle.dx_io.specs.Devices.{WriteCause, Writes};
 ghost use Rattle.dx_ast.specs.Lawful.{IsLawful};
 ghost use Rattle.dx_ast.specs.Plain.{plain_stmt};
 ghost use Rattle.dx_macros.specs.DictionaryView.{dictionary_of};
 ghost use Rattle.dx_macros.specs.Walk.{first_fault};
-ghost use Rattle.dx_engine.specs.Ending.{HasPut};
 ghost use Rattle.dx_engine.specs.Keeping.{StateFits, kept_of};
 ghost use Rattle.dx_shown.specs.Made.{Coursed, coursed};
 ghost use Rattle.dx_shown.specs.Session as spec;
-ghost use Rattle.dx_making.specs.declared.end.End.TheVariants.{ReadFault, WriteFault, ExportFault};
 ghost use Rattle.dx_telling.specs.Shown.{behind_of};
 ghost use Rattle.dx_telling.specs.Tells.{Tells};
-ghost use Rattle.dx_sessions.specs.Places.{here};
-ghost use Rattle.dx_sessions.specs.Does.{OthersStay, OverSound, DoesSo, ShowsSo, devices};
+ghost use Rattle.dx_sessions.specs.Does.{OthersStay, OverSound, ShowsSo, devices};
 ghost use Rattle.dx_sessions.specs.Ended.{is_faulty};
 ghost use Rattle.dx_sessions.specs.Executes.{ExecutesSo};
+ghost use Rattle.dx_sessions.specs.Keeping.{Keeps, counts};
 
 use crate::ended::{Ended, how};
 use crate::session::Session;
@@ -43,19 +41,16 @@ pub(crate) fn execute<F: Files, X: Exports, O: Sink, L: Library>(
 ) -> Result<Ended, End>
     requires lawful { IsLawful (plain_stmt s.now) }
     requires fits { StateFits state.old }
-    ensures same { F.content files.new ≡ F.content files.old }
-    ensures read_cause { Cause ReadFault (F.faults files.old) (F.faults files.new) result }
-    ensures write_cause { Cause WriteFault (O.faults out.old) (O.faults out.new) result }
-    ensures export_cause { Cause ExportFault (X.faults exports.old) (X.faults exports.new) result }
+    ensures keeps { Keeps state.old state.new (counts (F.content files.old) (F.faults files.old) (O.faults out.old) (X.faults exports.old) (X.puts exports.old)) (counts (F.content files.new) (F.faults files.new) (O.faults out.new) (X.faults exports.new) (X.puts exports.new)) result }
     ensures faulty { IfOk result (λ ended. is_faulty ended ≡ is_some (first_fault (dictionary_of d.now) (plain_stmt s.now))) }
-    ensures fits { StateFits state.new }
-    ensures written { HasPut (X.puts exports.old) (X.puts exports.new) state.old.written.files state.new.written.files }
     ensures executes { OverSound L.answer (F.content files.old) state.old (λ x. ExecutesSo x listings (kept_of state.old) (coursed x (dictionary_of d.now) frames.now (plain_stmt s.now) (kept_of state.old)) (devices (L.done lib.old) (F.asked files.old) (O.written out.old) (X.puts exports.old)) result state.new (devices (L.done lib.new) (F.asked files.new) (O.written out.new) (X.puts exports.new))) }
 {
-    let failing = make(alloc, d, frames, s, state, files, exports, out, lib)?;
-    match tell_behind(alloc, listings, &failing, state, out) {
-        Ok(()) => Ok(how(&failing)),
-        Err(fail) => Err(End::from(fail)),
+    match make(alloc, d, frames, s, state, files, exports, out, lib) {
+        Ok(failing) => match tell_behind(alloc, listings, &failing, state, out) {
+            Ok(()) => Ok(how(&failing)),
+            Err(fail) => Err(End::from(fail)),
+        },
+        Err(end) => Err(end),
     }
 }
 
@@ -97,14 +92,9 @@ impl Session {
     ) -> Result<Ended, End>
         requires lawful { IsLawful (plain_stmt s.now) }
         requires fits { StateFits self.old.state }
-        ensures same { F.content files.new ≡ F.content files.old }
+        ensures keeps { Keeps self.old.state self.new.state (counts (F.content files.old) (F.faults files.old) (O.faults out.old) (X.faults exports.old) (X.puts exports.old)) (counts (F.content files.new) (F.faults files.new) (O.faults out.new) (X.faults exports.new) (X.puts exports.new)) result }
         ensures others { OthersStay self.old self.new }
-        ensures read_cause { Cause ReadFault (F.faults files.old) (F.faults files.new) result }
-        ensures write_cause { Cause WriteFault (O.faults out.old) (O.faults out.new) result }
-        ensures export_cause { Cause ExportFault (X.faults exports.old) (X.faults exports.new) result }
         ensures faulty { IfOk result (λ ended. is_faulty ended ≡ is_some (first_fault (dictionary_of self.old.dictionary) (plain_stmt s.now))) }
-        ensures fits { StateFits self.new.state }
-        ensures written { HasPut (X.puts exports.old) (X.puts exports.new) self.old.state.written.files self.new.state.written.files }
         ensures does { OverSound L.answer (F.content files.old) self.old.state (λ x. ShowsSo x self.old.listings (state_of self.old) (spec.executed (coursed x) (state_of self.old) (plain_stmt s.now)) (devices (L.done lib.old) (F.asked files.old) (O.written out.old) (X.puts exports.old)) result self.new (devices (L.done lib.new) (F.asked files.new) (O.written out.new) (X.puts exports.new))) }
     {
         let frames = self.sequencer.frames();
@@ -120,33 +110,5 @@ impl Session {
             out,
             lib,
         )
-    }
-
-    /// Executes a statement, and answers whether an error line was due.
-    pub(crate) fn execute_call<F: Files, X: Exports, O: Sink, L: Library>(
-        &mut self,
-        alloc: Global,
-        s: Stmt,
-        files: &mut F,
-        exports: &mut X,
-        out: &mut O,
-        lib: &mut L,
-    ) -> Result<bool, End>
-        requires lawful { IsLawful (plain_stmt s) }
-        requires fits { StateFits self.old.state }
-        ensures same { F.content files.new ≡ F.content files.old }
-        ensures listings { self.new.listings ≡ self.old.listings }
-        ensures read_cause { Cause ReadFault (F.faults files.old) (F.faults files.new) result }
-        ensures write_cause { Cause WriteFault (O.faults out.old) (O.faults out.new) result }
-        ensures export_cause { Cause ExportFault (X.faults exports.old) (X.faults exports.new) result }
-        ensures fits { StateFits self.new.state }
-        ensures others { OthersStay self.old self.new }
-        ensures written { HasPut (X.puts exports.old) (X.puts exports.new) self.old.state.written.files self.new.state.written.files }
-        ensures does { OverSound L.answer (F.content files.old) self.old.state (λ x. DoesSo x self.old.listings (here (state_of self.old)) (spec.executed (coursed x) (state_of self.old) (plain_stmt s)) (devices (L.done lib.old) (F.asked files.old) (O.written out.old) (X.puts exports.old)) result self.new (devices (L.done lib.new) (F.asked files.new) (O.written out.new) (X.puts exports.new))) }
-    {
-        match self.execute(alloc, &s, files, exports, out, lib) {
-            Ok(ended) => Ok(ended.is_error()),
-            Err(end) => Err(end),
-        }
     }
 }

@@ -10,6 +10,7 @@ ghost use Rattle.dx_shown.specs.Made.{coursed};
 ghost use Rattle.dx_shown.specs.Session.{initial, statements as statements_of};
 ghost use Rattle.dx_making.specs.declared.end.End.TheVariants.{ReadFault, WriteFault, ExportFault};
 ghost use Rattle.dx_sessions.specs.Does.{OverSound, PerformsSo, devices};
+ghost use Rattle.dx_sessions.specs.Keeping.{Keeps, counts};
 
 use crate::session::Session;
 use dx_ast::Stmts;
@@ -64,10 +65,7 @@ impl Session {
     ) -> Result<bool, End>
         requires lawful { AreLawful (plain_stmts statements) }
         requires fits { StateFits self.old.state }
-        ensures same { F.content files.new ≡ F.content files.old }
-        ensures read_cause { Cause ReadFault (F.faults files.old) (F.faults files.new) result }
-        ensures write_cause { Cause WriteFault (O.faults out.old) (O.faults out.new) result }
-        ensures export_cause { Cause ExportFault (X.faults exports.old) (X.faults exports.new) result }
+        ensures keeps { Keeps self.old.state self.new.state (counts (F.content files.old) (F.faults files.old) (O.faults out.old) (X.faults exports.old) (X.puts exports.old)) (counts (F.content files.new) (F.faults files.new) (O.faults out.new) (X.faults exports.new) (X.puts exports.new)) result }
         ensures performs { OverSound L.answer (F.content files.old) self.old.state (λ x. PerformsSo self.old.listings (statements_of (coursed x) (state_of self.old) (plain_stmts statements)).shown (devices (L.done lib.old) (F.asked files.old) (O.written out.old) (X.puts exports.old)) result (devices (L.done lib.new) (F.asked files.new) (O.written out.new) (X.puts exports.new))) }
     {
         let mut erred = false;

@@ -1,24 +1,23 @@
 //! The words of the sequencer: steps and plays, which execute the sequence call, and the others.
 ghost use Rattle.std.specs.Prelude.{◌≡◌, ◌<◌, ℕ, suc, OnErr};
-ghost use Rattle.dx_io.specs.Devices.{Cause};
-ghost use Rattle.dx_engine.specs.Ending.{HasPut};
 ghost use Rattle.dx_engine.specs.Keeping.{StateFits};
 ghost use Rattle.dx_shown.specs.Made.{coursed};
 ghost use Rattle.dx_shown.specs.Session as spec;
-ghost use Rattle.dx_making.specs.declared.end.End.TheVariants.{ReadFault, WriteFault, ExportFault};
 ghost use Rattle.dx_sequencer.specs.Sequencer as seq;
 ghost use Rattle.dx_sessions.specs.Left.{LeavesPlay, LeavesWord, Stays, after_steps};
 ghost use Rattle.dx_sessions.specs.Places.{IsAmongSteps, here, in_play, in_word, moved};
 ghost use Rattle.dx_sessions.specs.Does.{DoesSo, OthersStay, OverSound, devices};
+ghost use Rattle.dx_sessions.specs.Keeping.{Keeps, counts};
 ghost use Rattle.dx_sessions.specs.Switches.{Switches};
 
+use crate::ended::erred;
 use crate::executing::execute;
 use crate::session::Session;
 use dx_ast::Word;
 use dx_io::{Exports, Files, Sink, write_all};
 use dx_making::End;
 use dx_objects::Library;
-use dx_sequencer::Step;
+use dx_sequencer::{Sequencer, Step};
 use dx_telling::play_too_long;
 use std::alloc::Global;
 
@@ -36,43 +35,19 @@ impl Session {
         lib: &mut L,
     ) -> Result<bool, End>
         requires fits { StateFits self.old.state }
-        ensures same { F.content files.new ≡ F.content files.old }
+        ensures keeps { Keeps self.old.state self.new.state (counts (F.content files.old) (F.faults files.old) (O.faults out.old) (X.faults exports.old) (X.puts exports.old)) (counts (F.content files.new) (F.faults files.new) (O.faults out.new) (X.faults exports.new) (X.puts exports.new)) result }
         ensures listings { self.new.listings ≡ self.old.listings }
-        ensures read_cause { Cause ReadFault (F.faults files.old) (F.faults files.new) result }
-        ensures write_cause { Cause WriteFault (O.faults out.old) (O.faults out.new) result }
-        ensures export_cause { Cause ExportFault (X.faults exports.old) (X.faults exports.new) result }
-        ensures fits { StateFits self.new.state }
         ensures stays { Stays (state_of self.old) (state_of self.new) }
         ensures moved { OnErr result (LeavesWord w self.old.sequencer self.new.sequencer) }
-        ensures written { HasPut (X.puts exports.old) (X.puts exports.new) self.old.state.written.files self.new.state.written.files }
         ensures does { OverSound L.answer (F.content files.old) self.old.state (λ x. DoesSo x self.old.listings (in_word (coursed x) w (state_of self.old)) (spec.told (coursed x) w (state_of self.old)) (devices (L.done lib.old) (F.asked files.old) (O.written out.old) (X.puts exports.old)) result self.new (devices (L.done lib.new) (F.asked files.new) (O.written out.new) (X.puts exports.new))) }
     {
         match w {
             Word::Play => self.play(alloc, files, exports, out, lib),
             Word::Step => self.step(alloc, files, exports, out, lib),
             _ => {
-                self.switch(w);
+                switch(&mut self.sequencer, w);
                 Ok(false)
             }
-        }
-    }
-
-    // Does what a word says that executes nothing.
-    fn switch(&mut self, w: Word)
-        ensures switches { Switches w (state_of self.old) (state_of self.new) }
-        ensures stays { Stays (state_of self.old) (state_of self.new) }
-        ensures state { self.new.state ≡ self.old.state }
-        ensures listings { self.new.listings ≡ self.old.listings }
-    {
-        match w {
-            Word::Play | Word::Step => {}
-            Word::Stop => self.sequencer.stop(),
-            Word::Forward => self.sequencer.forward(),
-            Word::Backward => self.sequencer.backward(),
-            Word::LoopOn => self.sequencer.set_loop(true),
-            Word::LoopOff => self.sequencer.set_loop(false),
-            Word::PalindromeOn => self.sequencer.set_palindrome(true),
-            Word::PalindromeOff => self.sequencer.set_palindrome(false),
         }
     }
 
@@ -86,15 +61,10 @@ impl Session {
         lib: &mut L,
     ) -> Result<bool, End>
         requires fits { StateFits self.old.state }
-        ensures same { F.content files.new ≡ F.content files.old }
+        ensures keeps { Keeps self.old.state self.new.state (counts (F.content files.old) (F.faults files.old) (O.faults out.old) (X.faults exports.old) (X.puts exports.old)) (counts (F.content files.new) (F.faults files.new) (O.faults out.new) (X.faults exports.new) (X.puts exports.new)) result }
         ensures listings { self.new.listings ≡ self.old.listings }
-        ensures read_cause { Cause ReadFault (F.faults files.old) (F.faults files.new) result }
-        ensures write_cause { Cause WriteFault (O.faults out.old) (O.faults out.new) result }
-        ensures export_cause { Cause ExportFault (X.faults exports.old) (X.faults exports.new) result }
-        ensures fits { StateFits self.new.state }
         ensures stays { Stays (state_of self.old) (state_of self.new) }
         ensures moved { self.new.sequencer ≡ seq.after_step self.old.sequencer }
-        ensures written { HasPut (X.puts exports.old) (X.puts exports.new) self.old.state.written.files self.new.state.written.files }
         ensures does { OverSound L.answer (F.content files.old) self.old.state (λ x. DoesSo x self.old.listings (here (moved (state_of self.old))) (spec.stepped (coursed x) (state_of self.old)) (devices (L.done lib.old) (F.asked files.old) (O.written out.old) (X.puts exports.old)) result self.new (devices (L.done lib.new) (F.asked files.new) (O.written out.new) (X.puts exports.new))) }
     {
         match self.sequencer.step() {
@@ -113,20 +83,15 @@ impl Session {
         lib: &mut L,
     ) -> Result<bool, End>
         requires fits { StateFits self.old.state }
-        ensures same { F.content files.new ≡ F.content files.old }
+        ensures keeps { Keeps self.old.state self.new.state (counts (F.content files.old) (F.faults files.old) (O.faults out.old) (X.faults exports.old) (X.puts exports.old)) (counts (F.content files.new) (F.faults files.new) (O.faults out.new) (X.faults exports.new) (X.puts exports.new)) result }
         ensures listings { self.new.listings ≡ self.old.listings }
-        ensures read_cause { Cause ReadFault (F.faults files.old) (F.faults files.new) result }
-        ensures write_cause { Cause WriteFault (O.faults out.old) (O.faults out.new) result }
-        ensures export_cause { Cause ExportFault (X.faults exports.old) (X.faults exports.new) result }
-        ensures fits { StateFits self.new.state }
         ensures others { OthersStay self.old self.new }
-        ensures written { HasPut (X.puts exports.old) (X.puts exports.new) self.old.state.written.files self.new.state.written.files }
         ensures does { OverSound L.answer (F.content files.old) self.old.state (λ x. DoesSo x self.old.listings (here (state_of self.old)) (spec.sequence_executed (coursed x) (state_of self.old).sequence (state_of self.old)) (devices (L.done lib.old) (F.asked files.old) (O.written out.old) (X.puts exports.old)) result self.new (devices (L.done lib.new) (F.asked files.new) (O.written out.new) (X.puts exports.new))) }
     {
         let frames = self.sequencer.frames();
         match &self.sequence {
             None => Ok(false),
-            Some(s) => match execute(
+            Some(s) => erred(execute(
                 alloc,
                 &self.dictionary,
                 &frames,
@@ -137,10 +102,7 @@ impl Session {
                 exports,
                 out,
                 lib,
-            ) {
-                Ok(ended) => Ok(ended.is_error()),
-                Err(end) => Err(end),
-            },
+            )),
         }
     }
 
@@ -154,15 +116,10 @@ impl Session {
         lib: &mut L,
     ) -> Result<bool, End>
         requires fits { StateFits self.old.state }
-        ensures same { F.content files.new ≡ F.content files.old }
+        ensures keeps { Keeps self.old.state self.new.state (counts (F.content files.old) (F.faults files.old) (O.faults out.old) (X.faults exports.old) (X.puts exports.old)) (counts (F.content files.new) (F.faults files.new) (O.faults out.new) (X.faults exports.new) (X.puts exports.new)) result }
         ensures listings { self.new.listings ≡ self.old.listings }
-        ensures read_cause { Cause ReadFault (F.faults files.old) (F.faults files.new) result }
-        ensures write_cause { Cause WriteFault (O.faults out.old) (O.faults out.new) result }
-        ensures export_cause { Cause ExportFault (X.faults exports.old) (X.faults exports.new) result }
-        ensures fits { StateFits self.new.state }
         ensures stays { Stays (state_of self.old) (state_of self.new) }
         ensures moved { OnErr result (LeavesPlay self.old.sequencer self.new.sequencer) }
-        ensures written { HasPut (X.puts exports.old) (X.puts exports.new) self.old.state.written.files self.new.state.written.files }
         ensures does { OverSound L.answer (F.content files.old) self.old.state (λ x. DoesSo x self.old.listings (in_play (coursed x) (state_of self.old)) (spec.played (coursed x) (state_of self.old)) (devices (L.done lib.old) (F.asked files.old) (O.written out.old) (X.puts exports.old)) result self.new (devices (L.done lib.new) (F.asked files.new) (O.written out.new) (X.puts exports.new))) }
     {
         match self.sequencer.begin_play() {
@@ -185,15 +142,10 @@ impl Session {
         lib: &mut L,
     ) -> Result<bool, End>
         requires fits { StateFits self.old.state }
-        ensures same { F.content files.new ≡ F.content files.old }
+        ensures keeps { Keeps self.old.state self.new.state (counts (F.content files.old) (F.faults files.old) (O.faults out.old) (X.faults exports.old) (X.puts exports.old)) (counts (F.content files.new) (F.faults files.new) (O.faults out.new) (X.faults exports.new) (X.puts exports.new)) result }
         ensures listings { self.new.listings ≡ self.old.listings }
-        ensures read_cause { Cause ReadFault (F.faults files.old) (F.faults files.new) result }
-        ensures write_cause { Cause WriteFault (O.faults out.old) (O.faults out.new) result }
-        ensures export_cause { Cause ExportFault (X.faults exports.old) (X.faults exports.new) result }
-        ensures fits { StateFits self.new.state }
         ensures stays { Stays (state_of self.old) (state_of self.new) }
         ensures moved { OnErr result ((n : ℕ) × (n < steps) × (self.new.sequencer ≡ after_steps (suc n) self.old.sequencer)) }
-        ensures written { HasPut (X.puts exports.old) (X.puts exports.new) self.old.state.written.files self.new.state.written.files }
         ensures does { OverSound L.answer (F.content files.old) self.old.state (λ x. DoesSo x self.old.listings (IsAmongSteps (coursed x) steps (state_of self.old)) (spec.stepped_often (coursed x) steps (state_of self.old)) (devices (L.done lib.old) (F.asked files.old) (O.written out.old) (X.puts exports.old)) result self.new (devices (L.done lib.new) (F.asked files.new) (O.written out.new) (X.puts exports.new))) }
     {
         let mut erred = false;
@@ -201,5 +153,21 @@ impl Session {
             erred |= self.step(alloc, files, exports, out, lib)?;
         }
         Ok(erred)
+    }
+}
+
+// Does what a word says that executes nothing.
+fn switch(sequencer: &mut Sequencer, w: Word)
+    ensures { Switches w sequencer.old sequencer.new }
+{
+    match w {
+        Word::Play | Word::Step => {}
+        Word::Stop => sequencer.stop(),
+        Word::Forward => sequencer.forward(),
+        Word::Backward => sequencer.backward(),
+        Word::LoopOn => sequencer.set_loop(true),
+        Word::LoopOff => sequencer.set_loop(false),
+        Word::PalindromeOn => sequencer.set_palindrome(true),
+        Word::PalindromeOff => sequencer.set_palindrome(false),
     }
 }

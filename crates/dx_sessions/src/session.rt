@@ -30,10 +30,11 @@ impl Drop for Session {
         let Session {
             dictionary: _,
             sequencer: _,
-            sequence: _,
+            sequence,
             state: _,
             listings: _,
         } = self;
+        drop(sequence);
     }
 }
 

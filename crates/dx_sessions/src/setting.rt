@@ -7,12 +7,12 @@ ghost use Rattle.dx_shown.specs.Session as spec;
 use dx_ast::{Const, Expr, FrameVar, Frames};
 
 /// The number that a setting gives: an integer, or the number of a variable.
-pub(crate) fn setting(frames: &Frames, e: &Expr) -> i32
-    ensures { result ≡ spec.setting frames.now (plain_expr e.now) }
+pub(crate) fn setting(frames: &Frames, e: Expr) -> i32
+    ensures { result ≡ spec.setting frames.now (plain_expr e) }
 {
     match e {
-        Expr::Constant(c) => number_in(c),
-        Expr::Frame(v) => value_of(frames, *v),
+        Expr::Constant(c) => number_in(&c),
+        Expr::Frame(v) => value_of(frames, v),
         _ => 0,
     }
 }

@@ -1,8 +1,9 @@
 //! What each statement does.
 ghost use Rattle.std.specs.Prelude.{◌≡◌, OnErr};
 ghost use Rattle.dx_io.specs.Devices.{Cause, WriteCause};
-ghost use Rattle.dx_ast.specs.Lawful.{IsLawful};
-ghost use Rattle.dx_ast.specs.Plain.{plain_expr, plain_stmt};
+ghost use Rattle.dx_ast.specs.Lawful.{IsLawful, IsLawfulCall};
+ghost use Rattle.dx_ast.specs.Plain.{plain_call, plain_expr, plain_stmt};
+ghost use Rattle.dx_ast.specs.Syntax.{Sequences};
 ghost use Rattle.dx_sequencer.specs.Sequencer as seq;
 ghost use Rattle.dx_engine.specs.Ending.{HasPut};
 ghost use Rattle.dx_engine.specs.Keeping.{StateFits};
@@ -13,9 +14,10 @@ ghost use Rattle.dx_sessions.specs.Left.{LeavesSequencer, Stays};
 ghost use Rattle.dx_sessions.specs.Places.{in_statement};
 ghost use Rattle.dx_sessions.specs.Does.{DoesSo, OverSound, SetsSo, devices};
 
+use crate::ended::erred;
 use crate::session::Session;
 use crate::setting::setting;
-use dx_ast::{Expr, FrameVar, Stmt};
+use dx_ast::{Call, Expr, FrameVar, Stmt};
 use dx_io::{Exports, Files, Sink, SinkFail, write_all};
 use dx_making::End;
 use dx_objects::Library;
@@ -64,27 +66,32 @@ impl Session {
     {
         match s {
             Stmt::Assign(a) => self.assign(alloc, a, files, exports, out, lib),
-            Stmt::Call(c) => self.execute_call(alloc, Stmt::Call(c), files, exports, out, lib),
+            Stmt::Call(c) => {
+                let call = Stmt::Call(c);
+                let ended = self.execute(alloc, &call, files, exports, out, lib);
+                drop(call);
+                erred(ended)
+            }
             Stmt::Macro(m) => {
                 self.dictionary.define(m.into_inner())?;
                 Ok(false)
             }
             Stmt::Include(_) => Ok(false),
-            Stmt::SetFrame(v, e) => match self.set(v, &e, out) {
+            Stmt::SetFrame(v, e) => match self.set(v, e, out) {
                 Ok(refused) => Ok(refused),
                 Err(fail) => Err(End::from(fail)),
             },
             Stmt::Word(w) => self.tell(alloc, w, files, exports, out, lib),
             Stmt::Sequence(c) => {
-                self.sequence = Some(Stmt::Sequence(c));
+                self.set_sequence(c);
                 Ok(false)
             }
         }
     }
 
     // Sets a variable of the sequencer, or prints the line of a delta that is refused.
-    fn set<O: Sink>(&mut self, v: FrameVar, e: &Expr, out: &mut O) -> Result<bool, SinkFail>
-        ensures sets { SetsSo v (spec.setting (seq.frames_of self.old.sequencer) (plain_expr e.now)) self.old self.new (O.written out.old) (O.written out.new) result }
+    fn set<O: Sink>(&mut self, v: FrameVar, e: Expr, out: &mut O) -> Result<bool, SinkFail>
+        ensures sets { SetsSo v (spec.setting (seq.frames_of self.old.sequencer) (plain_expr e)) self.old self.new (O.written out.old) (O.written out.new) result }
         ensures cause { WriteCause (O.faults out.old) (O.faults out.new) result }
     {
         let x = setting(&self.sequencer.frames(), e);
@@ -95,5 +102,15 @@ impl Session {
                 Ok(true)
             }
         }
+    }
+
+    // The call that each step executes from now on.
+    fn set_sequence(&mut self, c: Call)
+        requires { IsLawfulCall (plain_call c) }
+        ensures sequence { state_of self.new ≡ spec.with_sequence (Sequences (plain_call c)) (state_of self.old) }
+        ensures state { self.new.state ≡ self.old.state }
+        ensures listings { self.new.listings ≡ self.old.listings }
+    {
+        self.sequence = Some(Stmt::Sequence(c));
     }
 }

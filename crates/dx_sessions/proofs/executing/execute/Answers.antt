@@ -1,5 +1,4 @@
 use Rattle.std.proofs.Common.{Ok, Err, refl}
-use Rattle.std.proofs.lemmas.Result.{err_from_is_err_and}
 use Rattle.dx_ast.specs.Plain.{plain_stmt}
 use Rattle.dx_macros.specs.DictionaryView.{dictionary_of}
 use Rattle.dx_performing.specs.Course.{Fixed}
@@ -11,17 +10,26 @@ use Rattle.dx_sessions.specs.Does.{devices}
 use Rattle.dx_sessions.proofs.Executions.{over_from, made_whole, behind_kept, cut_telling, cut_in}
 use Rattle.dx_sessions.proofs.executing.execute.Goals as goal
 
-pub returns-in_err-failing-clause-executes : goal.returns-in_err-failing-clause-executes
-returns-in_err-failing-clause-executes g c = λ x answers files sound.
+pub returns-clause-executes : goal.returns-clause-executes
+returns-clause-executes g c = λ x answers files sound.
     let was = devices (g.L.Library.done c.args.lib.now) (g.F.Files.asked c.args.files.now) (g.O.Sink.written c.args.out.now) (g.X.Exports.puts c.args.exports.now) in
     let now = devices (g.L.Library.done c.make.new.lib) (g.F.Files.asked c.make.new.files) (g.O.Sink.written c.make.new.out) (g.X.Exports.puts c.make.new.exports) in
-    let p = err_from_is_err_and c.from_residual.result c.from_residual.ensures.1 in
-    rw (p.1, p.2)
-    (cut_in x c.args.listings c.args.state.now c.make.new.state (coursed x (dictionary_of c.args.d.now) c.args.frames.now (plain_stmt c.args.s.now) (kept_of c.args.state.now)) was now c.in_err-failing.field-0.0
-    c.in_err-failing.ensures.links
+    cut_in x c.args.listings c.args.state.now c.make.new.state (coursed x (dictionary_of c.args.d.now) c.args.frames.now (plain_stmt c.args.s.now) (kept_of c.args.state.now)) was now c.in-Err.end
+    c.in-Err.ensures.links
     (over_from g.L.Library.answer (g.F.Files.content c.args.files.now) c.args.state.now (λ (y : Fixed). IsSoundState y c.make.new.state) c.make.ensures.sound x answers files sound)
-    (over_from g.L.Library.answer (g.F.Files.content c.args.files.now) c.args.state.now (λ (y : Fixed). MakesSo y c.args.state.now (coursed y (dictionary_of c.args.d.now) c.args.frames.now (plain_stmt c.args.s.now) (kept_of c.args.state.now)) was (Err c.in_err-failing.field-0.0) c.make.new.state now)
-    c.in_err-failing.ensures.makes x answers files sound))
+    (over_from g.L.Library.answer (g.F.Files.content c.args.files.now) c.args.state.now (λ (y : Fixed). MakesSo y c.args.state.now (coursed y (dictionary_of c.args.d.now) c.args.frames.now (plain_stmt c.args.s.now) (kept_of c.args.state.now)) was (Err c.in-Err.end) c.make.new.state now)
+    c.in-Err.ensures.makes x answers files sound)
+
+pub returns-in-Ok-tell_behind-clause-executes : goal.returns-in-Ok-tell_behind-clause-executes
+returns-in-Ok-tell_behind-clause-executes g c = λ x answers files sound.
+    let was = devices (g.L.Library.done c.args.lib.now) (g.F.Files.asked c.args.files.now) (g.O.Sink.written c.args.out.now) (g.X.Exports.puts c.args.exports.now) in
+    let mid = devices (g.L.Library.done c.make.new.lib) (g.F.Files.asked c.make.new.files) (g.O.Sink.written c.make.new.out) (g.X.Exports.puts c.make.new.exports) in
+    let now = devices (g.L.Library.done c.make.new.lib) (g.F.Files.asked c.make.new.files) (g.O.Sink.written c.tell_behind.new.out) (g.X.Exports.puts c.make.new.exports) in
+    let made = coursed x (dictionary_of c.args.d.now) c.args.frames.now (plain_stmt c.args.s.now) (kept_of c.args.state.now) in
+    let m = over_from g.L.Library.answer (g.F.Files.content c.args.files.now) c.args.state.now (λ (y : Fixed). MakesSo y c.args.state.now (coursed y (dictionary_of c.args.d.now) c.args.frames.now (plain_stmt c.args.s.now) (kept_of c.args.state.now)) was (Ok c.in-Ok.failing) c.make.new.state mid)
+    c.in-Ok.ensures.makes x answers files sound in
+    made_whole x c.args.listings c.args.state.now c.make.new.state made was mid now c.in-Ok.failing c.how.result m
+    (c.in-Ok-tell_behind.ensures.tells made.0 (made_tells x (dictionary_of c.args.d.now) c.args.frames.now (plain_stmt c.args.s.now) c.args.state.now c.make.new.state was mid c.in-Ok.failing m)) refl refl c.how.ensures.error
 
 pub returns-in-Ok-clause-executes : goal.returns-in-Ok-clause-executes
 returns-in-Ok-clause-executes g c = λ x answers files sound.
@@ -29,18 +37,7 @@ returns-in-Ok-clause-executes g c = λ x answers files sound.
     let mid = devices (g.L.Library.done c.make.new.lib) (g.F.Files.asked c.make.new.files) (g.O.Sink.written c.make.new.out) (g.X.Exports.puts c.make.new.exports) in
     let now = devices (g.L.Library.done c.make.new.lib) (g.F.Files.asked c.make.new.files) (g.O.Sink.written c.tell_behind.new.out) (g.X.Exports.puts c.make.new.exports) in
     let made = coursed x (dictionary_of c.args.d.now) c.args.frames.now (plain_stmt c.args.s.now) (kept_of c.args.state.now) in
-    let m = over_from g.L.Library.answer (g.F.Files.content c.args.files.now) c.args.state.now (λ (y : Fixed). MakesSo y c.args.state.now (coursed y (dictionary_of c.args.d.now) c.args.frames.now (plain_stmt c.args.s.now) (kept_of c.args.state.now)) was (Ok c.in_ok-failing.failing) c.make.new.state mid)
-    c.in_ok-failing.ensures.makes x answers files sound in
-    made_whole x c.args.listings c.args.state.now c.make.new.state made was mid now c.in_ok-failing.failing c.how.result m
-    (c.in-Ok.ensures.tells made.0 (made_tells x (dictionary_of c.args.d.now) c.args.frames.now (plain_stmt c.args.s.now) c.args.state.now c.make.new.state was mid c.in_ok-failing.failing m)) refl refl c.how.ensures.error
-
-pub returns-clause-executes : goal.returns-clause-executes
-returns-clause-executes g c = λ x answers files sound.
-    let was = devices (g.L.Library.done c.args.lib.now) (g.F.Files.asked c.args.files.now) (g.O.Sink.written c.args.out.now) (g.X.Exports.puts c.args.exports.now) in
-    let mid = devices (g.L.Library.done c.make.new.lib) (g.F.Files.asked c.make.new.files) (g.O.Sink.written c.make.new.out) (g.X.Exports.puts c.make.new.exports) in
-    let now = devices (g.L.Library.done c.make.new.lib) (g.F.Files.asked c.make.new.files) (g.O.Sink.written c.tell_behind.new.out) (g.X.Exports.puts c.make.new.exports) in
-    let made = coursed x (dictionary_of c.args.d.now) c.args.frames.now (plain_stmt c.args.s.now) (kept_of c.args.state.now) in
-    let m = over_from g.L.Library.answer (g.F.Files.content c.args.files.now) c.args.state.now (λ (y : Fixed). MakesSo y c.args.state.now (coursed y (dictionary_of c.args.d.now) c.args.frames.now (plain_stmt c.args.s.now) (kept_of c.args.state.now)) was (Ok c.in_ok-failing.failing) c.make.new.state mid)
-    c.in_ok-failing.ensures.makes x answers files sound in
-    cut_telling _ x c.args.listings c.args.state.now c.make.new.state made was mid now c.in_ok-failing.failing (behind_kept x (dictionary_of c.args.d.now) c.args.frames.now (plain_stmt c.args.s.now) (kept_of c.args.state.now)) m
-    (c.in-Err.ensures.tells made.0 (made_tells x (dictionary_of c.args.d.now) c.args.frames.now (plain_stmt c.args.s.now) c.args.state.now c.make.new.state was mid c.in_ok-failing.failing m)) refl refl
+    let m = over_from g.L.Library.answer (g.F.Files.content c.args.files.now) c.args.state.now (λ (y : Fixed). MakesSo y c.args.state.now (coursed y (dictionary_of c.args.d.now) c.args.frames.now (plain_stmt c.args.s.now) (kept_of c.args.state.now)) was (Ok c.in-Ok.failing) c.make.new.state mid)
+    c.in-Ok.ensures.makes x answers files sound in
+    cut_telling _ x c.args.listings c.args.state.now c.make.new.state made was mid now c.in-Ok.failing (behind_kept x (dictionary_of c.args.d.now) c.args.frames.now (plain_stmt c.args.s.now) (kept_of c.args.state.now)) m
+    (c.in-Err-tell_behind.ensures.tells made.0 (made_tells x (dictionary_of c.args.d.now) c.args.frames.now (plain_stmt c.args.s.now) c.args.state.now c.make.new.state was mid c.in-Ok.failing m)) refl refl

@@ -1,10 +1,11 @@
-use Rattle.std.proofs.Common.{◌∙◌, refl, ap, sym, subst, append-nil}
+use Rattle.std.proofs.Common.{◌∙◌, true, refl, ap, sym, subst, append-nil}
 use Rattle.dx_io.specs.Devices.{Grows, GrowsInto}
 use Rattle.dx_sequencer.specs.Sequencer as seq
 use Rattle.dx_shown.specs.Session.{with_sequencer}
 use Rattle.dx_telling.specs.Shown.{play_too_long}
 use Rattle.dx_sessions.specs.Does.{devices}
 use Rattle.dx_sessions.specs.SessionView.{state_of}
+use Rattle.dx_sessions.proofs.Keeping.{line_cut, line_kept}
 use Rattle.dx_sessions.proofs.Refusing.{long_done, long_cut, short_does}
 use Rattle.dx_sessions.proofs.session.Session.play.Goals as goal
 
@@ -16,6 +17,12 @@ returns-in-Ok-clause-does g c = λ x answers files sound.
     long_done x c.args.self.now.listings st _ was now c.in-None.ensures.refused (ap (λ (s : seq.State). with_sequencer s st) c.in-None.ensures.unchanged) sound
     (subst (Grows (g.O.Sink.written c.args.out.now) (g.O.Sink.written c.write_all.new.out)) (c.play_too_long.ensures ∙ sym (append-nil play_too_long)) c.in-Ok.ensures.writes)
     (record { told = refl; puts = refl })
+
+pub returns-in-Ok-clause-keeps : goal.returns-in-Ok-clause-keeps
+returns-in-Ok-clause-keeps g c = line_kept c.args.self.now.state _ (g.O.Sink.faults c.write_all.new.out) tt true c.requires.fits c.in-Ok.ensures.cause
+
+pub returns-in-Err-clause-keeps : goal.returns-in-Err-clause-keeps
+returns-in-Err-clause-keeps g c = line_cut c.args.self.now.state _ (g.O.Sink.faults c.write_all.new.out) c.in-Err.fail c.from.result c.requires.fits c.from.ensures c.in-Err.ensures.cause
 
 pub returns-in-Some-clause-does : goal.returns-in-Some-clause-does
 returns-in-Some-clause-does g c = λ x answers files sound.

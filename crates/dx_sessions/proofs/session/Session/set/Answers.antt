@@ -15,7 +15,7 @@ use Rattle.dx_sessions.proofs.session.Session.set.Goals as goal
 pub returns-in_ok-write_all-in-Err-clause-sets : goal.returns-in_ok-write_all-in-Err-clause-sets
 returns-in_ok-write_all-in-Err-clause-sets g c =
     let fits : FitsSigned w32 c.setting-x.result = search rules in
-    let number = to_z-of_z w32 c.setting-x.result fits ∙ c.setting-x.ensures ∙ ap (λ (f : Frames). setting f (plain_expr c.args.e.now)) c.frames.ensures in
+    let number = to_z-of_z w32 c.setting-x.result fits ∙ c.setting-x.ensures ∙ ap (λ (f : Frames). setting f (plain_expr c.args.e)) c.frames.ensures in
     let st = state_of c.args.self.now in
     let l = c.args.self.now.listings in
     let was = g.O.Sink.written c.args.out.now in

@@ -1,34 +1,41 @@
-use Rattle.std.proofs.Common.{refl, sym, ap, subst}
+use Rattle.std.proofs.Common.{Ok, false, refl, sym, ap, subst}
 use Rattle.std.proofs.lemmas.Result.{err_from_is_err_and}
 use Rattle.dx_ast.specs.declared.statements.Stmt.TheVariants as code
-use Rattle.dx_ast.specs.Syntax.{Stmt}
+use Rattle.dx_ast.specs.Syntax.{Stmt, Assigns, Says, Sequences}
 use Rattle.dx_ast.specs.Lawful.{IsLawful}
-use Rattle.dx_ast.specs.Plain.{plain_expr}
+use Rattle.dx_ast.specs.Plain.{plain_call, plain_expr, plain_stmt}
 use Rattle.dx_sequencer.specs.Sequencer.{frames_of}
 use Rattle.dx_shown.specs.Made.{coursed}
-use Rattle.dx_shown.specs.Session.{State, executed, setting, statement, with_dictionary}
+use Rattle.dx_shown.specs.Session.{State, setting, statement, with_dictionary, with_sequence}
 use Rattle.dx_macros.specs.Dictionary.{Dictionary}
+use Rattle.dx_engine.specs.Keeping.{IsSoundState}
+use Rattle.dx_engine.specs.declared.state.State.{State as EngineState}
 use Rattle.dx_making.specs.Ends.{reads_ahead}
-use Rattle.dx_sessions.specs.Does.{DoesSo, IsCutAt, devices}
-use Rattle.dx_sessions.specs.Places.{here, in_statement}
-use Rattle.dx_sessions.specs.Sequence.{IsSequenceCall}
+use Rattle.dx_sessions.specs.Does.{IsCutAt, devices}
+use Rattle.dx_sessions.specs.Places.{in_statement}
 use Rattle.dx_sessions.specs.SessionView.{state_of}
 use Rattle.std.specs.Prelude.{OnErr}
 use Rattle.dx_performing.specs.Kept.{Kept}
 use Rattle.dx_sessions.specs.Left.{LeavesSequencer}
-use Rattle.dx_sessions.proofs.Doing.{defining_cut, defining_stays}
-use Rattle.dx_sessions.proofs.Staying.{none_put_same, on_err_with, stays_by_others, stays_same}
+use Rattle.dx_sessions.proofs.Doing.{call_does, defining_cut, defining_stays, silently_done, statement_does}
+use Rattle.dx_sessions.proofs.Staying.{on_err_with, stays_by_others, stays_same}
 use Rattle.dx_sessions.proofs.Refusing.{set_cut_from}
 use Rattle.dx_sessions.proofs.Statements.{assign_is, call_is, macro_is, setting_is, word_is, sequence_is}
 use Rattle.dx_sessions.proofs.session.Session.statement.Goals as goal
 
+pub returns-in-Assign-clause-does : goal.returns-in-Assign-clause-does
+returns-in-Assign-clause-does g c = λ x answers files sound.
+    let was = devices (g.L.Library.done c.args.lib.now) (g.F.Files.asked c.args.files.now) (g.O.Sink.written c.args.out.now) (g.X.Exports.puts c.args.exports.now) in
+    let now = devices (g.L.Library.done c.assign.new.lib) (g.F.Files.asked c.assign.new.files) (g.O.Sink.written c.assign.new.out) (g.X.Exports.puts c.assign.new.exports) in
+    statement_does x c.args.self.now.listings (state_of c.args.self.now) (plain_stmt c.args.s) (Assigns c.in-Assign.a.targets (plain_expr c.in-Assign.a.value)) was now c.assign.result c.assign.new.self
+    (assign_is c.args.s c.in-Assign.a c.in-Assign.is) (c.assign.ensures.does x answers files sound)
+
 pub returns-in-Call-clause-does : goal.returns-in-Call-clause-does
 returns-in-Call-clause-does g c = λ x answers files sound.
     let was = devices (g.L.Library.done c.args.lib.now) (g.F.Files.asked c.args.files.now) (g.O.Sink.written c.args.out.now) (g.X.Exports.puts c.args.exports.now) in
-    let now = devices (g.L.Library.done c.execute_call.new.lib) (g.F.Files.asked c.execute_call.new.files) (g.O.Sink.written c.execute_call.new.out) (g.X.Exports.puts c.execute_call.new.exports) in
-    subst (λ (s : Stmt). DoesSo x c.args.self.now.listings (in_statement (coursed x) (state_of c.args.self.now) s) (statement (coursed x) (state_of c.args.self.now) s) was c.execute_call.result c.execute_call.new.self now) (sym (call_is c.args.s c.in-Call.c c.in-Call.is))
-    (subst (λ (s : Stmt). DoesSo x c.args.self.now.listings (here (state_of c.args.self.now)) (executed (coursed x) (state_of c.args.self.now) s) was c.execute_call.result c.execute_call.new.self now) (call_is (code.Call c.in-Call.c) c.in-Call.c refl)
-    (c.execute_call.ensures.does x answers files sound))
+    let now = devices (g.L.Library.done c.execute-ended.new.lib) (g.F.Files.asked c.execute-ended.new.files) (g.O.Sink.written c.execute-ended.new.out) (g.X.Exports.puts c.execute-ended.new.exports) in
+    call_does x c.args.self.now.listings (state_of c.args.self.now) (plain_stmt c.args.s) (plain_stmt (code.Call c.in-Call.c)) (plain_call c.in-Call.c) was now c.execute-ended.result c.erred.result c.execute-ended.new.self
+    (call_is c.args.s c.in-Call.c c.in-Call.is) (call_is (code.Call c.in-Call.c) c.in-Call.c refl) c.erred.ensures (c.execute-ended.ensures.does x answers files sound)
 
 pub returns-in_err-define-in-Macro-clause-does : goal.returns-in_err-define-in-Macro-clause-does
 returns-in_err-define-in-Macro-clause-does g c = λ x answers files sound.
@@ -50,7 +57,7 @@ pub returns-in-Word-clause-does : goal.returns-in-Word-clause-does
 returns-in-Word-clause-does g c = λ x answers files sound.
     let was = devices (g.L.Library.done c.args.lib.now) (g.F.Files.asked c.args.files.now) (g.O.Sink.written c.args.out.now) (g.X.Exports.puts c.args.exports.now) in
     let now = devices (g.L.Library.done c.tell.new.lib) (g.F.Files.asked c.tell.new.files) (g.O.Sink.written c.tell.new.out) (g.X.Exports.puts c.tell.new.exports) in
-    subst (λ (s : Stmt). DoesSo x c.args.self.now.listings (in_statement (coursed x) (state_of c.args.self.now) s) (statement (coursed x) (state_of c.args.self.now) s) was c.tell.result c.tell.new.self now) (sym (word_is c.args.s c.in-Word.w c.in-Word.is))
+    statement_does x c.args.self.now.listings (state_of c.args.self.now) (plain_stmt c.args.s) (Says c.in-Word.w) was now c.tell.result c.tell.new.self (word_is c.args.s c.in-Word.w c.in-Word.is)
     (c.tell.ensures.does x answers files sound)
 
 pub returns-in-Assign-clause-moved : goal.returns-in-Assign-clause-moved
@@ -59,10 +66,10 @@ returns-in-Assign-clause-moved g c =
 
 pub returns-in-Call-clause-moved : goal.returns-in-Call-clause-moved
 returns-in-Call-clause-moved g c =
-    on_err_with c.execute_call.result (subst (λ (t : Stmt). LeavesSequencer t c.args.self.now.sequencer c.execute_call.new.self.sequencer) (sym (call_is c.args.s c.in-Call.c c.in-Call.is)) c.execute_call.ensures.others.sequencer)
+    on_err_with c.erred.result (subst (λ (t : Stmt). LeavesSequencer t c.args.self.now.sequencer c.execute-ended.new.self.sequencer) (sym (call_is c.args.s c.in-Call.c c.in-Call.is)) c.execute-ended.ensures.others.sequencer)
 
 pub returns-in-Call-clause-stays : goal.returns-in-Call-clause-stays
-returns-in-Call-clause-stays g c = on_err_with c.execute_call.result (stays_by_others c.args.self.now c.execute_call.new.self c.execute_call.ensures.others)
+returns-in-Call-clause-stays g c = on_err_with c.erred.result (stays_by_others c.args.self.now c.execute-ended.new.self c.execute-ended.ensures.others)
 
 pub returns-in_err-define-in-Macro-clause-moved : goal.returns-in_err-define-in-Macro-clause-moved
 returns-in_err-define-in-Macro-clause-moved g c = on_err_with c.from_residual.result (defining_stays _ c.args.self.now.sequencer (macro_is c.args.s c.in-Macro.m c.in-Macro.is))
@@ -74,9 +81,6 @@ returns-in-SetFrame-clause-moved g c =
 pub returns-in-SetFrame-clause-stays : goal.returns-in-SetFrame-clause-stays
 returns-in-SetFrame-clause-stays g c = stays_same (state_of c.args.self.now) (state_of c.set.new.self) c.in-Err.ensures.sets.3
 
-pub returns-in-SetFrame-clause-written : goal.returns-in-SetFrame-clause-written
-returns-in-SetFrame-clause-written g c = none_put_same (g.X.Exports.puts c.args.exports.now) c.args.self.now.state c.set.new.self.state c.in-Err.ensures.sets.1
-
 pub returns-in-Word-clause-moved : goal.returns-in-Word-clause-moved
 returns-in-Word-clause-moved g c =
     subst (λ (t : Stmt). OnErr c.tell.result (LeavesSequencer t c.args.self.now.sequencer c.tell.new.self.sequencer)) (sym (word_is c.args.s c.in-Word.w c.in-Word.is)) c.tell.ensures.moved
@@ -84,6 +88,13 @@ returns-in-Word-clause-moved g c =
 pub returns-in-Word-clause-stays : goal.returns-in-Word-clause-stays
 returns-in-Word-clause-stays g c = on_err_with c.tell.result c.tell.ensures.stays
 
-pub invariant_of-self-in-Sequence : goal.invariant_of-self-in-Sequence
-invariant_of-self-in-Sequence g c =
-    record { lawful = ∣ subst IsSequenceCall (sym (sequence_is (code.Sequence c.in-Sequence.c) c.in-Sequence.c refl)) (subst IsLawful (sequence_is c.args.s c.in-Sequence.c c.in-Sequence.is) c.requires.lawful) ∣₁ }
+pub set_sequence-requires : goal.set_sequence-requires
+set_sequence-requires g c = subst IsLawful (sequence_is c.args.s c.in-Sequence.c c.in-Sequence.is) c.requires.lawful
+
+pub returns-clause-does : goal.returns-clause-does
+returns-clause-does g c = λ x answers files sound.
+    let st = state_of c.args.self.now in
+    let was = devices (g.L.Library.done c.args.lib.now) (g.F.Files.asked c.args.files.now) (g.O.Sink.written c.args.out.now) (g.X.Exports.puts c.args.exports.now) in
+    let call = Sequences (plain_call c.in-Sequence.c) in
+    statement_does x c.args.self.now.listings st (plain_stmt c.args.s) call was was (Ok false) c.set_sequence.new.self (sequence_is c.args.s c.in-Sequence.c c.in-Sequence.is)
+    (silently_done x c.args.self.now.listings (with_sequence call st) c.set_sequence.new.self was c.set_sequence.ensures.sequence (subst (λ (s : EngineState). IsSoundState x s) (sym c.set_sequence.ensures.state) sound))
