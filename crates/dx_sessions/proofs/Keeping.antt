@@ -37,8 +37,33 @@ IsNoFault (Err WriteFault) = ⊥
 IsNoFault (Err ExportFault) = ⊥
 IsNoFault (Err Memory) = Unit {0}
 
+abbrev IsNoError : {T : Type 0} → Result T End → Type 0
+IsNoError (Ok v) = Unit {0}
+IsNoError (Err e) = ⊥
+
 later_cause : {T : Type 0} (fault : End) (a b : ℕ) (r : Result T End) → (r ≡ Err fault → ⊥) → a ≤ b → Cause fault a b r
 later_cause fault a b r not later = record { later = later; failed = λ e. absurd (not e) }
+
+-- what ends well had no fault
+pub ok_cause : {T : Type 0} (fault : End) (a b : ℕ) (v : T) → a ≤ b → Cause fault a b (Ok v)
+ok_cause fault a b v later = later_cause fault a b (Ok v) (λ e. subst IsNoError e tt) later
+
+pub no_cause : {T : Type 0} (fault : End) (n : ℕ) (v : T) → Cause fault n n (Ok v)
+no_cause fault n v = ok_cause fault n n v (omega arith)
+
+abbrev pub error_or : {T : Type 0} → End → Result T End → End
+error_or end (Ok v) = end
+error_or end (Err e) = e
+
+-- want of memory is none
+abbrev IsFault : End → Type 0
+IsFault ReadFault = Unit {0}
+IsFault WriteFault = Unit {0}
+IsFault ExportFault = Unit {0}
+IsFault Memory = ⊥
+
+pub memory_cause : {T : Type 0} (fault : End) (n : ℕ) → IsFault fault → Cause {T = T} fault n n (Err Memory)
+memory_cause {T} fault n is = later_cause fault n n (Err Memory) (λ e. subst IsFault (sym (ap (λ (r : Result T End). error_or fault r) e)) is) (omega arith)
 
 cause_as : {S T : Type 0} (fault : End) (a b : ℕ) (r : Result S End) (other : Result T End) → (other ≡ Err fault → r ≡ Err fault) → Cause fault a b r → Cause fault a b other
 cause_as fault a b r other same cause = record { later = cause.later; failed = λ e. cause.failed (same e) }
@@ -100,10 +125,6 @@ keeps_as a b was now r other same h = record {
   written = h.written;
 }
 
-abbrev pub error_or : {T : Type 0} → End → Result T End → End
-error_or end (Ok v) = end
-error_or end (Err e) = e
-
 abbrev IsErr : {T : Type 0} → Result T End → Type 0
 IsErr (Ok v) = ⊥
 IsErr (Err e) = Unit {0}
@@ -126,6 +147,10 @@ keeps_erred_of a b was now (Err end) h = keeps_as a b was now (Err end) (Err end
 
 pub keeps_erred : (a b : State) (was now : Counts) (ended : Result Ended End) (erred : Result Bool End) → erred ≡ erred_of ended → Keeps a b was now ended → Keeps a b was now erred
 keeps_erred a b was now ended erred same h = subst (λ (r : Result Bool End). Keeps a b was now r) (sym same) (keeps_erred_of a b was now ended h)
+
+-- with a state that is the same
+pub keeps_same : {T : Type 0} (a b c : State) (was now : Counts) (r : Result T End) → c ≡ b → Keeps a b was now r → Keeps a c was now r
+keeps_same a b c was now r same h = subst (λ (s : State). Keeps a s was now r) (sym same) h
 
 -- a text was written, or that was cut short
 pub line_kept : {S T : Type 0} (st : State) (was : Counts) (writes : ℕ) (u : S) (v : T) → StateFits st → WriteCause was.writes writes (Ok u)

@@ -77,6 +77,7 @@ impl Session {
 }
 
 // Puts an assignment that was executed behind the definitions, unless it has a static fault. That takes no memory, since room was made.
+// (A statement that isn't needed any more is dropped by a call, so that it isn't proved here again how each kind of them is dropped.)
 fn join(dictionary: &mut CheckedDictionary, s: Stmt, ended: Result<Ended, End>) -> Result<bool, End>
     requires lawful { IsLawful (plain_stmt s) }
     requires room { 0 < room_of dictionary.old }

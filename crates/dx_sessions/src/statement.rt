@@ -69,6 +69,7 @@ impl Session {
             Stmt::Call(c) => {
                 let call = Stmt::Call(c);
                 let ended = self.execute(alloc, &call, files, exports, out, lib);
+                // (by a call, so that it isn't proved here how each kind of statement is dropped)
                 drop(call);
                 erred(ended)
             }
