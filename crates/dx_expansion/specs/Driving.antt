@@ -1,5 +1,6 @@
 -- The texts of the top level, and what an expansion remembers of them.
 use Rattle.std.specs.Prelude.{◌≡◌, ℕ, List, [], Option, Some, None, length, slice_set}
+use Rattle.dx_ast.specs.Limits.{max_macro_steps}
 use Rattle.dx_macros.specs.Site.{Spot}
 use Rattle.dx_macros.specs.Tree.{CallTree}
 use Rattle.dx_definitions.specs.TopTexts.{TopText}
@@ -14,11 +15,11 @@ use Rattle.dx_expansion.specs.declared.text.World.{World}
 -- ---- a text of the top level
 
 abbrev pub top_setting : World → ℕ → Spot → Setting
-top_setting w position spot = record { under = under_top 64 (dictionary_in w).macros w.frames (top_scope w position); spot = spot; scope = top_scope w position }
+top_setting w position spot = record { under = under_top max_macro_steps (dictionary_in w).macros w.frames (top_scope w position); spot = spot; scope = top_scope w position }
 
 -- what a text comes to at a position
 abbrev pub top_expanded : World → ℕ → TopText → Expanded
-top_expanded w position t = expand_within 64 (dictionary_in w).macros w.frames (top_scope w position) t
+top_expanded w position t = expand_within max_macro_steps (dictionary_in w).macros w.frames (top_scope w position) t
 
 abbrev pub effects_in : Option TopText → World → ℕ → List CallTree
 effects_in None w position = []

@@ -3,6 +3,7 @@ use Rattle.std.specs.Prelude.{◌≡◌, ℕ, suc, ◌<◌, List, [], ◌∷◌,
 use Rattle.std.specs.Str.{bytes_eq}
 use Rattle.dx_base.specs.NameTable.{under_name}
 use Rattle.dx_ast.specs.Classes.{Text as Name}
+use Rattle.dx_ast.specs.Limits.{max_macro_steps}
 use Rattle.dx_ast.specs.Syntax.{Expr, Call, Args, Stmt, Stmts}
 use Rattle.dx_base.specs.declared.function.Function.{Function}
 use Rattle.dx_base.specs.declared.function.Function.TheVariants as function
@@ -34,11 +35,11 @@ dictionary_in w = dictionary_of w.dictionary.now
 
 -- what a name means at a position
 unfoldable pub top_scope : World → ℕ → Scope
-top_scope w position = scope_within 64 (dictionary_in w).macros w.frames (dictionary_in w).definitions position
+top_scope w position = scope_within max_macro_steps (dictionary_in w).macros w.frames (dictionary_in w).definitions position
 
 -- the results of the definition at a position
 unfoldable pub top_results : World → ℕ → ℕ → Tree
-top_results w i = (expand_within 64 (dictionary_in w).macros w.frames (top_scope w i) (definition (dictionary_in w).definitions i)).result
+top_results w i = (expand_within max_macro_steps (dictionary_in w).macros w.frames (top_scope w i) (definition (dictionary_in w).definitions i)).result
 
 -- each definition that was expanded has its results
 abbrev pub Remembers : List Node → World → Type 0

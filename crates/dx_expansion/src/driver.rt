@@ -1,6 +1,7 @@
 //! The texts of the top level: a statement, and before it the definitions that it reads.
 ghost use Rattle.std.specs.Prelude.{◌≡◌, ◌<◌, ◌++◌, length, All, Some, None, IfOk, IfSome, OnOk, replicate};
 ghost use Rattle.dx_graph.specs.Sites.{IsLawfulSpot};
+ghost use Rattle.dx_ast.specs.Limits.{max_macro_steps};
 ghost use Rattle.dx_ast.specs.Lawful.{IsName, IsLawful, IsLawfulExpr, IsLawfulCall};
 ghost use Rattle.dx_ast.specs.Plain.{plain_expr, plain_call, plain_stmt};
 ghost use Rattle.dx_macros.specs.Checking.{Checks};
@@ -52,7 +53,7 @@ fn first_trail(
 /// A text of the top level at a position.
 fn text_at_top<'a>(w: &World<'a>, trail: Option<usize>, position: usize) -> Text<'a>
     ensures position { result.position ≡ position }
-    ensures ready { (g : Graph) → Remembers (graph_of g).nodes w.now → IsTrail (length (spots_in g)) trail → ∥ IsLawfulSpot 64 (spot_under (spots_in g) trail) ∥₁ → Ready w.now result g }
+    ensures ready { (g : Graph) → Remembers (graph_of g).nodes w.now → IsTrail (length (spots_in g)) trail → ∥ IsLawfulSpot max_macro_steps (spot_under (spots_in g) trail) ∥₁ → Ready w.now result g }
     ensures setting { (g : Graph) → setting w.now result g ≡ top_setting w.now position (spot_under (spots_in g) trail) }
     ensures walked { (t : TopText) → TopWalked w.now position t → ExprWalked w.now result t.value }
     ensures calls { (t : TopText) → expr_calls w.now result t.value ≡ count_text (dictionary_in w.now).macros t }

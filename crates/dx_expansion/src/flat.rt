@@ -1,5 +1,6 @@
 //! Calls over constants: where no argument has a call, and each name means a constant that is seen at once, nothing is walked.
 ghost use Rattle.std.specs.Prelude.{◌≡◌, [], List, None, Some, All, map, IfSome};
+ghost use Rattle.dx_ast.specs.Limits.{max_macro_steps};
 ghost use Rattle.dx_ast.specs.Lawful.{IsLawful, IsLawfulExpr, IsLawfulCall, AreLawfulArgs};
 ghost use Rattle.dx_ast.specs.Plain.{plain_expr, plain_call, plain_args, plain_stmt};
 ghost use Rattle.dx_expansion.specs.Flat.{IsFlat, AreFlat};
@@ -67,7 +68,7 @@ fn room_for_one(alloc: Global) -> Option<Graph>
 fn flat_call<'a>(alloc: Global, d: &'a Dictionary, c: &'a Call, f: &Frames) -> Option<Graph>
     requires lawful { ∥ IsLawfulCall (plain_call c.now) ∥₁ }
     ensures fault { IfSome result (λ g. fault_in (walk_of (dictionary_of d.now) (of_call (plain_call c.now))) ≡ None) }
-    ensures means { IfSome result (λ g. unfolded (graph_of g) ≡ effects_among (kept_of 64 (dictionary_of d.now) f.now (Some (of_call (plain_call c.now))))) }
+    ensures means { IfSome result (λ g. unfolded (graph_of g) ≡ effects_among (kept_of max_macro_steps (dictionary_of d.now) f.now (Some (of_call (plain_call c.now))))) }
 {
     let callee = called(d, c.name.bytes());
     let Callee::Function(function) = callee else {
