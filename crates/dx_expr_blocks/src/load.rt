@@ -130,16 +130,16 @@ pub fn input_run<I: Columns>(
     let n = count(block);
     match inputs.source(k) {
         Source::Each(values) => {
-            let buffer = spare.values(alloc, n, 0)?;
+            let buffer = spare.room(alloc, n)?;
             Ok(loaded(values, block, buffer))
         }
         Source::Ints(values) => {
-            let buffer = spare.values(alloc, n, 0)?;
+            let buffer = spare.room(alloc, n)?;
             Ok(loaded_ints(values, block, buffer))
         }
         Source::Same(v) => constant(alloc, spare, v, n),
         Source::Other => {
-            let buffer = spare.values(alloc, n, 0)?;
+            let buffer = spare.room(alloc, n)?;
             Ok(asked(inputs, k, block, buffer))
         }
     }

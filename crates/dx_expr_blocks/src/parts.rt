@@ -120,15 +120,15 @@ fn input_part<I: Columns>(
 {
     match inputs.table(k) {
         Table::Rows(values, width) => {
-            let buffer = spare.values(alloc, count(block), 0)?;
+            let buffer = spare.room(alloc, count(block))?;
             Ok(in_rows(values, width, usize::from(place), block, buffer))
         }
         Table::IntRows(values, width) => {
-            let buffer = spare.values(alloc, count(block), 0)?;
+            let buffer = spare.room(alloc, count(block))?;
             Ok(in_int_rows(values, width, usize::from(place), block, buffer))
         }
         Table::Ints => {
-            let buffer = spare.values(alloc, count(block), 0)?;
+            let buffer = spare.room(alloc, count(block))?;
             Ok(asked_part(inputs, k, place, block, buffer))
         }
         Table::Other => one_by_one(alloc, spare, e, inputs, block),

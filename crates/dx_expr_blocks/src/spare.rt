@@ -1,6 +1,6 @@
 //! The buffers of a run, which are made once and used again.
 
-ghost use Rattle.std.specs.Prelude.{◌≡◌, IfOk, replicate};
+ghost use Rattle.std.specs.Prelude.{◌≡◌, IfOk, length, replicate};
 
 use std::alloc::{AllocError, Global};
 
@@ -34,6 +34,18 @@ impl Spare {
         };
         found.clear();
         found.resize(count, value)?;
+        Ok(found)
+    }
+
+    /// A buffer with room for so many values, whatever stands in it: where it was as long before, nothing is cleared.
+    pub fn room(&mut self, alloc: Global, count: usize) -> Result<Vec<i32>, AllocError>
+        ensures { IfOk result (λ found. length found.items ≡ count) }
+    {
+        let mut found = match self.values.pop() {
+            Some(buffer) => buffer,
+            None => Vec::new(alloc),
+        };
+        found.resize(count, 0)?;
         Ok(found)
     }
 
