@@ -1,14 +1,14 @@
 //! Constants, whose lists and texts are shared: a copy of a constant takes no memory.
 ghost use Rattle.std.specs.Prelude.{◌≡◌, IfOk};
 
-use dx_base::{Bytes, Items, Shared};
+use dx_base::{Bytes, Few, Shared};
 use std::alloc::AllocError;
 
 /// A list of integers.
 pub type Ints = Shared<i32>;
 
 /// A list of names, as the targets of an assignment or the results of a macro.
-pub type TextList = Items<Bytes>;
+pub type TextList = Few<Bytes>;
 
 /// A constant as a script writes it.
 #[derive(Debug, Drop, PartialEq, Eq, Hash)]

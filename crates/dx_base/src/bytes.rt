@@ -1,15 +1,27 @@
 //! Texts as lists of bytes.
 ghost use Rattle.std.specs.Prelude.{◌≡◌, IfOk};
 
+use smallvec::SmallVec;
 use std::alloc::{AllocError, Global};
 use std::cmp::Ordering;
 use std::hash::{Hash, Hasher};
 use std::marker::Model;
 
-/// A text, a name or the content of a file, which contracts see as a list of bytes.
-#[derive(Debug, Drop)]
+/// How many bytes stand in a text itself.
+const INLINE: usize = 16;
+
+/// A text, a name or the content of a file, which contracts see as a list of bytes. A copy of at most 16 bytes takes no memory
+/// of its own.
+#[derive(Debug)]
 pub struct Bytes {
-    content: Vec<u8>,
+    content: SmallVec<u8, INLINE>,
+}
+
+// A function of its own, so that whoever drops a text doesn't prove again how its parts are dropped.
+impl Drop for Bytes {
+    fn drop(self) {
+        let Bytes { content: _ } = self;
+    }
 }
 
 impl Model for Bytes {
@@ -26,7 +38,7 @@ impl Bytes {
         ensures { IfOk result (λ copy. copy ≡ b.now) }
     {
         Ok(Bytes {
-            content: Vec::from_slice(alloc, b)?,
+            content: SmallVec::from_slice(alloc, b)?,
         })
     }
 
@@ -34,20 +46,23 @@ impl Bytes {
     pub fn from_vec(content: Vec<u8>) -> Bytes
         ensures { result ≡ content.items }
     {
-        Bytes { content }
+        Bytes {
+            content: SmallVec::from_vec(content),
+        }
     }
 
-    /// The bytes, moved out.
-    pub fn into_vec(self) -> Vec<u8>
-        ensures { result.items ≡ self }
+    /// The bytes, moved out. Those that stand in the text itself get memory of their own.
+    pub fn into_vec(self) -> Result<Vec<u8>, AllocError>
+        ensures { IfOk result (λ content. content.items ≡ self) }
     {
-        self.content
+        let Bytes { content } = self;
+        Ok(content.into_vec()?)
     }
 
     pub fn bytes(&self) -> &[u8]
         ensures { result.now ≡ self.now }
     {
-        &self.content
+        self.content.as_slice()
     }
 }
 

@@ -22,10 +22,9 @@ use crate::given::Given;
 use crate::seen::{Frame, Memo, Seen, pop_frame, push_frame, top_of};
 use crate::settled::{Answer, Port, Resolved, Settled};
 use crate::step::{Step, constant_tag, next_step};
-use dx_base::Items;
 use dx_graph::{Graph, Input};
 use dx_links::Links;
-use dx_tags::{Tags, ValueTag, Written};
+use dx_tags::{Tags, ValueTag, ValueTags, Written};
 use indexmap::IndexMap;
 use std::alloc::{AllocError, Global};
 use std::mem;
@@ -261,7 +260,7 @@ fn settle_port<G: Given>(
             Step::Awaits(port) => {
                 let awaited = Frame {
                     port,
-                    arguments: Items::new(alloc),
+                    arguments: ValueTags::new(alloc),
                 };
                 push_frame(&mut seen.stack, mem::replace(&mut top, awaited))?;
             }

@@ -6,7 +6,6 @@ ghost use Rattle.dx_demand.specs.Stack.{fresh, Opens};
 ghost use Rattle.dx_demand.specs.Forming.{with_entry};
 
 use crate::settled::{Answer, Port};
-use dx_base::Items;
 use dx_graph::Graph;
 use dx_tags::{Tag, ValueTag, ValueTags};
 use indexmap::IndexMap;
@@ -109,7 +108,7 @@ pub(crate) fn top_of(alloc: Global, stack: &mut Vec<Frame>, root: Port) -> Frame
     stack.clear();
     Frame {
         port: root,
-        arguments: Items::new(alloc),
+        arguments: ValueTags::new(alloc),
     }
 }
 

@@ -34,7 +34,7 @@ use crate::pick::{Pick, pick_of};
 use crate::seen::Memo;
 use crate::settled::{Answer, Port, Settled};
 use dx_ast::Const;
-use dx_base::{Bytes, Code, Effect, Function, Items, Module, Shared};
+use dx_base::{Bytes, Code, Effect, Function, Module, Shared};
 use dx_graph::{Graph, Input};
 use dx_links::Links;
 use dx_objects::Object;
@@ -272,7 +272,7 @@ fn module_step(
             Known::Open(awaited) => return Ok(Step::Awaits(awaited)),
         }
     }
-    let all = mem::replace(arguments, Items::new(alloc));
+    let all = mem::replace(arguments, ValueTags::new(alloc));
     let t = call_of_all(called, all, file, port, tags, memo)?;
     Ok(Step::Settles(Answer {
         settled: Settled::Value(t),
@@ -379,7 +379,7 @@ fn text_constant(alloc: Global, name: Bytes) -> Result<Const, AllocError>
     if name.bytes().len() > 268435392 {
         return Err(AllocError);
     }
-    Ok(Const::Text(Shared::from_vec(alloc, name.into_vec())?))
+    Ok(Const::Text(Shared::from_vec(alloc, name.into_vec()?)?))
 }
 
 /// The port comes to what the value of its node's selector picks.

@@ -7,10 +7,10 @@ ghost use Rattle.dx_links.specs.LinkMap.{after};
 ghost use Rattle.dx_demand.specs.Terms.{AreExact, IsValue};
 ghost use Rattle.dx_demand_tests.specs.Linked.{AreLinked};
 
-use dx_base::{Bytes, Items, Module};
+use dx_base::{Bytes, Module};
 use dx_links::{Change, Changes, Held, Key, Links};
 use dx_objects::{Object, Parts};
-use dx_tags::{Tag, Tags, Term, ValueTag};
+use dx_tags::{Tag, Tags, Term, ValueTag, ValueTags};
 use std::alloc::{AllocError, Global};
 use std::rc::Rc;
 
@@ -44,7 +44,7 @@ fn call_term(alloc: Global, tags: &mut Tags, argument: ValueTag) -> Result<Value
     ensures goes_on { OnOk result (GoesOn tags.old tags.new) }
     ensures value { IfOk result (λ t. IsValue tags.new t) }
 {
-    let mut arguments = Items::new(alloc);
+    let mut arguments = ValueTags::new(alloc);
     arguments.push(argument)?;
     let tag = named(tags, Term::Call(Module::Collect, arguments))?;
     Ok(ValueTag { tag, result: 0 })

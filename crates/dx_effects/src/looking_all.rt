@@ -12,7 +12,6 @@ ghost use Rattle.dx_looking.specs.declared.cut.Cut.TheVariants.{ReadFault};
 ghost use Rattle.dx_effects.specs.AllLooking.{AllLookedFit, AllValued, AllHalted, AllLookSo, AllNeedAlike, input_trees};
 
 use crate::looked::AllLooked;
-use dx_base::Items;
 use dx_graph::Input;
 use dx_io::Files;
 use dx_looking::{Cut, Looked, Progress, Setup, look};
@@ -24,7 +23,7 @@ use std::alloc::{AllocError, Global};
 fn room_for(alloc: Global, count: usize) -> Result<ValueTags, AllocError>
     ensures { IfOk result (λ terms. terms ≡ []) }
 {
-    Ok(Items::from_vec(Vec::with_capacity(alloc, count)?))
+    ValueTags::with_capacity(alloc, count)
 }
 
 /// Looks at some arguments in order, up to the first that forms no term. What is true of looking at one is true of them

@@ -15,8 +15,9 @@ ghost use Rattle.dx_macros.specs.Walk.{first_fault, fault_in, walk_of};
 
 use crate::expansion::call_function;
 use dx_ast::{Arg, Call, Expr, Frames, Stmt};
+use dx_base::Few;
 use dx_graph::{Given, Graph, Operand, frame_value};
-use dx_macros::{Callee, Dictionary, MAX_STEPS, called, put};
+use dx_macros::{Callee, Dictionary, MAX_STEPS, called};
 use dx_signatures::fault_of_call;
 use std::alloc::Global;
 
@@ -40,15 +41,15 @@ fn flat_args<'a>(
     d: &'a Dictionary,
     f: &Frames,
     args: &'a [Arg],
-) -> Option<Vec<Given<'a>>>
+) -> Option<Few<Given<'a>>>
     requires lawful { ∥ AreLawfulArgs (plain_args args.now) ∥₁ }
-    ensures flat { IfSome result (λ given. (nodes : List Node) → AreFlat (dictionary_of d.now) f.now (plain_args args.now) (map (given_of nodes) given.items)) }
-    ensures fits { IfSome result (λ given. (nodes : List Node) → All (GivenFits nodes) given.items) }
+    ensures flat { IfSome result (λ given. (nodes : List Node) → AreFlat (dictionary_of d.now) f.now (plain_args args.now) (map (given_of nodes) given)) }
+    ensures fits { IfSome result (λ given. (nodes : List Node) → All (GivenFits nodes) given) }
 {
-    let mut given = Vec::with_capacity(alloc, args.len()).ok()?;
+    let mut given = Few::with_capacity(alloc, args.len()).ok()?;
     for arg in args {
         let operand = flat_operand(d, f, &arg.value)?;
-        match put(&mut given, Given { arg, operand }) {
+        match given.push(Given { arg, operand }) {
             Ok(()) => {}
             Err(_) => return None,
         }

@@ -38,7 +38,7 @@ pub fn get_all<S: Sites, F: Files, L: Library>(
     ensures count { IfOk result (λ values. length values ≡ length args.now) }
     ensures gets { From (setting_of scene.now (S.formed sites.now)) L.answer (F.content files.old) work.old (told (L.done lib.old) (F.asked files.old)) (λ world base s. GetsAll (setting_of scene.now (S.formed sites.now)) world base args.now result (spec_get_all (frame_of (setting_of scene.now (S.formed sites.now)) world work.old.cache.budget) (value_terms (heads_of scene.now.tags.now) args.now) s) work.new (told (L.done lib.new) (F.asked files.new))) }
 {
-    let mut values = Outs::from_vec(Vec::with_capacity(scene.alloc, args.len())?);
+    let mut values = Outs::with_capacity(scene.alloc, args.len())?;
     for arg in args {
         let value = get_value(*arg, scene, sites, work, files, lib)?;
         values.push(value)?;

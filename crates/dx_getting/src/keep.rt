@@ -55,6 +55,13 @@ pub(crate) fn hit(alloc: Global, tag: Tag, site: Bytes, work: &mut Work) -> Resu
     Ok(())
 }
 
+/// The site of an entry whose results go out.
+fn site_of(entry: Entry) -> Bytes
+    ensures { result ≡ entry.site }
+{
+    entry.site
+}
+
 /// Drops what goes out before an entry of this site, attribute and size is kept.
 fn drop_for(
     site: &Bytes,
@@ -73,7 +80,7 @@ fn drop_for(
     'drops: loop {
         match cache.make_room(site, attribute, size) {
             None => return Ok(()),
-            Some(entry) => tell(events, Event::Drop(entry.site))?,
+            Some(entry) => tell(events, Event::Drop(site_of(entry)))?,
         }
     }
 }

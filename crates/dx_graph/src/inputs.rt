@@ -11,7 +11,7 @@ use crate::given::{Given, given_for};
 use crate::node::{Input, Inputs};
 use crate::operand::Operand;
 use dx_ast::{Const, more, params};
-use dx_base::{Function, Items};
+use dx_base::Function;
 use std::alloc::{AllocError, Global};
 
 /// The input that an operand is.
@@ -43,13 +43,13 @@ fn named_inputs<'a>(
     alloc: Global,
     names: &[&[u8]],
     given: &[Given<'a>],
-) -> Result<Vec<Input>, AllocError>
+) -> Result<Inputs, AllocError>
     ensures trees { IfOk result (λ inputs. (nodes : List Node) (more : ℕ) →
-        before_trees nodes inputs.items (plain.further more (drop (length names.now) (map (given_of nodes) given.now))) ≡ plain.inputs (map (λ p. p.now) names.now) more 0 (map (given_of nodes) given.now)) }
-    ensures fits { IfOk result (λ inputs. (nodes : List Node) → All (GivenFits nodes) given.now → All (MayTake nodes (length nodes)) inputs.items) }
-    ensures count { IfOk result (λ inputs. length inputs.items ≡ length names.now) }
+        before_trees nodes inputs (plain.further more (drop (length names.now) (map (given_of nodes) given.now))) ≡ plain.inputs (map (λ p. p.now) names.now) more 0 (map (given_of nodes) given.now)) }
+    ensures fits { IfOk result (λ inputs. (nodes : List Node) → All (GivenFits nodes) given.now → All (MayTake nodes (length nodes)) inputs) }
+    ensures count { IfOk result (λ inputs. length inputs ≡ length names.now) }
 {
-    let mut inputs = Vec::with_capacity(alloc, names.len().max(given.len()))?;
+    let mut inputs = Inputs::with_capacity(alloc, names.len().max(given.len()))?;
     for (i, name) in names.iter().enumerate() {
         inputs.push(input_of(named_operand(given, i, name))?)?;
     }
@@ -57,16 +57,12 @@ fn named_inputs<'a>(
 }
 
 /// The further arguments join, as many as may follow.
-fn put_further<'a>(
-    inputs: &mut Vec<Input>,
-    more: usize,
-    given: &[Given<'a>],
-) -> Result<(), AllocError>
+fn put_further<'a>(inputs: &mut Inputs, more: usize, given: &[Given<'a>]) -> Result<(), AllocError>
     ensures trees { OnOk result ((nodes : List Node) →
-        before_trees nodes inputs.new.items NoTree ≡ before_trees nodes inputs.old.items (plain.further more (map (given_of nodes) given.now))) }
-    ensures fits { OnOk result ((nodes : List Node) → All (GivenFits nodes) given.now → All (MayTake nodes (length nodes)) inputs.old.items → All (MayTake nodes (length nodes)) inputs.new.items) }
-    ensures few { OnOk result (length inputs.new.items ≤ length inputs.old.items + more) }
-    ensures enough { OnOk result (length inputs.old.items ≤ length inputs.new.items) }
+        before_trees nodes inputs.new NoTree ≡ before_trees nodes inputs.old (plain.further more (map (given_of nodes) given.now))) }
+    ensures fits { OnOk result ((nodes : List Node) → All (GivenFits nodes) given.now → All (MayTake nodes (length nodes)) inputs.old → All (MayTake nodes (length nodes)) inputs.new) }
+    ensures few { OnOk result (length inputs.new ≤ length inputs.old + more) }
+    ensures enough { OnOk result (length inputs.old ≤ length inputs.new) }
 {
     for (i, g) in given.iter().enumerate() {
         if i >= more {
@@ -95,5 +91,5 @@ pub fn inputs_of<'a>(alloc: Global, f: Function, given: &[Given<'a>]) -> Result<
     let names = params(f);
     let mut inputs = named_inputs(alloc, names, given)?;
     put_further(&mut inputs, more(f) as usize, behind(given, names.len()))?;
-    Ok(Items::from_vec(inputs))
+    Ok(inputs)
 }

@@ -1,6 +1,6 @@
 //! The nodes of a graph.
 use dx_ast::Const;
-use dx_base::{Function, Items};
+use dx_base::{Few, Function};
 
 /// What a node takes.
 #[derive(Debug, Drop)]
@@ -11,7 +11,7 @@ pub enum Input {
 }
 
 /// The inputs of a node: one for each named parameter of its function, in order, and then those of the further arguments.
-pub type Inputs = Items<Input>;
+pub type Inputs = Few<Input>;
 
 /// A call of a function.
 #[derive(Debug, Drop)]

@@ -1,7 +1,7 @@
 //! What dx_base gives: types and numbers, lists, words of the canonical text, and the inputs of modules.
 
 use dx_base::{
-    Bytes, ElemType, Fail, Items, Module, Names, Shared, Sparse, in_range, push_count,
+    Bytes, ElemType, Fail, Few, Items, Module, Names, Shared, Sparse, in_range, push_count,
     push_counts_behind, push_number, push_numbers, push_numbers_behind, push_quoted, read_int,
     read_number,
 };
@@ -110,6 +110,57 @@ fn lists_are_shared_and_compared_by_their_elements(rt: HostRuntime) -> Result<()
     assert!(rt; !are_equal(alloc, &[1, 2, 3], &[1, 2])?);
     assert!(rt; !list(alloc, &[1, 2, 3])?.is_empty());
     assert!(rt; are_its_items(alloc, &[1, 2])?);
+    Ok(())
+}
+
+// Lists of none, of one element, and of as many as more room is made for.
+const LISTS: &[&[i32]] = &[&[], &[7], &[7, 8], &[7, 8, 9, 10], &[7, 8, 9, 10, 11, 12]];
+
+fn filled(mut few: Few<i32>, items: &[i32]) -> Result<Few<i32>, AllocError> {
+    for item in items {
+        few.push(*item)?;
+    }
+    Ok(few)
+}
+
+// Whether a list that grows from nothing, and one with room for all, come to these elements.
+fn are_pushed(alloc: Global, items: &[i32]) -> Result<bool, AllocError> {
+    let grown = filled(Few::new(alloc), items)?;
+    let roomy = filled(Few::with_capacity(alloc, items.len())?, items)?;
+    let moved = Few::from_vec(alloc, items.to_vec(alloc)?);
+    Ok(grown.as_slice() == items && grown.len() == items.len() && grown == roomy && grown == moved)
+}
+
+#[test]
+fn lists_of_few_hold_what_is_pushed(rt: HostRuntime) -> Result<(), AllocError> {
+    let alloc = rt.alloc();
+    for items in LISTS {
+        assert!(rt; are_pushed(alloc, items)?);
+    }
+    assert!(rt; Few::one(alloc, 7).as_slice() == &[7][..]);
+    assert!(rt; filled(Few::one(alloc, 7), &[8])? == filled(Few::new(alloc), &[7, 8])?);
+    assert!(rt; Few::one(alloc, 7) != Few::one(alloc, 8) && Few::one(alloc, 7) != Few::new(alloc));
+    assert!(rt; Few::<i32>::new(alloc).is_empty() && !Few::one(alloc, 7).is_empty());
+    Ok(())
+}
+
+// Texts of no byte, and as many as stand in a text itself, one less and one more.
+const LENGTHS: &[usize] = &[0, 1, 15, 16, 17, 40];
+
+// Whether so many first bytes are those of a copy, of a text that is moved in, and of one that is moved out.
+fn are_kept(alloc: Global, bytes: &[u8]) -> Result<bool, AllocError> {
+    let copy = Bytes::copy_of(alloc, bytes)?;
+    let moved = Bytes::from_vec(bytes.to_vec(alloc)?);
+    let is_same = copy.bytes() == bytes && moved.bytes() == bytes && copy == moved;
+    Ok(is_same && copy.into_vec()?.as_slice() == bytes && moved.into_vec()?.as_slice() == bytes)
+}
+
+#[test]
+fn texts_of_any_length_are_kept(rt: HostRuntime) -> Result<(), AllocError> {
+    let letters = b"abcdefghijklmnopqrstuvwxyz0123456789ABCD";
+    for len in LENGTHS {
+        assert!(rt; are_kept(rt.alloc(), &letters[..*len])?);
+    }
     Ok(())
 }
 

@@ -174,7 +174,7 @@ pub fn into_const(alloc: Global, list: Growing) -> Result<Const, AllocError>
 pub fn text_const(alloc: Global, text: Bytes) -> Result<Const, AllocError>
     ensures { IfOk result (λ c. c ≡ const.Text text) }
 {
-    Ok(Const::Text(Shared::from_vec(alloc, text.into_vec())?))
+    Ok(Const::Text(Shared::from_vec(alloc, text.into_vec()?)?))
 }
 
 /// The list of these integers as a constant, moved in.

@@ -4,6 +4,7 @@ ghost use Rattle.dx_base.specs.Object.{value_size as spec_value_size, results_si
 ghost use Rattle.dx_objects.specs.Values.{value_of, values_of, value_at};
 
 use crate::object::Object;
+use dx_base::Few;
 use std::alloc::{AllocError, Global};
 use std::marker::Model;
 use std::rc::Rc;
@@ -11,10 +12,10 @@ use std::rc::Rc;
 /// NULL or an object.
 pub type Value = Option<Rc<Object>>;
 
-/// A list of values.
+/// A list of values. One that has a single value takes no memory of its own.
 #[derive(Drop)]
 pub struct Outs {
-    items: Vec<Value>,
+    items: Few<Value>,
 }
 
 impl Model for Outs {
@@ -29,7 +30,7 @@ impl Model for Outs {
 
     ghost use Rattle.dx_objects.specs.Values.{values_of};
 
-    ghost view = { λ a. values_of a.items.items };
+    ghost view = { λ a. values_of a.items };
 }
 
 impl Outs {
@@ -38,22 +39,17 @@ impl Outs {
         ensures { result ≡ [] }
     {
         Outs {
-            items: Vec::new(alloc),
+            items: Few::new(alloc),
         }
     }
 
-    /// These values, which are moved in.
-    pub fn from_vec(items: Vec<Value>) -> Outs
-        ensures { result ≡ values_of items.items }
+    /// No values, with room for so many. It takes memory for more than one.
+    pub fn with_capacity(alloc: Global, count: usize) -> Result<Outs, AllocError>
+        ensures { IfOk result (λ outs. outs ≡ []) }
     {
-        Outs { items }
-    }
-
-    /// The values, moved out.
-    pub fn into_vec(self) -> Vec<Value>
-        ensures { values_of result.items ≡ self }
-    {
-        self.items
+        Ok(Outs {
+            items: Few::with_capacity(alloc, count)?,
+        })
     }
 
     pub fn as_slice(&self) -> &[Value]
@@ -78,7 +74,7 @@ impl Outs {
         requires { i < length self.now }
         ensures { slice_get self.now i ≡ Some (value_of result.now) }
     {
-        &self.items[i]
+        &self.items.as_slice()[i]
     }
 
     #[tactic(auto, using(crate::proofs::ValuesLaws::values))]
@@ -108,8 +104,8 @@ impl Outs {
     pub fn copy(&self, alloc: Global) -> Result<Outs, AllocError>
         ensures { IfOk result (λ copy. copy ≡ self.now) }
     {
-        let mut copy = Outs::new(alloc);
-        for value in &self.items {
+        let mut copy = Outs::with_capacity(alloc, self.len())?;
+        for value in self.as_slice() {
             copy.push(copy_of(value)?)?;
         }
         Ok(copy)
@@ -120,7 +116,7 @@ impl Outs {
         ensures { result ≡ min (results_size self.now) 18446744073709551615 }
     {
         let mut size: u64 = 0;
-        for value in &self.items {
+        for value in self.as_slice() {
             size = size.saturating_add(value_size(value));
         }
         size

@@ -118,7 +118,7 @@ fn next_result(alloc: Global, cursor: &mut Cursor<'_>, found: &TextList) -> Resu
 fn more_results(alloc: Global, cursor: &mut Cursor<'_>, first: Bytes) -> Result<TextList, ParseFail>
     ensures { Reads (reading.more_results (first ∷ []) cursor.old) result cursor.new }
 {
-    let mut found = one(alloc, first)?;
+    let mut found = TextList::one(alloc, first);
     'each: while cursor.sees(b",") {
         let next = next_result(alloc, cursor, &found)?;
         found.push(next)?;
@@ -130,7 +130,7 @@ fn more_results(alloc: Global, cursor: &mut Cursor<'_>, first: Bytes) -> Result<
 fn names(alloc: Global, cursor: &mut Cursor<'_>) -> Result<TextList, ParseFail>
     ensures { Reads (reading.names cursor.old) result cursor.new }
 {
-    let none = Items::new(alloc);
+    let none = TextList::new(alloc);
     if !cursor.sees_name() {
         return Ok(none);
     }
@@ -143,7 +143,7 @@ fn results(alloc: Global, cursor: &mut Cursor<'_>) -> Result<TextList, ParseFail
     ensures { Reads (reading.results cursor.old) result cursor.new }
 {
     if !cursor.sees(b"->") {
-        return Ok(Items::new(alloc));
+        return Ok(TextList::new(alloc));
     }
     cursor.sign(alloc, b"->")?;
     cursor.sign(alloc, b"(")?;

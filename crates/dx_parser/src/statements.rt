@@ -8,7 +8,6 @@ use dx_ast::{Assign, Boxed, Expr, Stmt, TextList, Word};
 use dx_base::Bytes;
 use dx_calls::{call_after, expression};
 use dx_cursor::{Cursor, ParseFail, is_word, switch_named, word_named};
-use dx_lists::one;
 use std::alloc::Global;
 
 /// Calls within the arguments of calls, the outermost counted.
@@ -31,7 +30,7 @@ fn targets(
 ) -> Result<TextList, ParseFail>
     ensures { Reads (reading.targets (first ∷ second ∷ []) cursor.old) result cursor.new }
 {
-    let mut found = one(alloc, first)?;
+    let mut found = TextList::one(alloc, first);
     found.push(second)?;
     'each: while cursor.sees(b",") {
         let name = target(alloc, cursor)?;
@@ -59,7 +58,7 @@ fn called(alloc: Global, cursor: &mut Cursor<'_>, name: Bytes) -> Result<Option<
 fn single(alloc: Global, cursor: &mut Cursor<'_>, name: Bytes) -> Result<Option<Stmt>, ParseFail>
     ensures { Reads (reading.single name cursor.old) result cursor.new }
 {
-    let targets = one(alloc, name)?;
+    let targets = TextList::one(alloc, name);
     cursor.sign(alloc, b"=")?;
     let value = expression(alloc, cursor, MAX_DEPTH)?;
     cursor.sign(alloc, b";")?;

@@ -2,7 +2,7 @@
 
 use crate::content::Content;
 use dx_ast::Const;
-use dx_base::{Items, Module};
+use dx_base::{Few, Module};
 
 /// The number of a term.
 pub type Tag = u64;
@@ -15,7 +15,7 @@ pub struct ValueTag {
 }
 
 /// The arguments of a call, in order.
-pub type ValueTags = Items<ValueTag>;
+pub type ValueTags = Few<ValueTag>;
 
 /// A closed term, whose parts are named by their tags.
 #[derive(Debug, PartialEq, Eq, Hash, Drop)]

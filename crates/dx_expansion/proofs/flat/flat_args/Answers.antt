@@ -14,9 +14,9 @@ loop-arg-preserved c =
     let so_far = c.loop-arg.invariant in
     record {
       flat = λ nodes.
-          flat_step (dictionary_of c.args.d.now) c.args.f.now c.args.args.now c.loop-arg.arg-index c.arg-item.result nodes c.loop-arg.given.items c.put.new.list.items _
-          c.loop-arg-test.true c.arg-item.is refl c.in-Ok.ensures (c.in_ok-operand.ensures.tree nodes) (so_far.flat nodes);
-      fits = λ nodes. all_push (GivenFits nodes) c.loop-arg.given.items c.put.new.list.items _ c.in-Ok.ensures (so_far.fits nodes) (c.in_ok-operand.ensures.fits nodes);
+          flat_step (dictionary_of c.args.d.now) c.args.f.now c.args.args.now c.loop-arg.arg-index c.arg-item.result nodes c.loop-arg.given c.push.new.self _
+          c.loop-arg-test.true c.arg-item.is refl c.in-Ok.ensures.ok (c.in_ok-operand.ensures.tree nodes) (so_far.flat nodes);
+      fits = λ nodes. all_push (GivenFits nodes) c.loop-arg.given c.push.new.self _ c.in-Ok.ensures.ok (so_far.fits nodes) (c.in_ok-operand.ensures.fits nodes);
     }
 
 pub returns-clause-flat : goal.returns-clause-flat

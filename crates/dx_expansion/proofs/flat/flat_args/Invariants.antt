@@ -7,6 +7,6 @@ use Rattle.dx_expansion.proofs.flat.flat_args.Given as goal
 
 abbrev pub invariant-loop-arg : goal.invariant-loop-arg
 invariant-loop-arg l = record {
-  flat : (nodes : List Node) → FlatSoFar (dictionary_of l.d) l.f l.args l.arg-index (map (given_of nodes) l.given.items);
-  fits : (nodes : List Node) → All (GivenFits nodes) l.given.items;
+  flat : (nodes : List Node) → FlatSoFar (dictionary_of l.d) l.f l.args l.arg-index (map (given_of nodes) l.given);
+  fits : (nodes : List Node) → All (GivenFits nodes) l.given;
 }

@@ -30,7 +30,7 @@ flat_args-requires c = record { lawful = call_args c.args.c.now c.as_slice-args.
 pub call_function-requires-clause-given : goal.call_function-requires-clause-given
 call_function-requires-clause-given c =
     let nodes = (graph_of c.in_ok-graph.graph).nodes in
-    subst (λ (gs : List Given). All (GivenFits nodes) gs) (sym c.as_slice.ensures.value) (c.in_ok-given.ensures.fits nodes)
+    subst (λ (gs : List Given). All (GivenFits nodes) gs) (sym c.as_slice.ensures) (c.in_ok-given.ensures.fits nodes)
 
 pub call_function-requires-clause-cache : goal.call_function-requires-clause-cache
 call_function-requires-clause-cache c = call_cache c.args.c.now c.requires.lawful
@@ -39,7 +39,7 @@ pub returns-in-Ok-clause-fault : goal.returns-in-Ok-clause-fault
 returns-in-Ok-clause-fault c =
     let d = dictionary_of c.args.d.now in
     let code = out-Call c.args.c.now in
-    let gs = map (given_of []) c.in_ok-given.given.items in
+    let gs = map (given_of []) c.in_ok-given.given in
     let what : callee d.macros code.name ≡ plain_callee c.called-callee.result = ap (callee d.macros) (sym c.bytes.ensures) ∙ sym c.called-callee.ensures in
     let called : callee d.macros code.name ≡ CallsFunction c.in-Function.function = what ∙ ap plain_callee c.in-Function.is in
     let none : fault_of_call 0 (callee d.macros code.name) 64 (arg_names (plain_args code.args)) 0 ≡ None =
@@ -55,11 +55,11 @@ returns-in-Ok-clause-means c =
     let fn = c.in-Function.function in
     let code = out-Call c.args.c.now in
     let old = graph_of c.in_ok-graph.graph in
-    let gs = map (given_of old.nodes) c.in_ok-given.given.items in
+    let gs = map (given_of old.nodes) c.in_ok-given.given in
     let called : callee d.macros code.name ≡ CallsFunction fn = ap (callee d.macros) (sym c.bytes.ensures) ∙ sym c.called-callee.ensures ∙ ap plain_callee c.in-Function.is in
     let flat = subst (λ (xs : List Arg). AreFlat d f (plain_args xs) gs) c.as_slice-args.ensures (c.in_ok-given.ensures.flat old.nodes) in
     let made : List CallTree → List plain.Given → List CallTree = λ before xs. before ++ effects_among (function_expanded fn (function_call (top_spot []) fn code.cache 1 xs)).kept in
     c.in-Ok.ensures.expands.effects
-    ∙ ap₂ made (no_effects old (ap (λ (g : graphs.Graph). g.effects) c.in_ok-graph.ensures.graph)) (ap (map (given_of old.nodes)) c.as_slice.ensures.value)
+    ∙ ap₂ made (no_effects old (ap (λ (g : graphs.Graph). g.effects) c.in_ok-graph.ensures.graph)) (ap (map (given_of old.nodes)) c.as_slice.ensures)
     ∙ call_effects d f code.name code.cache (plain_args code.args) gs fn called flat
     ∙ ap (λ (k : Call). effects_among (kept_of 64 d f (Some (of_call k)))) (sym (plain_call_out c.args.c.now))

@@ -34,8 +34,8 @@ get_value-requires g c =
     let at : slice_get c.args.args.now c.loop-arg.arg-index ≡ Some (get_or c.args.args.now c.loop-arg.arg-index (record { tag = 0; result = 0 })) = slice_get-get_or c.args.args.now c.loop-arg.arg-index (record { tag = 0; result = 0 }) c.loop-arg-test.true in
     record { may = c.requires.may c.loop-arg.arg-index (get_or c.args.args.now c.loop-arg.arg-index (record { tag = 0; result = 0 })) at }
 
-pub returns-in_err-with_capacity-clause-gets : goal.returns-in_err-with_capacity-clause-gets
-returns-in_err-with_capacity-clause-gets g c =
+pub returns-in_err-values-clause-gets : goal.returns-in_err-values-clause-gets
+returns-in_err-values-clause-gets g c =
     λ map told_map links base s h.
     let p = err_from_is_err_and c.from_residual.result c.from_residual.ensures.1 in
     rw (p.1, p.2) (went_cut (setting_of c.args.scene.now (g.S.Sites.formed c.args.sites.now)) (world g.L.Library.answer map) base c.args.work.now (told (g.L.Library.done c.args.lib.now) (g.F.Files.asked c.args.files.now)) (Went s) (get_all (frame_of (setting_of c.args.scene.now (g.S.Sites.formed c.args.sites.now)) (world g.L.Library.answer map) c.args.work.now.cache.budget) (value_terms (heads_of c.args.scene.now.tags.now) c.args.args.now)) h (λ s2. all_grow (frame_of (setting_of c.args.scene.now (g.S.Sites.formed c.args.sites.now)) (world g.L.Library.answer map) c.args.work.now.cache.budget) (value_terms (heads_of c.args.scene.now.tags.now) c.args.args.now) s2))

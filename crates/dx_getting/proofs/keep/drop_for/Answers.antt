@@ -36,7 +36,7 @@ drops-preserved c =
       room = (let r = d.room in let s = c.drops.invariant.room in omega (arith, r, s));
       part = part_then _ _ _ (subst (λ xs. IsPartOf xs c.drops.cache.entries) (sym d.entries) (part-remove c.drops.cache.entries d.place)) c.drops.invariant.part;
       left = left ∙ c.drops.invariant.left;
-      drops = rw c.in_ok-tell-in-Some.ensures (append_assoc c.drops.events.items (shown.Drop c.in-Some.entry.site ∷ []) _ ∙ ap (λ xs. c.drops.events.items ++ map (λ (x : Entry). shown.Drop x.site) xs) (sym dropped) ∙ c.drops.invariant.drops);
+      drops = rw (c.in_ok-tell-in-Some.ensures, c.site_of.ensures) (append_assoc c.drops.events.items (shown.Drop c.in-Some.entry.site ∷ []) _ ∙ ap (λ xs. c.drops.events.items ++ map (λ (x : Entry). shown.Drop x.site) xs) (sym dropped) ∙ c.drops.invariant.drops);
     }
 
 pub returns-in-None-clause-part : goal.returns-in-None-clause-part

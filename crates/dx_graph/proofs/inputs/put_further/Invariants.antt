@@ -6,9 +6,9 @@ use Rattle.dx_graph.proofs.inputs.put_further.Given as goal
 
 abbrev pub invariant-loop-i : goal.invariant-loop-i
 invariant-loop-i l = record {
-  count : length l.inputs.items ≡ length l.initial.inputs.items + l.i;
+  count : length l.inputs ≡ length l.initial.inputs + l.i;
   within : l.i ≤ l.more;
-  trees : (nodes : List Node) → before_trees nodes l.inputs.items (plain.further (l.more - l.i) (map (given_of nodes) (drop l.i l.given)))
-      ≡ before_trees nodes l.initial.inputs.items (plain.further l.more (map (given_of nodes) l.given));
-  fits : (nodes : List Node) → All (GivenFits nodes) l.given → All (MayTake nodes (length nodes)) l.initial.inputs.items → All (MayTake nodes (length nodes)) l.inputs.items;
+  trees : (nodes : List Node) → before_trees nodes l.inputs (plain.further (l.more - l.i) (map (given_of nodes) (drop l.i l.given)))
+      ≡ before_trees nodes l.initial.inputs (plain.further l.more (map (given_of nodes) l.given));
+  fits : (nodes : List Node) → All (GivenFits nodes) l.given → All (MayTake nodes (length nodes)) l.initial.inputs → All (MayTake nodes (length nodes)) l.inputs;
 }
