@@ -10,7 +10,8 @@ use std::mem;
 /// For how many elements room is made when the second one comes.
 const ROOM: usize = 4;
 
-/// A list, which contracts see as the list of its elements. While it has no more than one it takes no memory of its own.
+/// A list, which contracts see as the list of its elements. While it has no more than one it takes no memory of its own,
+/// unless room was made for more.
 #[derive(Debug, Drop)]
 pub struct Few<T> {
     alloc: Global,
@@ -105,6 +106,11 @@ impl<T: Drop> Few<T> {
         ensures ok { OnOk result (self.new ≡ self.old ++ element ∷ []) }
         ensures err { OnErr result (self.new ≡ self.old) }
     {
+        if let Elements::Many(many) = &mut self.elements {
+            if many.capacity() > 0 {
+                return Ok(many.push(element)?);
+            }
+        }
         let alloc = self.alloc;
         let none = Elements::Many(Vec::new(alloc));
         let (elements, pushed) = match mem::replace(&mut self.elements, none) {
