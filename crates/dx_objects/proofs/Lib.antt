@@ -3,6 +3,5 @@ pub mod PutLaws
 pub mod TakeLaws
 pub mod MembersLaws
 pub mod LawfulLaws
-pub mod FindLaws
 pub mod OrderLaws
 pub mod ValuesLaws

@@ -1,9 +1,7 @@
 -- Members that are replaced: only that the group or series is too large can be said against it.
-use Rattle.std.proofs.Common.{◌≡◌, ℕ, pos, List, [], ◌∷◌, Option, Some, None, Ok, Err, true, cond, ◌&&◌, refl, sym, ap, ◌∙◌}
-use Rattle.std.specs.Prelude.{is_none}
-use Rattle.dx_base.specs.Object.{Tree, PartList, group, composite, series, no_parts, part}
-use Rattle.dx_base.specs.ObjectNames.{same_name, find}
-use Rattle.dx_base.specs.ObjectLimits.{lacks, differ, none_named, all_fields, is_field, has_good_names, fits, unplaced, IsAllowed}
+use Rattle.std.proofs.Common.{◌≡◌, List, Some, None, Ok, Err, true, cond, refl, sym, ◌∙◌}
+use Rattle.dx_base.specs.Object.{Tree, PartList, group, composite, series}
+use Rattle.dx_base.specs.ObjectLimits.{all_fields, has_good_names, fits, IsAllowed}
 use Rattle.dx_base.specs.ObjectMembers.{placed, with_members, composite_or_group}
 use Rattle.dx_objects.specs.Makes.{Makes, refusal}
 use Rattle.dx_objects.specs.Members.{members_of, regrouped, GivesMembers}
@@ -13,40 +11,9 @@ use Rattle.dx_objects.specs.declared.object.Body.TheVariants.{Array, Text, Field
 use Rattle.dx_objects.specs.declared.makers.ObjectError.{ObjectError}
 use Rattle.dx_objects.specs.declared.makers.ObjectError.TheVariants as refused
 use Rattle.dx_objects.specs.declared.members.MembersError.TheVariants.{TooLarge}
-use Rattle.dx_objects.proofs.PutLaws.{by_bool, is_too_large, does_fit}
-
-pub unplaced_fields : (ps : PartList) → all_fields (unplaced ps) ≡ all_fields ps
-unplaced_fields no_parts = refl
-unplaced_fields (part n p t ps) = ap (λ b. is_field t && b) (unplaced_fields ps)
-
--- names stay where objects are replaced and positions taken away
-find-placed : (m : List ℕ) (ps : PartList) (ts : List Tree) → is_none (find m (placed ps ts)) ≡ is_none (find m ps)
-find-placed m no_parts ts = refl
-find-placed m (part n p t ps) [] = refl
-find-placed m (part n p t ps) (u ∷ ts) = by_bool (same_name m n) _ (λ e. rw e refl) (λ e. rw e (find-placed m ps ts))
-
-lacks-placed : (n : Option (List ℕ)) (ps : PartList) (ts : List Tree) → lacks n (placed ps ts) ≡ lacks n ps
-lacks-placed None ps ts = refl
-lacks-placed (Some m) ps ts = find-placed m ps ts
-
-differ-placed : (ps : PartList) (ts : List Tree) → differ (placed ps ts) ≡ differ ps
-differ-placed no_parts ts = refl
-differ-placed (part n p t ps) [] = refl
-differ-placed (part n p t ps) (u ∷ ts) = rw (lacks-placed n ps ts, differ-placed ps ts) refl
-
-none_named-placed : (ps : PartList) (ts : List Tree) → none_named (placed ps ts) ≡ none_named ps
-none_named-placed no_parts ts = refl
-none_named-placed (part n p t ps) [] = refl
-none_named-placed (part n p t ps) (u ∷ ts) = rw (none_named-placed ps ts) refl
-
-unplaced-placed : (ps : PartList) (ts : List Tree) → unplaced (placed ps ts) ≡ placed (unplaced ps) ts
-unplaced-placed no_parts ts = refl
-unplaced-placed (part n p t ps) [] = refl
-unplaced-placed (part n p t ps) (u ∷ ts) = ap (part n (pos 0) u) (unplaced-placed ps ts)
-
--- members without positions have none when they are replaced
-stays : (ps : PartList) (ts : List Tree) → unplaced ps ≡ ps → unplaced (placed ps ts) ≡ placed ps ts
-stays ps ts h = unplaced-placed ps ts ∙ ap (λ qs. placed qs ts) h
+use Rattle.dx_object_laws.proofs.PutLaws.{by_bool}
+use Rattle.dx_object_laws.proofs.PlacedLaws.{stays, group_names, series_names}
+use Rattle.dx_objects.proofs.PutLaws.{is_too_large, does_fit}
 
 -- the tree that is made is the one that is meant
 pub made_is : (b : Body) (xs ps : PartList) (ts : List Tree) → IsAllowed (tree_of b xs) → members_of b ≡ Some ps → with_members ts (tree_of b xs) ≡ Some (regrouped b (placed ps ts) xs)
@@ -56,13 +23,6 @@ made_is (Field qs) xs ps ts h e = absurd (cc e)
 made_is (Group qs) xs ps ts h e = let same : qs ≡ ps = cc in rw (← same, stays qs ts h.positions.0, h.positions.1) refl
 made_is (Composite qs) xs ps ts h e = let same : qs ≡ ps = cc in rw (← same, stays qs ts h.positions.0, h.positions.1) refl
 made_is (Series qs) xs ps ts h e = let same : qs ≡ ps = cc in rw (← same, h.positions) refl
-
--- the names of a group, and of a series, are still good
-group_names : (ps xs : PartList) (ts : List Tree) → has_good_names (group ps xs) ≡ true → has_good_names (group (placed ps ts) xs) ≡ true
-group_names ps xs ts h = rw (differ-placed ps ts) h
-
-series_names : (ps xs : PartList) (ts : List Tree) → has_good_names (series ps xs) ≡ true → has_good_names (series (placed ps ts) xs) ≡ true
-series_names ps xs ts h = rw (none_named-placed ps ts) h
 
 -- whether a tree is refused only as too large
 abbrev IsOnlyLarge : Tree → Type 0

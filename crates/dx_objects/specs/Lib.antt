@@ -1,6 +1,5 @@
 pub mod Nodes
 pub mod Shown
-pub mod Order
 pub mod PartsFall
 pub mod View
 pub mod Falls

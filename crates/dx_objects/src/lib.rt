@@ -3,7 +3,6 @@
 #![tactic(auto)]
 
 mod kinds;
-mod laws;
 mod library;
 mod lookup;
 mod makers;
@@ -21,7 +20,6 @@ mod with;
 pub use dx_arrays::{Array, ArrayClass, ArrayError, ElemType, Shape, in_range};
 pub use dx_base::{Code, Module, NativeKind};
 pub use kinds::Kind;
-pub use laws::component_law;
 pub use library::{Library, Recorder, Run};
 pub use makers::ObjectError;
 pub use measure::{MAX_COUNT, MAX_LEVELS, MAX_SIZE, Measure};

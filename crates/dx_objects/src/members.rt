@@ -1,6 +1,5 @@
 // Groups and series with other members.
 ghost use Rattle.std.specs.Prelude.{◌≡◌, IfOk, MatchOption, None};
-ghost use Rattle.dx_base.specs.Object as spec;
 ghost use Rattle.dx_base.specs.ObjectLimits.{unplaced};
 ghost use Rattle.dx_base.specs.ObjectMembers.{placed, composite_or_group};
 ghost use Rattle.dx_objects.specs.Makes.{Makes};
@@ -8,9 +7,8 @@ ghost use Rattle.dx_objects.specs.Members.{GivesMembers, members_of, regrouped, 
 
 use crate::makers::ObjectError;
 use crate::names::are_all_fields;
-use crate::object::{Body, NamedParts, Object, Part};
+use crate::object::{Body, NamedParts, Object};
 use crate::parts::Parts;
-use crate::with::copy_of_name;
 use std::alloc::{AllocError, Global};
 use std::rc::Rc;
 use thiserror::Error;
@@ -85,7 +83,7 @@ impl Body {
     }
 }
 
-#[tactic(auto, using(crate::proofs::MembersLaws::unplaced_fields))]
+#[tactic(auto, using(dx_object_laws::proofs::PlacedLaws::unplaced_fields))]
 // A composite group where the members are all fields, and else a group.
 fn composite_or_group(members: Parts, attributes: Parts) -> Result<Object, ObjectError>
     ensures { Makes (composite_or_group (unplaced members) (unplaced attributes)) result }
@@ -94,19 +92,6 @@ fn composite_or_group(members: Parts, attributes: Parts) -> Result<Object, Objec
         Object::composite(members, attributes)
     } else {
         Object::group(members, attributes)
-    }
-}
-
-impl Part {
-    // The same part with this object.
-    fn copy_with(&self, alloc: Global, object: &Rc<Object>) -> Result<Part, AllocError>
-        ensures { IfOk result (λ p. spec.part p.name p.position p.object.value spec.no_parts ≡ spec.part self.now.name self.now.position object.now.value spec.no_parts) }
-    {
-        Ok(Part {
-            name: copy_of_name(alloc, &self.name)?,
-            position: self.position,
-            object: object.clone()?,
-        })
     }
 }
 

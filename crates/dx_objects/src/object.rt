@@ -37,7 +37,7 @@ impl Model for NamedParts {
     ghost coded = { coded_parts };
 
     ghost use Rattle.dx_objects.specs.Shown.{parts_of};
-    ghost use Rattle.dx_objects.specs.Order.{AreOrdered};
+    ghost use Rattle.dx_object_laws.specs.Order.{AreOrdered};
 
     ghost view = { λ a. parts_of a.items.items };
 

@@ -3,7 +3,7 @@ ghost use Rattle.std.specs.Prelude.{◌≡◌, ◌<◌, length, None, Some, true
 ghost use Rattle.std.specs.List.{range_with_len};
 ghost use Rattle.dx_base.specs.ObjectNames as spec_names;
 ghost use Rattle.dx_base.specs.ObjectLimits.{differ};
-ghost use Rattle.dx_objects.specs.Order.{name_at as spec_name_at, rank_cmp, share_name, IsOrder, AreOrdered};
+ghost use Rattle.dx_object_laws.specs.Order.{name_at as spec_name_at, rank_cmp, share_name, IsOrder, AreOrdered};
 ghost use Rattle.dx_objects.specs.Shown.{parts_of};
 ghost use Rattle.dx_objects.specs.declared.makers.ObjectError.TheVariants.{BadNames};
 
@@ -69,7 +69,7 @@ fn in_order(parts: &[Part], places: Vec<usize>) -> Vec<usize>
     order
 }
 
-#[tactic(auto, using(crate::proofs::OrderLaws::not_differ_in_order, crate::proofs::OrderLaws::all_differ_in_order))]
+#[tactic(auto, using(dx_object_laws::proofs::OrderLaws::not_differ_in_order, dx_object_laws::proofs::OrderLaws::all_differ_in_order))]
 // Whether the names that stand differ: equal ones are neighbours in the order.
 fn do_differ(parts: &[Part], order: &[usize]) -> bool
     requires { IsOrder (parts_of parts.now) order.now }

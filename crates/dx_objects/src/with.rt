@@ -89,7 +89,7 @@ impl Object {
     }
 }
 
-pub(crate) fn copy_of_name(alloc: Global, name: &Option<Bytes>) -> Result<Option<Bytes>, AllocError>
+fn copy_of_name(alloc: Global, name: &Option<Bytes>) -> Result<Option<Bytes>, AllocError>
     ensures { IfOk result (λ n. n ≡ name.now) }
 {
     match name {
@@ -107,6 +107,17 @@ impl Part {
             name: copy_of_name(alloc, &self.name)?,
             position: self.position,
             object: self.object.clone()?,
+        })
+    }
+
+    // The same part with this object.
+    pub(crate) fn copy_with(&self, alloc: Global, object: &Rc<Object>) -> Result<Part, AllocError>
+        ensures { IfOk result (λ p. spec.part p.name p.position p.object.value spec.no_parts ≡ spec.part self.now.name self.now.position object.now.value spec.no_parts) }
+    {
+        Ok(Part {
+            name: copy_of_name(alloc, &self.name)?,
+            position: self.position,
+            object: object.clone()?,
         })
     }
 }
@@ -138,12 +149,12 @@ impl Parts {
         let mut copy = Parts::new(alloc);
         let mut is_placed = false;
         for part in parts {
-            let mut own = part.copy(alloc)?;
             if !is_placed && is_named(part, name) {
-                own.object = object.clone()?;
+                copy.push(part.copy_with(alloc, &object)?)?;
                 is_placed = true;
+            } else {
+                copy.push(part.copy(alloc)?)?;
             }
-            copy.push(own)?;
         }
         if !is_placed {
             copy.push(Part {

@@ -16,7 +16,7 @@ use Rattle.dx_objects.specs.declared.run_fail.RunFail.TheVariants as fail
 use Rattle.dx_objects.specs.declared.makers.ObjectError.{ObjectError}
 use Rattle.dx_objects.specs.declared.makers.ObjectError.TheVariants as refused
 use Rattle.dx_objects.proofs.PartsLaws.{append_assoc, append-no_parts}
-use Rattle.dx_objects.proofs.PutLaws.{by_bool}
+use Rattle.dx_object_laws.proofs.PutLaws.{by_bool}
 use Rattle.dx_select.specs.Answered.{Answered, ◌>>=◌, in_limits, GivesParts}
 use Rattle.dx_select.specs.Collect.{member, members, Place, name_place, at_position, place, pair, paired, named_group, position, GivesPart, Grows, code_of}
 use Rattle.dx_select.specs.declared.collect.Beside.{Beside}

@@ -10,8 +10,8 @@ use Rattle.dx_base.specs.ObjectNames.{same_name, find, component, put, without}
 use Rattle.dx_objects.specs.Makes.{Makes, refusal}
 use Rattle.dx_objects.specs.declared.makers.ObjectError.{ObjectError}
 use Rattle.dx_objects.specs.declared.makers.ObjectError.TheVariants as refused
-use Rattle.dx_objects.proofs.PutLaws.{by_bool, all_named-put, differ-put, all_arrays-put, unplaced-put}
-use Rattle.dx_objects.proofs.TakeLaws.{all_named-without, differ-without, all_arrays-without, unplaced-without}
+use Rattle.dx_object_laws.proofs.PutLaws.{by_bool, all_named-put, differ-put, all_arrays-put, unplaced-put}
+use Rattle.dx_object_laws.proofs.TakeLaws.{all_named-without, differ-without, all_arrays-without, unplaced-without}
 use Rattle.dx_select.specs.Components.{AreComponents}
 use Rattle.dx_select.specs.Inputs.{data_name, saved_name}
 use Rattle.dx_select.specs.Mark.{with_saved, with_data, restored, remade}

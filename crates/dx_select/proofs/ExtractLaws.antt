@@ -15,7 +15,7 @@ use Rattle.dx_objects.specs.Shown.{parts_of}
 use Rattle.dx_objects.specs.declared.object.Part.{Part}
 use Rattle.dx_objects.specs.declared.run_fail.RunFail.{RunFail}
 use Rattle.dx_objects.specs.declared.run_fail.RunFail.TheVariants as fail
-use Rattle.dx_objects.proofs.PutLaws.{by_bool}
+use Rattle.dx_object_laws.proofs.PutLaws.{by_bool}
 use Rattle.dx_objects.proofs.LawfulLaws.{allowed_of}
 use Rattle.dx_select.specs.Answered.{Answered, ◌>>=◌, or_refused, needed, GivesObject, GivesObjects}
 use Rattle.dx_select.specs.Extract.{extracted, all_extracted}

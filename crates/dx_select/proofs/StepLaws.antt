@@ -14,7 +14,7 @@ use Rattle.dx_base.specs.ObjectNumbers.{steps_by_ints, all_step_by_ints, has_int
 use Rattle.dx_objects.specs.Kinds.{text_of}
 use Rattle.dx_objects.specs.Runs.{Values}
 use Rattle.dx_objects.specs.Values.{value_at}
-use Rattle.dx_objects.proofs.PutLaws.{by_bool}
+use Rattle.dx_object_laws.proofs.PutLaws.{by_bool}
 use Rattle.dx_select.specs.Answered.{Answered, ◌>>=◌, or_refused, needed, in_limits, one_result}
 use Rattle.dx_select.specs.Inputs.{data_name, saved_name, field_in, text_in, name_or_data}
 use Rattle.dx_select.specs.Select.{at_place, at_number, chosen_by, chosen, unless_used, has_members, can_choose, selected, select_answer}

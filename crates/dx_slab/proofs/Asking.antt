@@ -13,7 +13,7 @@ use Rattle.dx_fields.specs.Grids.{positions_name, connections_name, points_of, w
 use Rattle.dx_objects.specs.Kinds.{text_of}
 use Rattle.dx_objects.specs.Runs.{Values}
 use Rattle.dx_objects.specs.Values.{value_at}
-use Rattle.dx_objects.proofs.PutLaws.{by_bool}
+use Rattle.dx_object_laws.proofs.PutLaws.{by_bool}
 use Rattle.dx_slab.specs.Answered.{Answered, ◌>>=◌, or_refused}
 use Rattle.dx_slab.specs.Components.{data_name}
 use Rattle.dx_slab.specs.Inputs.{counts_in, grid_in, with_data, unless_fault, none_refers, has_data_for, either_of, below, dimension_in, position_in, thickness_in, placed, asked_by, asked_in}

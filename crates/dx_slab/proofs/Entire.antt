@@ -11,7 +11,7 @@ use Rattle.dx_base.specs.ObjectNames.{same_name, find}
 use Rattle.dx_objects.specs.Runs.{Gives}
 use Rattle.dx_objects.specs.declared.run_fail.RunFail.{RunFail}
 use Rattle.dx_objects.specs.declared.run_fail.RunFail.TheVariants as fail
-use Rattle.dx_objects.proofs.PutLaws.{by_bool}
+use Rattle.dx_object_laws.proofs.PutLaws.{by_bool}
 use Rattle.dx_slab.specs.Answered.{Answered, in_limits, one_result}
 use Rattle.dx_slab.specs.Components.{role, is_dropped, cut_component, cut_parts}
 use Rattle.dx_slab.specs.Gives.{GivesTree, GivesParts, Grows}

@@ -8,7 +8,7 @@ use Rattle.dx_base.specs.Object.{Tree, PartList, array, text, field, group, comp
 use Rattle.dx_base.specs.ObjectLimits.{is_array, all_arrays}
 use Rattle.dx_base.specs.ObjectNames.{same_name, find}
 use Rattle.dx_fields.specs.Grids.{positions_name, connections_name, point_counts, points_of, cells_of, without_ones, are_joined, grid_counts}
-use Rattle.dx_objects.proofs.PutLaws.{by_bool}
+use Rattle.dx_object_laws.proofs.PutLaws.{by_bool}
 use Rattle.dx_slab.specs.Components.{role, is_of_cells, has_no_cells, is_dropped, cut_component, cut_parts}
 use Rattle.dx_slab.specs.Cuts.{cut_counts, cut_class, joined_counts}
 use Rattle.dx_slab.specs.Laws.{GivesGrid}

@@ -16,7 +16,7 @@ use Rattle.dx_arrays.proofs.Blocks.{roomy}
 use Rattle.dx_arrays.proofs.Cells.{corners-le, pow_pos}
 use Rattle.dx_arrays.proofs.InType.{connections_in_type}
 use Rattle.dx_fields.specs.Grids.{cell_counts, without_ones}
-use Rattle.dx_objects.proofs.PutLaws.{by_bool}
+use Rattle.dx_object_laws.proofs.PutLaws.{by_bool}
 use Rattle.dx_slab.specs.Cuts.{cut_counts, cells_along, cell_extents, first_cell, cells_kept, joined_counts, cut_connections}
 use Rattle.dx_slab.specs.Lawful.{IsCutOf}
 use Rattle.dx_slab.specs.declared.cut.Cut.{Cut}

@@ -8,7 +8,7 @@ use Rattle.dx_base.specs.Elem.{byte_count}
 use Rattle.dx_base.specs.Array.{ArrayData, Class, plain, constant, regular, grid_positions, grid_connections, product, item, width, array_size, stated_bytes}
 use Rattle.dx_base.specs.Object.{Tree, PartList, array, text, field, group, composite, series, no_parts, part, parts, attributes, levels, deepest, count, total_count, size, total_size, part_count}
 use Rattle.dx_base.specs.ObjectLimits.{fits, none_named}
-use Rattle.dx_objects.proofs.PutLaws.{by_bool}
+use Rattle.dx_object_laws.proofs.PutLaws.{by_bool}
 use Rattle.dx_slab.specs.Answer.{series_of}
 use Rattle.dx_slab.specs.Answered.{in_limits}
 use Rattle.dx_slab.specs.Components.{role, is_dropped, cut_array, cut_component, cut_parts, slab, slabs}

@@ -16,7 +16,7 @@ use Rattle.dx_fields.specs.Faults.{first_fault, component_fault, dep_fault, ref_
 use Rattle.dx_fields.specs.Grids.{positions_name, connections_name, point_counts, cell_counts, points_of, cells_of, without_ones, are_counts, are_joined}
 use Rattle.dx_fields.specs.References.{dep_name, ref_name, target, item_count}
 use Rattle.dx_objects.specs.Kinds.{text_of}
-use Rattle.dx_objects.proofs.PutLaws.{by_bool}
+use Rattle.dx_object_laws.proofs.PutLaws.{by_bool}
 use Rattle.dx_slab.specs.Components.{data_name, dependence, role_by, role}
 use Rattle.dx_slab.specs.Cuts.{cell_extents}
 use Rattle.dx_slab.specs.Inputs.{has_data_for}

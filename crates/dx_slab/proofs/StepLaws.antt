@@ -15,7 +15,7 @@ use Rattle.dx_arrays.proofs.InType.{all-of}
 use Rattle.dx_fields.specs.Grids.{point_counts}
 use Rattle.dx_objects.specs.Runs.{Values}
 use Rattle.dx_objects.specs.Values.{value_at}
-use Rattle.dx_objects.proofs.PutLaws.{by_bool}
+use Rattle.dx_object_laws.proofs.PutLaws.{by_bool}
 use Rattle.dx_slab.specs.Answer.{slab_answer, slab_asked}
 use Rattle.dx_slab.specs.Answered.{Answered, ◌>>=◌, needed, in_limits, one_result}
 use Rattle.dx_slab.specs.Components.{role, cut_array, cut_component, cut_parts, slab, slabs}

@@ -1,6 +1,6 @@
 use Rattle.std.proofs.Common.{sym, arith}
 use Rattle.dx_objects.specs.Shown.{parts_of}
-use Rattle.dx_objects.proofs.OrderLaws.{all_differ_in_order}
+use Rattle.dx_object_laws.proofs.OrderLaws.{all_differ_in_order}
 use Rattle.dx_objects.proofs.order.do_differ.Goals as goal
 
 pub returns : goal.returns

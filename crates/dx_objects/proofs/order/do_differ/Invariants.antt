@@ -1,5 +1,5 @@
 use Rattle.std.proofs.Common.{◌≡◌, ◌<◌, ◌+◌, ℕ, false, get_or}
-use Rattle.dx_objects.specs.Order.{name_at, share_name}
+use Rattle.dx_object_laws.specs.Order.{name_at, share_name}
 use Rattle.dx_objects.specs.Shown.{parts_of}
 use Rattle.dx_objects.proofs.order.do_differ.Given as goal
 

@@ -2,9 +2,10 @@ use Rattle.std.proofs.Common.{rules, Some}
 use Rattle.std.specs.Cmp.Lexicographic.{nat_list_cmp_total}
 use Rattle.std.proofs.lemmas.List.Sorted.{searchable_from_sorted}
 use Rattle.std.proofs.lemmas.Fn.{always_returns_same}
-use Rattle.dx_objects.specs.Order.{name_at, rank, rank_cmp}
+use Rattle.dx_object_laws.specs.Order.{name_at, rank, rank_cmp}
 use Rattle.dx_objects.specs.Shown.{parts_of}
-use Rattle.dx_objects.proofs.OrderLaws.{has_name, name_below, isn't_in_order}
+use Rattle.dx_object_laws.proofs.OrderLaws.{has_name, isn't_in_order}
+use Rattle.dx_objects.proofs.OrderLaws.{name_below}
 use Rattle.dx_objects.proofs.order.find_place.Goals as goal
 
 pub returns-in-Ok-clause-some : goal.returns-in-Ok-clause-some

@@ -2,7 +2,7 @@ use Rattle.std.proofs.Common.{rules}
 use Rattle.std.specs.Cmp.Lexicographic.{nat_list_cmp_total}
 use Rattle.std.proofs.lemmas.List.Sorted.{ranks_by}
 use Rattle.std.proofs.lemmas.Fn.{always_returns_same}
-use Rattle.dx_objects.specs.Order.{name_at, rank, comes_before}
+use Rattle.dx_object_laws.specs.Order.{name_at, rank, comes_before}
 use Rattle.dx_objects.specs.Shown.{parts_of}
 use Rattle.dx_objects.proofs.OrderLaws.{order_made}
 use Rattle.dx_objects.proofs.order.in_order.Goals as goal

@@ -5,7 +5,8 @@ use Rattle.dx_base.specs.ObjectLimits.{IsAllowed, is_array, unplaced}
 use Rattle.dx_objects.specs.Makes.{refusal}
 use Rattle.dx_objects.specs.View.{tree_of}
 use Rattle.dx_objects.proofs.LawfulLaws.{allowed_of}
-use Rattle.dx_objects.proofs.PutLaws.{not-fits-put, fits-put, unplaced-put}
+use Rattle.dx_object_laws.proofs.PutLaws.{unplaced-put}
+use Rattle.dx_objects.proofs.PutLaws.{not-fits-put, fits-put}
 use Rattle.dx_objects.proofs.object.Object.with_component.Goals as goal
 
 pub returns-in-Err : goal.returns-in-Err

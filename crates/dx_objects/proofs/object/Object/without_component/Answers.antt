@@ -5,7 +5,8 @@ use Rattle.dx_base.specs.ObjectLimits.{IsAllowed, unplaced}
 use Rattle.dx_objects.specs.Makes.{refusal}
 use Rattle.dx_objects.specs.View.{tree_of}
 use Rattle.dx_objects.proofs.LawfulLaws.{allowed_of}
-use Rattle.dx_objects.proofs.TakeLaws.{refusal-without, unplaced-without}
+use Rattle.dx_object_laws.proofs.TakeLaws.{unplaced-without}
+use Rattle.dx_objects.proofs.TakeLaws.{refusal-without}
 use Rattle.dx_objects.proofs.object.Object.without_component.Goals as goal
 
 pub returns-in-Err : goal.returns-in-Err

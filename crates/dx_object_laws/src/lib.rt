@@ -1,4 +1,7 @@
-// Laws of the definitions, each as a function that does nothing and ensures it.
+//! The laws of lists of parts: what a name finds, the order of names, and what stays where a part is put, taken out or
+//! replaced. They are of the trees alone; the objects stand on them.
+#![tactic(auto)]
+
 ghost use Rattle.std.specs.Prelude.{◌≡◌, ◌≢◌, ℕ, List, Some, None, IsTrue};
 ghost use Rattle.dx_base.specs.Object.{Tree, PartList};
 ghost use Rattle.dx_base.specs.ObjectNames.{find, put, without};

@@ -1,5 +1,5 @@
-use Rattle.dx_objects.proofs.FindLaws.{find-put_own, find-put_other, find-without_own, find-without_other}
-use Rattle.dx_objects.proofs.laws.component_law.Goals as goal
+use Rattle.dx_object_laws.proofs.FindLaws.{find-put_own, find-put_other, find-without_own, find-without_other}
+use Rattle.dx_object_laws.proofs.component_law.Goals as goal
 
 pub returns-clause-put : goal.returns-clause-put
 returns-clause-put c = find-put_own

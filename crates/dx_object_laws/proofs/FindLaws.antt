@@ -6,7 +6,7 @@ use Rattle.std.proofs.lemmas.Slice.Eq.{bytes_eq-Decides}
 use Rattle.dx_base.specs.Object.{Tree, PartList, no_parts, part}
 use Rattle.dx_base.specs.ObjectNames.{same_name, find, put, without}
 use Rattle.dx_base.specs.ObjectLimits.{lacks, differ}
-use Rattle.dx_objects.proofs.PutLaws.{by_bool}
+use Rattle.dx_object_laws.proofs.PutLaws.{by_bool}
 
 own_name : (n : List ℕ) → bytes_eq n n ≡ true
 own_name n = (bytes_eq-Decides n n).1 refl

@@ -1,0 +1,5 @@
+pub mod PutLaws
+pub mod TakeLaws
+pub mod FindLaws
+pub mod PlacedLaws
+pub mod OrderLaws
