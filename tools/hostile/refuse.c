@@ -5,8 +5,6 @@
    HOSTILE_CHILD: a file for what a child prints
    HOSTILE_STATUS: the status of the program where nothing is refused
    HOSTILE_FROM, HOSTILE_EVERY: the number of the first allocation that is refused, and of how many each is
-   HOSTILE_KEEPS: a child frees nothing. In a large process what is freed writes over every page, and each page that a
-   child writes over is copied first: that is most of its time
    HOSTILE_REPORT: a file for one line about each child that ended otherwise than it may, and one for all
 
    A child may end with 7 and a front of the text, or as if nothing had been refused. */
@@ -29,11 +27,10 @@ static void *(*next_calloc)(size_t, size_t);
 static void *(*next_realloc)(void *, size_t);
 static int (*next_posix_memalign)(void **, size_t, size_t);
 static void *(*next_aligned_alloc)(size_t, size_t);
-static void (*next_free)(void *);
 static ssize_t (*next_write)(int, const void *, size_t);
 static ssize_t (*next_writev)(int, const struct iovec *, int);
 
-static int is_ready, is_child, keeps, whole_status, report;
+static int is_ready, is_child, whole_status, report;
 static long count, first = 1, every = 1, ended_with_7, ended_as_ever, otherwise;
 static size_t written, whole_length;
 static const char *whole, *child_file;
@@ -55,7 +52,6 @@ static void say(const char *form, ...) {
 static void find(void) {
     next_malloc = dlsym(RTLD_NEXT, "malloc");
     next_realloc = dlsym(RTLD_NEXT, "realloc");
-    next_free = dlsym(RTLD_NEXT, "free");
     next_posix_memalign = dlsym(RTLD_NEXT, "posix_memalign");
     next_aligned_alloc = dlsym(RTLD_NEXT, "aligned_alloc");
     next_write = dlsym(RTLD_NEXT, "write");
@@ -131,7 +127,6 @@ __attribute__((constructor)) static void begin(void) {
     whole_status = (int)number("HOSTILE_STATUS", 0);
     first = number("HOSTILE_FROM", 1);
     every = number("HOSTILE_EVERY", 1);
-    keeps = number("HOSTILE_KEEPS", 0) != 0;
     unsetenv("LD_PRELOAD");
     is_ready = 1;
 }
@@ -153,11 +148,6 @@ void *calloc(size_t n, size_t size) {
 
 void *realloc(void *at, size_t size) {
     return is_refused() ? NULL : next_realloc(at, size);
-}
-
-void free(void *at) {
-    if (!next_free || (is_child && keeps)) return;
-    next_free(at);
 }
 
 int posix_memalign(void **at, size_t align, size_t size) {
