@@ -14,8 +14,8 @@ use std::alloc::Global;
 /// What a call without the attribute `cache` has: all its results are kept.
 const DEFAULT_CACHE: u8 = 1;
 
-/// How many arguments get room at first, where there is more than one.
-const SOME_ARGS: usize = 4;
+/// How many arguments get room at first, where there is more than one: as many as Import has inputs.
+const SOME_ARGS: usize = 6;
 
 /// The value of an attribute `cache`, if it is one.
 fn cache_value(value: Const) -> Option<u8>

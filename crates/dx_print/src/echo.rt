@@ -12,13 +12,16 @@ use dx_base::Bytes;
 use dx_objects::{Object, Outs, RunFail, Value};
 use std::alloc::{AllocError, Global};
 
+/// How many bytes of a line get room at first.
+const ROOM: usize = 64;
+
 /// The line that Echo prints of its inputs, with its newline. Between two inputs stands one space. A text is printed as
 /// its bytes, a number in decimal, and anything else as its header, which is `NULL` for NULL. An array is a number where
 /// its rank is 0 and it has one item. Echo has no refusal (User's Reference, Echo).
 pub fn echo_text(alloc: Global, inputs: &Outs) -> Result<Bytes, RunFail>
     ensures { Echoes (echo_of inputs.now) result }
 {
-    let mut line = Vec::new(alloc);
+    let mut line = Vec::with_capacity(alloc, ROOM)?;
     push_words(&mut line, inputs.as_slice())?;
     line.extend_from_slice(b"\n")?;
     Ok(Bytes::from_vec(line))

@@ -12,6 +12,9 @@ use dx_base::{Bytes, Code};
 use dx_objects::{Object, Outs, RunFail, Value};
 use std::alloc::{AllocError, Global};
 
+/// How many bytes of a text get room at first.
+const ROOM: usize = 512;
+
 /// What Print prints of its three inputs: object, options, component. The options are NULL, which is taken as `o`, or
 /// a text of letters in any order and number: the header of the object is printed, with `D` also the items of an array, with
 /// `d` of more than 50 the first 25, a line `...` and the last 25, and with `r` also its parts and attributes, to any
@@ -31,7 +34,7 @@ pub fn print_text(alloc: Global, inputs: &Outs) -> Result<Bytes, RunFail>
     };
     let detail = detail_of(options).map_err(RunFail::Code)?;
     let object = chosen(object, component).map_err(RunFail::Code)?;
-    let mut text = Vec::new(alloc);
+    let mut text = Vec::with_capacity(alloc, ROOM)?;
     push_text(&mut text, object, detail)?;
     Ok(Bytes::from_vec(text))
 }
