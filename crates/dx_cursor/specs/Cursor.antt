@@ -32,6 +32,11 @@ abbrev pub Given : List ℕ → Place → Result (Result Token SyntaxError) Pars
 Given text at (Ok current) = IsReadAt text at current
 Given text at (Err f) = f ≡ fail.Memory
 
+-- the same, where the token is put into a variable
+abbrev pub GivenIn : {A : Type 0} → List ℕ → Place → Result Token SyntaxError → Result A ParseFail → Type 0
+GivenIn text at current (Ok a) = IsReadAt text at current
+GivenIn text at current (Err f) = f ≡ fail.Memory
+
 -- what is wrong with a token that doesn't fit
 abbrev pub refusal_of : Result Token SyntaxError → SyntaxError
 refusal_of (Ok t) = misfit (lexeme_of t)

@@ -1,13 +1,13 @@
 //! The tokens that are left of a text, with one of them in hand.
 
-ghost use Rattle.std.specs.Prelude.{◌≡◌, IfOk, IfErr};
+ghost use Rattle.std.specs.Prelude.{◌≡◌, IfOk, IfErr, OnErr};
 ghost use Rattle.dx_base.specs.Tokens.Reading.{IsReached};
 ghost use Rattle.dx_ast.specs.Classes as class;
 ghost use Rattle.dx_ast.specs.Script.{tokens_of};
 ghost use Rattle.dx_grammar.specs.Stream as stream;
 ghost use Rattle.dx_script_grammar.specs.Reading as reading;
 ghost use Rattle.dx_cursor.specs.Answers.{Reads};
-ghost use Rattle.dx_cursor.specs.Cursor.{Given, refusal_of};
+ghost use Rattle.dx_cursor.specs.Cursor.{Given, GivenIn, refusal_of};
 
 use crate::fail::ParseFail;
 use crate::words::{frame_named, is_reserved, is_word, state_named};
@@ -64,6 +64,22 @@ fn read<'a>(
     }
 }
 
+/// Puts the token at a place, or its error, where another stands. Nothing else reads a token, so that LLVM makes it where it
+/// stays.
+fn read_into<'a>(
+    alloc: Global,
+    text: &'a [u8],
+    at: Place,
+    current: &mut Result<Token<'a>, SyntaxError>,
+) -> Result<(), ParseFail>
+    requires { IsReached text.now at }
+    ensures given { GivenIn text.now at current.new result }
+    ensures left { OnErr result (current.new ≡ current.old) }
+{
+    *current = read(alloc, text, at)?;
+    Ok(())
+}
+
 /// What is wrong with a token that doesn't fit.
 fn refusal(current: &Result<Token<'_>, SyntaxError>) -> ParseFail
     ensures { result ≡ ParseFail.Refused (refusal_of current.now) }
@@ -85,7 +101,8 @@ impl<'a> Cursor<'a> {
             line: 1,
             column: 1,
         };
-        let current = read(alloc, text, start)?;
+        let mut current = Err(NOWHERE);
+        read_into(alloc, text, start, &mut current)?;
         Ok(Cursor { text, current })
     }
 
@@ -216,7 +233,7 @@ impl<'a> Cursor<'a> {
                 },
             ) if !is_reserved(name) => {
                 let found = (*from, Bytes::copy_of(alloc, name)?);
-                self.current = read(alloc, self.text, *to)?;
+                read_into(alloc, self.text, *to, &mut self.current)?;
                 Ok(found)
             }
             _ => Err(refusal(&self.current)),
@@ -231,7 +248,7 @@ impl<'a> Cursor<'a> {
         match mem::replace(&mut self.current, Err(NOWHERE)) {
             Ok(Token { kind, from, to }) => match kind {
                 TokenKind::Text(text) => {
-                    self.current = read(alloc, self.text, to)?;
+                    read_into(alloc, self.text, to, &mut self.current)?;
                     Ok((from, text))
                 }
                 kind => {
@@ -260,7 +277,7 @@ impl<'a> Cursor<'a> {
                 },
             ) => {
                 let found = (*from, *n);
-                self.current = read(alloc, self.text, *to)?;
+                read_into(alloc, self.text, *to, &mut self.current)?;
                 Ok(found)
             }
             _ => Err(refusal(&self.current)),
@@ -282,7 +299,7 @@ impl<'a> Cursor<'a> {
             ) => match frame_named(word) {
                 Some(frame) => {
                     let found = (*from, frame);
-                    self.current = read(alloc, self.text, *to)?;
+                    read_into(alloc, self.text, *to, &mut self.current)?;
                     Ok(found)
                 }
                 None => Err(refusal(&self.current)),
@@ -305,7 +322,7 @@ impl<'a> Cursor<'a> {
                 },
             ) if is_word(found, sign) => {
                 let place = *from;
-                self.current = read(alloc, self.text, *to)?;
+                read_into(alloc, self.text, *to, &mut self.current)?;
                 Ok(place)
             }
             _ => Err(refusal(&self.current)),
@@ -326,7 +343,7 @@ impl<'a> Cursor<'a> {
                 },
             ) if is_word(found, word) => {
                 let place = *from;
-                self.current = read(alloc, self.text, *to)?;
+                read_into(alloc, self.text, *to, &mut self.current)?;
                 Ok(place)
             }
             _ => Err(refusal(&self.current)),
@@ -348,7 +365,7 @@ impl<'a> Cursor<'a> {
             ) => match state_named(switch, word) {
                 Some(state) => {
                     let found = (*from, state);
-                    self.current = read(alloc, self.text, *to)?;
+                    read_into(alloc, self.text, *to, &mut self.current)?;
                     Ok(found)
                 }
                 None => Err(refusal(&self.current)),

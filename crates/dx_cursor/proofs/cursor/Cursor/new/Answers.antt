@@ -1,5 +1,5 @@
 use Rattle.dx_base.specs.Tokens.Reading.{start}
 use Rattle.dx_cursor.proofs.cursor.Cursor.new.Goals as goal
 
-pub read-requires : goal.read-requires
-read-requires c = start
+pub read_into-requires : goal.read_into-requires
+read_into-requires c = start
