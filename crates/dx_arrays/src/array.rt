@@ -1,4 +1,4 @@
-// An array, the calls that make one from stored values, one item for all, lines and grids, and those that read it.
+//! An array, the calls that make one from stored values, one item for all, lines and grids, and those that read it.
 ghost use Rattle.std.specs.Prelude.{◌≡◌, ◌<◌, ◌≤◌, ◌^◌, ◌/◌, ◌∷◌, [], length, None, Some, MatchOption, MatchResult};
 ghost use Rattle.dx_base.specs.Array as spec;
 ghost use Rattle.dx_base.specs.Array.{ArrayData};

@@ -1,4 +1,4 @@
-// Reads the values of many items in one call, line by line, so that no value costs the arithmetic of its index.
+//! Reads the values of many items in one call, line by line, so that no value costs the arithmetic of its index.
 ghost use Rattle.std.specs.Prelude.{◌≡◌, ◌<◌, ◌≤◌, ◌+◌, ◌-◌, ◌*◌, ◌++◌, OnOk, OnErr, List, ℤ, pos, ◌+ℤ◌, length, slice_index_or};
 ghost use Rattle.std.specs.Vec.{vec_len, vec_capacity};
 ghost use Rattle.dx_base.specs.Array.{items, item as spec_item, width as spec_width};

@@ -1,4 +1,4 @@
-// Lists of extents and of counts.
+//! Lists of extents and of counts.
 ghost use Rattle.std.specs.Prelude.{◌≡◌, ◌<◌, ◌≤◌, ◌^◌, ◌*◌, ◌&&◌, take, [], ◌∷◌, min, length, IsTrue, MatchOption, false, nat_le};
 ghost use Rattle.std.specs.List.{list_all};
 ghost use Rattle.dx_base.specs.Array.{product, cells};

@@ -1,4 +1,4 @@
-// The points and the cells of grids, by the numbers that they have where the last index varies fastest.
+//! The points and the cells of grids, by the numbers that they have where the last index varies fastest.
 ghost use Rattle.std.specs.Prelude.{◌≡◌, ◌<◌, ◌≤◌, ◌*◌, ◌^◌, ◌+ℤ◌, length, All, FitsSigned, slice_index};
 ghost use Rattle.std.specs.Int.{w64};
 ghost use Rattle.dx_base.specs.Array.{product, cells, indices_of, offset, corner_numbers};

@@ -1,4 +1,4 @@
-// Laws of the definitions, each as a function that does nothing and ensures it.
+//! Laws of the definitions, each as a function that does nothing and ensures it.
 ghost use Rattle.std.specs.Prelude.{◌≡◌, ◌<◌, ◌+ℤ◌, ◌≤ℤ◌, List, ℕ, ℤ, length, All};
 ghost use Rattle.std.specs.List.{Contains};
 ghost use Rattle.std.specs.List.Sorted.{IsStrictlyIncreasing};

@@ -1,4 +1,4 @@
-// Steps with signed numbers, each with its result as a whole number. Sums are made in 128 bits.
+//! Steps with signed numbers, each with its result as a whole number. Sums are made in 128 bits.
 ghost use Rattle.std.specs.Prelude.{◌≡◌, pos, ◌+ℤ◌, ◌*ℤ◌, FitsSigned};
 ghost use Rattle.std.specs.Int.{w64};
 ghost use Rattle.dx_base.specs.Elem.{in_range as spec_in_range};

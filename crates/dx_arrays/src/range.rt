@@ -1,5 +1,5 @@
-// Whether the values of a whole array are of its type. Lines and grids are decided from their ends, without going
-// over their items.
+//! Whether the values of a whole array are of its type. Lines and grids are decided from their ends, without going
+//! over their items.
 ghost use Rattle.std.specs.Prelude.{◌≡◌, ◌<◌, ◌≤◌, ◌+◌, ◌*◌, ◌%◌, ◌^◌, ◌∷◌, [], ◌+ℤ◌, ◌&&◌, length, All};
 ghost use Rattle.std.specs.List.{list_all};
 ghost use Rattle.dx_base.specs.Elem.{in_range as spec_in_range};

@@ -1,10 +1,9 @@
 //! The cache: entries stand in slots, over which a chain of all entries and one of each site's run, the oldest first; a
 //! table leads from tags to slots, and one from sites to the ends of their chains.
 
-ghost use Rattle.std.specs.Prelude.{◌≡◌, ◌⊎◌, ℕ, ◌+◌, ◌-◌, ◌<◌, ◌≤◌, ◌↔◌, [], ◌∷◌, ◌++◌, Some, None, length, OnOk, OnErr, IfSome, IfNone, OnSome, IsTrue, IsSome, MatchOption, ◌==◌, true, false, vec_len, vec_capacity, is_some, slice_get};
+ghost use Rattle.std.specs.Prelude.{◌≡◌, ℕ, ◌+◌, ◌-◌, ◌<◌, ◌≤◌, [], ◌∷◌, ◌++◌, Some, None, length, OnOk, MatchOption, true, false, is_some, slice_get};
 ghost use Rattle.std.specs.List.{remove};
-ghost use Rattle.dx_base.specs.Object.{results_size};
-ghost use Rattle.dx_cache.specs.Cached.{Cached, total, find, moved, place, has_tag, of_site, next_place, Drops, IsTagAt};
+ghost use Rattle.dx_cache.specs.Cached.{Cached, total, find, moved, place, has_tag, next_place, Drops, IsTagAt};
 ghost use Rattle.dx_cache.specs.Sound.{AreKept, IsBounded, IsKept};
 
 use crate::chains::{Ends, Link, after_steps, no_ends, put_last, take_out};

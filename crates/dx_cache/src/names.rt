@@ -1,7 +1,7 @@
 //! The sites of slots, each with the ends of its chain. The table's key is the bytes of one of the site's slots, and that
 //! slot knows their place there; each other slot of the site keeps its own. So a site goes in and comes out with no copy.
 
-ghost use Rattle.std.specs.Prelude.{◌≡◌, ◌+◌, ◌≤◌, ◌<◌, ℕ, [], ◌∷◌, ◌++◌, List, Some, None, OnOk, OnErr, IfSome, slice_get, slice_set, bytes_eq, vec_len, map};
+ghost use Rattle.std.specs.Prelude.{◌≡◌, ◌+◌, ◌≤◌, ◌<◌, ℕ, [], ◌∷◌, ◌++◌, List, Some, None, OnOk, OnErr, slice_get, slice_set, bytes_eq, vec_len, map};
 ghost use Rattle.std.specs.Prelude.{if◌then◌else◌};
 ghost use Rattle.std.specs.List.{IsDistinct};
 ghost use Rattle.std.specs.Map.{lookup, keys_of};

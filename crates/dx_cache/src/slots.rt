@@ -1,11 +1,10 @@
 //! The slots of a cache, and what is done to them.
 
-ghost use Rattle.std.specs.Prelude.{◌≡◌, ◌∷◌, ◌++◌, ◌<◌, ◌≤◌, ◌+◌, List, ℕ, None, Some, [], OnOk, OnErr, IfSome, length, slice_get, slice_set, vec_len, vec_capacity, bytes_eq};
+ghost use Rattle.std.specs.Prelude.{◌≡◌, ◌∷◌, ◌++◌, ◌<◌, ◌+◌, None, Some, [], OnOk, OnErr, slice_get, slice_set, vec_len, bytes_eq};
 ghost use Rattle.std.specs.Map.{lookup};
-ghost use Rattle.dx_cache.specs.Chain.{IsChain, AreApart, IsOut};
 ghost use Rattle.dx_cache.specs.Tied.{next_slot, tag_in};
 
-use crate::chains::{Ends, Link, alone, put_last};
+use crate::chains::{Link, alone};
 use crate::names::Names;
 use dx_base::Bytes;
 use dx_objects::Outs;

@@ -1,4 +1,4 @@
-//! Tests of the cache: thousands of random calls against a plain list, and what the calls cost.
+//! Tests of the cache: thousands of random calls against a plain list.
 #![tactic(auto)]
 
 #[cfg(test)]

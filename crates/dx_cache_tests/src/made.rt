@@ -1,4 +1,4 @@
-// Entries of rows, and how one is kept.
+//! Entries of rows, and how one is kept.
 ghost use Rattle.std.specs.Prelude.{◌≡◌, ◌≤◌, ◌<◌, None};
 ghost use Rattle.dx_cache.specs.Cached.{find};
 ghost use Rattle.dx_cache.specs.Sound.{IsKept};

@@ -1,4 +1,4 @@
-// A cache as a plain list, the oldest entry first: what the calls are to do, written again on its own.
+//! A cache as a plain list, the oldest entry first: what the calls are to do, written again on its own.
 use std::alloc::{AllocError, Global};
 
 /// An entry without its results.

@@ -1,4 +1,4 @@
-// Random calls against a plain list.
+//! Random calls against a plain list.
 ghost use Rattle.std.specs.Prelude.{◌<◌};
 
 use crate::made::{entry, keep};

@@ -20,7 +20,7 @@ use dx_macros::{CheckFail, Dictionary};
 use std::alloc::{AllocError, Global};
 use std::marker::Model;
 
-/// How often a definition may be looked at again, for each definition that there is.
+/// How many looks there may be for each definition that there is, and for each call that a walk may have.
 const MOST_LOOKS: u64 = 16;
 
 /// How many calls a walk may have.

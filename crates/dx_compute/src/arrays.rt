@@ -1,4 +1,4 @@
-// The arrays that inputs stand for, and how many items they have.
+//! The arrays that inputs stand for, and how many items they have.
 ghost use Rattle.std.specs.Prelude.{◌≡◌, ◌≤◌, true, Some, Ok, Err, IfSome};
 ghost use Rattle.dx_base.specs.Answers.{IsEither};
 ghost use Rattle.dx_base.specs.ArrayLimits.{is_shape, max_items};

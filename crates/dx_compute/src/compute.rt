@@ -1,4 +1,4 @@
-// The array of an expression over arrays.
+//! The array of an expression over arrays.
 ghost use Rattle.std.specs.Prelude.{◌≡◌, ◌≤◌, ◌<◌, ◌*◌, ◌%◌, true, length, option_map, Some, IfOk};
 ghost use Rattle.std.specs.List.{list_all};
 ghost use Rattle.dx_base.specs.Answers.{refused};

@@ -1,4 +1,4 @@
-// The expression, which is the first input.
+//! The expression, which is the first input.
 ghost use Rattle.std.specs.Prelude.{◌≡◌, true, None, Some, IfOk, MatchOption};
 ghost use Rattle.dx_base.specs.Answers.{Answers};
 ghost use Rattle.dx_objects.specs.Values.{value_at};

@@ -1,4 +1,4 @@
-// Arrays as the inputs of an expression.
+//! Arrays as the inputs of an expression.
 ghost use Rattle.std.specs.Prelude.{◌≡◌, ◌<◌, IsTrue};
 ghost use Rattle.dx_base.specs.Array.{items as items_in, value as value_at, width as width_of};
 ghost use Rattle.dx_compute_meaning.specs.Arrays.{item_counts};

@@ -1,12 +1,16 @@
-// Groups and series among the inputs, and their members at one place.
-ghost use Rattle.std.specs.Prelude.{◌≡◌, map, IfOk};
+//! Groups and series: those among the inputs, their members at one place, and one with other members.
+ghost use Rattle.std.specs.Prelude.{◌≡◌, true, map, IfOk};
+ghost use Rattle.dx_base.specs.Answers.{Answers};
 ghost use Rattle.dx_base.specs.Object.{parts as spec_parts};
 ghost use Rattle.dx_objects.specs.Shown.{parts_of};
+ghost use Rattle.dx_compute_meaning.specs.Compute.{in_limits, remade as spec_remade};
 ghost use Rattle.dx_compute_meaning.specs.Operands as spec;
-ghost use Rattle.dx_compute_meaning.specs.Shown.{shown, shown_one, first_of};
+ghost use Rattle.dx_compute_meaning.specs.Shown.{shown, shown_one, first_of, code_in, objects_of};
 
-use dx_objects::{Kind, Object, Part};
+use dx_base::Code;
+use dx_objects::{Kind, MembersError, Object, Part, RunFail};
 use std::alloc::{AllocError, Global};
+use std::rc::Rc;
 
 fn has_members(object: &Object) -> bool
     ensures { result ≡ spec.has_members object.now }
@@ -107,4 +111,22 @@ pub(crate) fn all_at_place<'a>(
         found.push(at_place(*operand, place))?;
     }
     Ok(found)
+}
+
+/// The group or series with these members in the places of its own: names, positions and attributes stay, and a
+/// composite group stays one where all of them are fields. TooLarge, where that is beyond the limits of objects.
+pub(crate) fn remade(
+    alloc: Global,
+    group: &Object,
+    objects: &[Rc<Object>],
+) -> Result<Object, RunFail>
+    requires { spec.has_members group.now ≡ true }
+    ensures { Answers code_in (in_limits (spec_remade group.now (objects_of objects.now))) result }
+{
+    match group.with_members(alloc, objects) {
+        Ok(object) => Ok(object),
+        Err(MembersError::TooLarge) => Err(RunFail::Code(Code::TooLarge)),
+        Err(MembersError::Memory) => Err(RunFail::Memory),
+        Err(MembersError::NotAGroup) => unreachable!(),
+    }
 }

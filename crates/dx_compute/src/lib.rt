@@ -6,7 +6,6 @@ mod compute;
 mod expression;
 mod given;
 mod groups;
-mod members;
 mod operands;
 mod place;
 mod ranges;

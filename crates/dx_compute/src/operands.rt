@@ -1,4 +1,4 @@
-// The inputs that an expression speaks of.
+//! The inputs that an expression speaks of.
 ghost use Rattle.std.specs.Prelude.{◌≡◌, ◌≤◌, length, IfOk};
 ghost use Rattle.dx_objects.specs.Values.{value_of, values_of, value_at};
 ghost use Rattle.dx_compute_meaning.specs.Operands as spec;

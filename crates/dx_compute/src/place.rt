@@ -1,4 +1,4 @@
-// The answer over arrays and fields: an array by itself, or in the place of the data of the first field.
+//! The answer over arrays and fields: an array by itself, or in the place of the data of the first field.
 ghost use Rattle.std.specs.Prelude.{◌≡◌, true, ℕ, Some, None, IfOk};
 ghost use Rattle.dx_base.specs.Answers.{Answers};
 ghost use Rattle.dx_base.specs.Array.{ArrayData};

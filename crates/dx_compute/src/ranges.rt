@@ -1,4 +1,4 @@
-// Where the values of arrays lie in a run of items.
+//! Where the values of arrays lie in a run of items.
 ghost use Rattle.std.specs.Prelude.{◌≡◌, ◌<◌, ◌≤◌, ◌+◌, ◌≤ℤ◌, ℕ, ℤ, [], ◌∷◌, Some, IfOk, IfSome};
 ghost use Rattle.dx_base.specs.Array.{items as items_in, value as value_at, width as width_of};
 ghost use Rattle.dx_arrays.specs.Classes.{kind_of};

@@ -1,4 +1,4 @@
-// The run of Compute: its checks, and groups and series level by level.
+//! The run of Compute: its checks, and groups and series level by level.
 ghost use Rattle.std.specs.Prelude.{◌≡◌, ◌≤◌, ◌∷◌, [], true, drop, map, length, Some, Ok, Err, IfOk};
 ghost use Rattle.std.specs.List.{range_with_len};
 ghost use Rattle.dx_base.specs.Answers.{Answers, IsEither};
@@ -6,16 +6,15 @@ ghost use Rattle.dx_base.specs.Modules.{Takes};
 ghost use Rattle.dx_base.specs.declared.function.Module.TheVariants.{Compute};
 ghost use Rattle.dx_objects.specs.Runs.{Gives};
 ghost use Rattle.dx_objects.specs.Values.{values_of};
+ghost use Rattle.dx_steps.specs.Steps.{all_step};
 ghost use Rattle.dx_expr_bounds.specs.Bounds.{is_bounded};
-ghost use Rattle.dx_compute_laws.specs.Steps.{all_step};
 ghost use Rattle.dx_compute_meaning.specs.Answered.{collected};
 ghost use Rattle.dx_compute_meaning.specs.Compute as spec;
 ghost use Rattle.dx_compute_meaning.specs.Operands.{used as spec_used, all_at_place as spec_all_at_place};
 ghost use Rattle.dx_compute_meaning.specs.Shown.{shown, code_in, objects_of};
 
 use crate::expression::expression_in;
-use crate::groups::{all_at_place, are_alike, first_group};
-use crate::members::remade;
+use crate::groups::{all_at_place, are_alike, first_group, remade};
 use crate::operands::{all_given, occurring, used};
 use crate::place::{over_arrays, shared};
 use dx_base::{Code, Items};

@@ -1,5 +1,5 @@
-// The first fault of all items by runs: a run is left out where it is certain, from where the inputs' values lie in it,
-// that none of its items has a fault.
+//! The first fault of all items by runs: a run is left out where it is certain, from where the inputs' values lie in it,
+//! that none of its items has a fault.
 ghost use Rattle.std.specs.Prelude.{◌≡◌, ◌<◌, ◌≤◌, true, Ok, IfOk, IsSome};
 ghost use Rattle.dx_base.specs.Answers.{Answers, refused};
 ghost use Rattle.dx_expr.specs.Shape.{shape_of as spec_shape_of};

@@ -1,4 +1,4 @@
-// Where the values of arrays of numbers stand, so that they are read as slices.
+//! Where the values of arrays of numbers stand, so that they are read as slices.
 ghost use Rattle.std.specs.Prelude.{◌≡◌, ◌∷◌, [], true, Some, ℤ};
 ghost use Rattle.dx_base.specs.Elem.{in_range};
 ghost use Rattle.dx_expr.specs.Value.{is_int};

@@ -1,17 +1,18 @@
 -- From inputs of which all origins and deltas are ints Compute makes such an object.
-use Rattle.std.proofs.Common.{◌≡◌, ℕ, zero, suc, ◌+◌, Bool, true, false, List, [], ◌∷◌, Option, Some, None, Result, Ok, Err, drop, refl, sym, ap, subst, ◌∙◌}
-use Rattle.std.specs.Prelude.{map, ◌&&◌, ◌==◌, if◌then◌else◌}
+use Rattle.std.proofs.Common.{◌≡◌, ℕ, zero, suc, ◌+◌, Bool, true, false, List, [], ◌∷◌, Option, Some, None, Ok, Err, drop, refl, sym, ap, subst, ◌∙◌}
+use Rattle.std.specs.Prelude.{map, ◌&&◌, if◌then◌else◌}
 use Rattle.std.specs.List.{list_all, range_with_len}
-use Rattle.dx_base.specs.declared.code.Code.{Code}
 use Rattle.dx_base.specs.declared.code.Code.TheVariants as code
 use Rattle.dx_base.specs.Array.{ArrayData}
 use Rattle.dx_base.specs.Object.{Tree, PartList, array, text, field, group, composite, series, no_parts, part, parts, attributes}
-use Rattle.dx_base.specs.ObjectLimits.{fits, is_field, all_fields}
+use Rattle.dx_base.specs.ObjectLimits.{fits, is_field}
 use Rattle.dx_base.specs.ObjectMembers as members
-use Rattle.dx_base.specs.ObjectNames.{find, put, same_name, with_component}
+use Rattle.dx_base.specs.ObjectNames.{with_component}
 use Rattle.dx_base.specs.ObjectNumbers.{steps_by_ints, all_step_by_ints, has_int_steps}
 use Rattle.dx_objects.specs.Kinds as kinds
 use Rattle.dx_objects.specs.Values.{value_at}
+use Rattle.dx_steps.specs.Steps.{value_steps, all_step, KeepsSteps}
+use Rattle.dx_steps.proofs.PartLaws.{parts_steps, attributes_steps, find_steps, with_steps, placed_steps, either_steps}
 use Rattle.dx_expr_grammar.specs.declared.tree.Expression.{Expression}
 use Rattle.dx_expr.specs.Shape.{shape_of}
 use Rattle.dx_expr.specs.Uses.{uses}
@@ -21,7 +22,6 @@ use Rattle.dx_compute_meaning.specs.Arrays.{Arrays, data_name, stands_for, array
 use Rattle.dx_compute_meaning.specs.Compute.{answer, answer_within, over_arrays, over_groups, finished, placed, in_place_of, with_data, limited, in_limits, remade, first_field, as_field, or_next, has_items}
 use Rattle.dx_compute_meaning.specs.Expressions.{expression_in}
 use Rattle.dx_compute_meaning.specs.Operands.{Operands, occurring, if_used, used, all_given, groups, as_group, before_groups, has_members, member_count, are_all, at_place, all_at_place, object_at}
-use Rattle.dx_compute_laws.specs.Steps.{value_steps, all_step}
 
 and_of : (a b : Bool) → (a && b) ≡ true → (a ≡ true) × (b ≡ true)
 and_of true true h = (refl, refl)
@@ -51,30 +51,6 @@ limits_step u h t e = by (fits u) e
 
 -- ---- arrays and fields
 
-find_steps : (n : List ℕ) (ps : PartList) (t : Tree) → all_step_by_ints ps ≡ true → find n ps ≡ Some t → Steps t
-find_steps n no_parts t h e = absurd cc
-find_steps n (part m p u ps) t h e = by (same_name n m) (and_of (steps_by_ints u) (all_step_by_ints ps) h) (find_steps n ps t) e
-  where
-    by : (b : Bool) → (steps_by_ints u ≡ true) × (all_step_by_ints ps ≡ true) → (all_step_by_ints ps ≡ true → find n ps ≡ Some t → Steps t) → (if b then Some u else find n ps) ≡ Some t → Steps t
-    by true both ih e = let same : u ≡ t = cc in subst Steps same both.0
-    by false both ih e = ih both.1 e
-
-put_steps : (n : List ℕ) (t : Tree) (ps : PartList) → Steps t → all_step_by_ints ps ≡ true → all_step_by_ints (put n t ps) ≡ true
-put_steps n t no_parts h g = and_to h refl
-put_steps n t (part m p u ps) h g = by (same_name n m) (and_of (steps_by_ints u) (all_step_by_ints ps) g) (put_steps n t ps h)
-  where
-    by : (b : Bool) → (steps_by_ints u ≡ true) × (all_step_by_ints ps ≡ true) → (all_step_by_ints ps ≡ true → all_step_by_ints (put n t ps) ≡ true) → all_step_by_ints (if b then part m p t ps else part m p u (put n t ps)) ≡ true
-    by true both ih = and_to h both.1
-    by false both ih = and_to both.0 (ih both.1)
-
-attributes_step : (t : Tree) → Steps t → all_step_by_ints (attributes t) ≡ true
-attributes_step (array a xs) h = (and_of (has_int_steps a.class) (all_step_by_ints xs) h).1
-attributes_step (text b xs) h = h
-attributes_step (field ps xs) h = (and_of (all_step_by_ints ps) (all_step_by_ints xs) h).1
-attributes_step (group ps xs) h = (and_of (all_step_by_ints ps) (all_step_by_ints xs) h).1
-attributes_step (composite ps xs) h = (and_of (all_step_by_ints ps) (all_step_by_ints xs) h).1
-attributes_step (series ps xs) h = (and_of (all_step_by_ints ps) (all_step_by_ints xs) h).1
-
 stands_step : (t before : Tree) → Steps t → stands_for t ≡ Some before → Steps before
 stands_step (array a xs) before h e = let same : array a xs ≡ before = cc in subst Steps same h
 stands_step (text b xs) before h e = absurd cc
@@ -87,23 +63,12 @@ stands_step (series ps xs) before h e = absurd cc
 abbrev IsPlain : ArrayData → Type 0
 IsPlain a = has_int_steps a.class ≡ true
 
-component_step : (t whole u : Tree) → Steps t → Steps whole → with_component data_name t whole ≡ Some u → Steps u
-component_step t (field ps xs) u h g e =
-    let both = and_of (all_step_by_ints ps) (all_step_by_ints xs) g in
-    let same : field (put data_name t ps) xs ≡ u = cc in
-    subst Steps same (and_to (put_steps data_name t ps h both.0) both.1)
-component_step t (array a xs) u h g e = absurd cc
-component_step t (text b xs) u h g e = absurd cc
-component_step t (group ps xs) u h g e = absurd cc
-component_step t (composite ps xs) u h g e = absurd cc
-component_step t (series ps xs) u h g e = absurd cc
-
 data_step : (a : ArrayData) (before whole : Tree) → IsPlain a → Steps before → Steps whole → Gives Steps (with_data a before whole)
 data_step a before whole p h g t e = by (with_component data_name (array a (attributes before)) whole) refl e
   where
     by : (o : Option Tree) → with_component data_name (array a (attributes before)) whole ≡ o → or_refused code.NoComponent o ≡ Ok t → Steps t
     by None is e = absurd cc
-    by (Some u) is e = let same : u ≡ t = cc in subst Steps same (component_step (array a (attributes before)) whole u (and_to p (attributes_step before h)) g is)
+    by (Some u) is e = let same : u ≡ t = cc in subst Steps same (with_steps data_name (array a (attributes before)) whole u (and_to p (attributes_steps before h)) g is)
 
 in_place_step : (n : ℕ) (a : ArrayData) (whole : Tree) → IsPlain a → Steps whole → (o : Option Tree) → stands_for whole ≡ o → Gives Steps (in_place_of n a whole o)
 in_place_step n a whole p g None is t e = absurd cc
@@ -158,20 +123,12 @@ object_step no_parts i h = refl
 object_step (part n p t ps) zero h = (and_of (steps_by_ints t) (all_step_by_ints ps) h).0
 object_step (part n p t ps) (suc i) h = object_step ps i (and_of (steps_by_ints t) (all_step_by_ints ps) h).1
 
-parts_step : (t : Tree) → Steps t → all_step_by_ints (parts t) ≡ true
-parts_step (array a xs) h = refl
-parts_step (text b xs) h = refl
-parts_step (field ps xs) h = (and_of (all_step_by_ints ps) (all_step_by_ints xs) h).0
-parts_step (group ps xs) h = (and_of (all_step_by_ints ps) (all_step_by_ints xs) h).0
-parts_step (composite ps xs) h = (and_of (all_step_by_ints ps) (all_step_by_ints xs) h).0
-parts_step (series ps xs) h = (and_of (all_step_by_ints ps) (all_step_by_ints xs) h).0
-
 place_step : (i : ℕ) (v : Option Tree) → value_steps v ≡ true → value_steps (at_place i v) ≡ true
 place_step i None h = refl
 place_step i (Some t) h = by (has_members t)
   where
     by : (b : Bool) → value_steps (if b then object_at (parts t) i else Some t) ≡ true
-    by true = object_step (parts t) i (parts_step t h)
+    by true = object_step (parts t) i (parts_steps t h)
     by false = h
 
 places_step : (i : ℕ) (vs : Operands) → all_step vs ≡ true → all_step (all_at_place i vs) ≡ true
@@ -186,27 +143,13 @@ collected_step f each (k ∷ ks) ts h =
     let same : t.0 ∷ us.0 ≡ ts = let g = us.2 in cc in
     ap (list_all steps_by_ints) (sym same) ∙ and_to (each k t.0 t.1) (collected_step f each ks us.0 us.1)
 
-members_step : (ps : PartList) (ts : List Tree) → all_step_by_ints ps ≡ true → list_all steps_by_ints ts ≡ true → all_step_by_ints (members.placed ps ts) ≡ true
-members_step no_parts ts h g = refl
-members_step (part n p u ps) [] h g = h
-members_step (part n p u ps) (t ∷ ts) h g =
-    let one = and_of (steps_by_ints t) (list_all steps_by_ints ts) g in
-    and_to one.0 (members_step ps ts (and_of (steps_by_ints u) (all_step_by_ints ps) h).1 one.1)
-
-composite_step : (ps xs : PartList) → all_step_by_ints ps ≡ true → all_step_by_ints xs ≡ true → Steps (members.composite_or_group ps xs)
-composite_step ps xs h g = by (all_fields ps)
-  where
-    by : (b : Bool) → Steps (if b then composite ps xs else group ps xs)
-    by true = and_to h g
-    by false = and_to h g
-
 remade_step : (t : Tree) (ts : List Tree) → Steps t → list_all steps_by_ints ts ≡ true → Steps (remade t ts)
 remade_step (array a xs) ts h g = h
 remade_step (text b xs) ts h g = h
 remade_step (field ps xs) ts h g = h
-remade_step (group ps xs) ts h g = let both = and_of (all_step_by_ints ps) (all_step_by_ints xs) h in and_to (members_step ps ts both.0 g) both.1
-remade_step (composite ps xs) ts h g = let both = and_of (all_step_by_ints ps) (all_step_by_ints xs) h in composite_step (members.placed ps ts) xs (members_step ps ts both.0 g) both.1
-remade_step (series ps xs) ts h g = let both = and_of (all_step_by_ints ps) (all_step_by_ints xs) h in and_to (members_step ps ts both.0 g) both.1
+remade_step (group ps xs) ts h g = let both = and_of (all_step_by_ints ps) (all_step_by_ints xs) h in and_to (placed_steps ps ts both.0 g) both.1
+remade_step (composite ps xs) ts h g = let both = and_of (all_step_by_ints ps) (all_step_by_ints xs) h in either_steps (members.placed ps ts) xs (placed_steps ps ts both.0 g) both.1
+remade_step (series ps xs) ts h g = let both = and_of (all_step_by_ints ps) (all_step_by_ints xs) h in and_to (placed_steps ps ts both.0 g) both.1
 
 group_step : (v : Option Tree) → value_steps v ≡ true → value_steps (as_group v) ≡ true
 group_step None h = refl
@@ -261,7 +204,7 @@ behind_step : (vs : Operands) → all_step vs ≡ true → all_step (drop 1 vs) 
 behind_step [] h = refl
 behind_step (v ∷ vs) h = (and_of (value_steps v) (all_step vs) h).1
 
-pub answer_steps : (inputs results : List (Option Tree)) → all_step inputs ≡ true → answer inputs ≡ Ok results → all_step results ≡ true
+pub answer_steps : KeepsSteps answer
 answer_steps inputs results h is =
     let e = made_of (expression_in (value_at inputs 0)) (λ e. answer_within 64 e (occurring e 0 (drop 1 inputs)) >>= λ t. Ok (Some t ∷ [])) results is in
     let t = made_of (answer_within 64 e.0 (occurring e.0 0 (drop 1 inputs))) (λ t. Ok (Some t ∷ [])) results e.2 in

@@ -5,17 +5,16 @@ use Rattle.std.specs.Prelude.{IsOk, map, IfSome, option_map, if◌then◌else◌
 use Rattle.std.specs.List.{list_all, range_with_len}
 use Rattle.std.proofs.lemmas.Bool.Decides.{nat_tests}
 use Rattle.std.specs.Cmp.Derive.{both_true}
-use Rattle.dx_base.specs.Answers.{Answers, IsEither, refused}
-use Rattle.dx_base.specs.Array.{ArrayData, Class, plain, constant, regular, grid_positions, grid_connections, array_size, product, cells, items, items_of}
+use Rattle.dx_base.specs.Answers.{IsEither, refused}
+use Rattle.dx_base.specs.Array.{ArrayData, Class, plain, constant, regular, grid_positions, grid_connections, product, cells, items, items_of}
 use Rattle.dx_base.specs.ArrayLimits.{is_shape, has_grid, has_shape, has_room, has_lengths, is_in_type, value_count, value_count_of, max_items, max_values, IsLawfulArray}
 use Rattle.dx_base.specs.Elem.{in_range}
 use Rattle.dx_base.specs.declared.elem.ElemType.TheVariants.{Int}
 use Rattle.dx_base.specs.declared.code.Code.{Code}
-use Rattle.dx_base.specs.declared.code.Code.TheVariants as code
 use Rattle.dx_base.specs.declared.fail.Fail.{Fail}
 use Rattle.dx_base.specs.declared.fail.Fail.TheVariants as fails
 use Rattle.dx_base.specs.Object.{Tree}
-use Rattle.dx_base.specs.ObjectLimits.{max_size, is_field, fits}
+use Rattle.dx_base.specs.ObjectLimits.{is_field}
 use Rattle.dx_arrays.specs.Makes.{refusal, Makes}
 use Rattle.dx_arrays.specs.declared.array.ArrayError.{ArrayError}
 use Rattle.dx_arrays.proofs.InType.{plain_in_type}
@@ -31,11 +30,11 @@ use Rattle.dx_expr.specs.Value.{Inputs, Outcome, Values, value_of, joined, size}
 use Rattle.dx_expr.proofs.Lengths as lengths
 use Rattle.dx_expr_eval.specs.Items.{all_values, faultless}
 use Rattle.dx_expr_eval.proofs.Joining.{range_next}
-use Rattle.dx_compute_meaning.specs.Answered.{Answered, ◌>>=◌, or_refused, collected}
-use Rattle.dx_compute_meaning.specs.Arrays.{Arrays, given, fault_code, or_code, int_array, array_of, computed, item_count, item_counts, arrays_for}
+use Rattle.dx_compute_meaning.specs.Answered.{Answered, ◌>>=◌, collected}
+use Rattle.dx_compute_meaning.specs.Arrays.{Arrays, given, fault_code, or_code, int_array, array_of, computed, item_count, item_counts}
 use Rattle.dx_compute_meaning.specs.Operands.{Operands, are_all}
-use Rattle.dx_compute_meaning.specs.Compute.{as_field, or_next, first_field, finished, over_arrays, placed, limited, in_limits, remade, over_groups}
-use Rattle.dx_compute_meaning.specs.Shown.{code_in, IsTooLarge, IsFound, Computes, behind}
+use Rattle.dx_compute_meaning.specs.Compute.{as_field, or_next, first_field}
+use Rattle.dx_compute_meaning.specs.Shown.{code_in, IsTooLarge, Computes, behind}
 use Rattle.dx_compute_meaning.proofs.Shapes.{size_is}
 
 -- ---- a plain array of ints

@@ -1,6 +1,5 @@
 pub mod Parsing
 pub mod Shapes
-pub mod Members
 pub mod Listing
 pub mod Places
 pub mod Making

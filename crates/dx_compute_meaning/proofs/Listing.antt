@@ -1,17 +1,14 @@
 -- The code's loops over lists: what is done, and what the definitions make of the rest.
-use Rattle.std.proofs.Common.{◌≡◌, ℕ, Bool, true, false, List, [], ◌∷◌, Option, Some, None, Bor, Ok, Err, refl, sym, ap, ◌∙◌}
+use Rattle.std.proofs.Common.{◌≡◌, ℕ, Bool, List, [], ◌∷◌, Option, Some, None, Bor, refl, ap}
 use Rattle.std.specs.Prelude.{map, ◌==◌, ◌&&◌}
 use Rattle.std.specs.List.{list_all}
-use Rattle.std.specs.declared.rc.Rc.{Rc}
-use Rattle.std.specs.declared.alloc.Global.{Global}
 use Rattle.dx_base.specs.Array.{ArrayData}
 use Rattle.dx_base.specs.Object.{Tree}
-use Rattle.dx_base.specs.ObjectLimits.{is_field}
 use Rattle.dx_compute_meaning.specs.Operands as operands
 use Rattle.dx_compute_meaning.specs.Operands.{groups, as_group, before_groups, member_count, are_all}
 use Rattle.dx_compute_meaning.specs.Arrays as arrays
 use Rattle.dx_compute_meaning.specs.Arrays.{item_counts, other_count, before_counts}
-use Rattle.dx_compute_meaning.specs.Shown.{shown, shown_one, shown_arrays, shown_array, objects_of, all_are_fields}
+use Rattle.dx_compute_meaning.specs.Shown.{shown, shown_one, shown_arrays, shown_array}
 
 all_groups_by : (n : ℕ) (v : Option Tree) (gs : List Tree) (rest : Bool) → rest ≡ are_all n (map member_count gs) →
     (operands.fits_in n v && rest) ≡ are_all n (map member_count (before_groups v gs))
@@ -29,7 +26,3 @@ all_counts_by n (Some m) ns rest h = ap (λ b. (m == n) && b) h
 pub all_counts : (n : ℕ) (vs : List (Option (Bor ArrayData))) → list_all (λ a. arrays.fits_in n (other_count (shown_array a))) vs ≡ are_all n (item_counts (shown_arrays vs))
 all_counts n [] = refl
 all_counts n (v ∷ vs) = all_counts_by n (other_count (shown_array v)) (item_counts (shown_arrays vs)) _ (all_counts n vs)
-
-pub all_objects : (os : List (Rc Tree Global)) → list_all (λ (o : Rc Tree Global). is_field o.value) os ≡ all_are_fields (objects_of os)
-all_objects [] = refl
-all_objects (o ∷ os) = ap (λ b. is_field o.value && b) (all_objects os)

@@ -1,32 +1,26 @@
 -- Which objects are made of others: what is refused is too large.
-use Rattle.std.proofs.Common.{◌≡◌, ℕ, ◌+◌, ◌*◌, ◌<◌, ◌≤◌, max, Bool, true, false, List, [], ◌∷◌, Option, Some, None, Result, Ok, Err, length, refl, sym, ap, subst, ◌∙◌, arith}
-use Rattle.std.specs.Prelude.{not, pos, nat_le, IsTrue, ◌&&◌, if◌then◌else◌, IfSome}
-use Rattle.std.specs.List.{list_all}
+use Rattle.std.proofs.Common.{◌≡◌, ℕ, ◌<◌, ◌≤◌, Bool, true, false, List, Some, None, Ok, Err, refl, sym, ap, ◌∙◌, arith}
+use Rattle.std.specs.Prelude.{nat_le, ◌&&◌, if◌then◌else◌}
 use Rattle.std.proofs.lemmas.Bool.Decides.{nat_tests}
-use Rattle.dx_base.specs.Answers.{Answers}
 use Rattle.dx_base.specs.Array.{ArrayData, array_size}
-use Rattle.dx_base.specs.declared.code.Code.{Code}
 use Rattle.dx_base.specs.declared.code.Code.TheVariants as code
-use Rattle.dx_base.specs.Object.{Tree, PartList, array, text, field, group, composite, series, no_parts, part, parts, attributes, levels, deepest, count, total_count, size, total_size, part_count}
-use Rattle.dx_base.specs.ObjectLimits.{IsAllowed, IsLawful, HasNoPositions, fits, unplaced, differ, all_named, none_named, all_fields, is_field, is_array, has_good_names, has_array_components, has_field_members, max_size}
-use Rattle.dx_base.specs.ObjectMembers.{placed, with_members, composite_or_group}
+use Rattle.dx_base.specs.Object.{Tree, PartList, array, text, field, group, composite, series, no_parts, part, attributes, levels, deepest, count, total_count, size, total_size}
+use Rattle.dx_base.specs.ObjectLimits.{IsLawful, fits, unplaced, differ, all_named, is_field, is_array, has_good_names, has_array_components, has_field_members, max_size}
+use Rattle.dx_base.specs.ObjectMembers.{placed, composite_or_group}
 use Rattle.dx_base.specs.ObjectNames.{put, same_name, with_component}
-use Rattle.dx_objects.specs.declared.kinds.Kind.{Kind}
-use Rattle.dx_objects.specs.declared.kinds.Kind.TheVariants as kind
 use Rattle.dx_objects.specs.declared.makers.ObjectError.{ObjectError}
 use Rattle.dx_objects.specs.declared.makers.ObjectError.TheVariants as error
-use Rattle.dx_objects.specs.declared.with.WithError.{WithError}
+use Rattle.dx_objects.specs.declared.members.MembersError.TheVariants as members_error
 use Rattle.dx_objects.specs.declared.with.WithError.TheVariants as with_error
-use Rattle.dx_objects.specs.Kinds.{kind_of, is_composite, array_of}
+use Rattle.dx_objects.specs.Kinds.{array_of}
 use Rattle.dx_objects.specs.Makes.{Makes, refusal}
+use Rattle.dx_objects.specs.Members.{GivesMembers}
 use Rattle.dx_objects.specs.With.{GivesWith}
-use Rattle.dx_objects.proofs.LawfulLaws.{allowed_of}
 use Rattle.dx_compute_meaning.specs.Answered.{Answered, or_refused}
 use Rattle.dx_compute_meaning.specs.Arrays.{data_name, stands_for}
 use Rattle.dx_compute_meaning.specs.Compute.{in_limits, limited, with_data, remade, has_items, finished}
-use Rattle.dx_compute_meaning.specs.Operands.{has_members, member_count}
-use Rattle.dx_compute_meaning.specs.Shown.{like, has_no_places, IsTooLarge}
-use Rattle.dx_compute_meaning.proofs.Members.{differ_placed, none_named_placed, unplaced_placed}
+use Rattle.dx_compute_meaning.specs.Operands.{has_members}
+use Rattle.dx_compute_meaning.specs.Shown.{IsTooLarge}
 
 -- ---- what a maker says of the limits
 
@@ -38,10 +32,6 @@ pub record IsGood (t : Tree) : Type 0 where
 refused_if : (t : Tree) → IsGood t → refusal t ≡ (if fits t then None else Some error.TooLarge)
 refused_if t h = rw (h.names, h.components, h.members) refl
 
-fits_by : (b : Bool) → (if b then None else Some error.TooLarge) ≡ None → b ≡ true
-fits_by true h = refl
-fits_by false h = absurd cc
-
 too_large_by : (b : Bool) (e : ObjectError) → (if b then None else Some error.TooLarge) ≡ Some e → b ≡ false
 too_large_by true e h = absurd cc
 too_large_by false e h = refl
@@ -51,12 +41,6 @@ in_limits_fits t h = rw h refl
 
 pub in_limits_large : (t : Tree) → fits t ≡ false → in_limits t ≡ Err code.TooLarge
 in_limits_large t h = rw h refl
-
-pub made_ok : (t o : Tree) → IsGood t → Makes t (Ok o) → in_limits t ≡ Ok o
-made_ok t o good h = in_limits_fits t (fits_by (fits t) (sym (refused_if t good) ∙ h.1)) ∙ ap (λ u. Ok u) (sym h.0)
-
-pub made_large : (t : Tree) (e : ObjectError) → IsGood t → Makes t (Err e) → in_limits t ≡ Err code.TooLarge
-made_large t e good h = in_limits_large t (too_large_by (fits t) e (sym (refused_if t good) ∙ h))
 
 pub not_fitting : (t : Tree) (e : ObjectError) → IsGood t → Makes t (Err e) → fits t ≡ false
 not_fitting t e good h = too_large_by (fits t) e (sym (refused_if t good) ∙ h)
@@ -157,74 +141,33 @@ put_large n t (group ps xs) is h = absurd cc
 put_large n t (composite ps xs) is h = absurd cc
 put_large n t (series ps xs) is h = absurd cc
 
--- ---- groups and series
+-- ---- groups and series with other members
 
-pub like_series : (t : Tree) (ps xs : PartList) → kind_of t ≡ kind.Series → like t ps xs ≡ series ps xs
-like_series (series qs ys) ps xs h = refl
-like_series (array a ys) ps xs h = absurd cc
-like_series (text b ys) ps xs h = absurd cc
-like_series (field qs ys) ps xs h = absurd cc
-like_series (group qs ys) ps xs h = absurd cc
-like_series (composite qs ys) ps xs h = absurd cc
+pub members_ok : (ts : List Tree) (t o : Tree) → has_members t ≡ true → GivesMembers ts t (Ok o) → in_limits (remade t ts) ≡ Ok o
+members_ok ts (group ps xs) o is h = in_limits_fits (group (placed ps ts) xs) h.1 ∙ ap (λ u. Ok u) (sym h.0)
+members_ok ts (composite ps xs) o is h = in_limits_fits (composite_or_group (placed ps ts) xs) h.1 ∙ ap (λ u. Ok u) (sym h.0)
+members_ok ts (series ps xs) o is h = in_limits_fits (series (placed ps ts) xs) h.1 ∙ ap (λ u. Ok u) (sym h.0)
+members_ok ts (array a xs) o is h = absurd cc
+members_ok ts (text b xs) o is h = absurd cc
+members_ok ts (field ps xs) o is h = absurd cc
 
-pub like_composite : (t : Tree) (ps xs : PartList) → is_composite t ≡ true → all_fields ps ≡ true → like t ps xs ≡ composite ps xs
-like_composite (composite qs ys) ps xs h g = rw g refl
-like_composite (series qs ys) ps xs h g = absurd cc
-like_composite (array a ys) ps xs h g = absurd cc
-like_composite (text b ys) ps xs h g = absurd cc
-like_composite (field qs ys) ps xs h g = absurd cc
-like_composite (group qs ys) ps xs h g = absurd cc
+pub members_large : (ts : List Tree) (t : Tree) → has_members t ≡ true → GivesMembers ts t (Err members_error.TooLarge) → in_limits (remade t ts) ≡ Err code.TooLarge
+members_large ts (group ps xs) is h = in_limits_large (group (placed ps ts) xs) h
+members_large ts (composite ps xs) is h = in_limits_large (composite_or_group (placed ps ts) xs) h
+members_large ts (series ps xs) is h = in_limits_large (series (placed ps ts) xs) h
+members_large ts (array a xs) is h = absurd cc
+members_large ts (text b xs) is h = absurd cc
+members_large ts (field ps xs) is h = absurd cc
 
-pub like_group : (t : Tree) (ps xs : PartList) → (kind_of t ≡ kind.Series → ⊥) → (is_composite t ≡ true → all_fields ps ≡ false) → like t ps xs ≡ group ps xs
-like_group (composite qs ys) ps xs h g = let e : all_fields ps ≡ false = g refl in rw e refl
-like_group (series qs ys) ps xs h g = absurd (h refl)
-like_group (array a ys) ps xs h g = refl
-like_group (text b ys) ps xs h g = refl
-like_group (field qs ys) ps xs h g = refl
-like_group (group qs ys) ps xs h g = refl
+pub members_there : (ts : List Tree) (t : Tree) → has_members t ≡ true → GivesMembers ts t (Err members_error.NotAGroup) → ⊥
+members_there ts (group ps xs) is h = h
+members_there ts (composite ps xs) is h = h
+members_there ts (series ps xs) is h = h
+members_there ts (array a xs) is h = absurd cc
+members_there ts (text b xs) is h = absurd cc
+members_there ts (field ps xs) is h = absurd cc
 
-pub like_is : (t : Tree) (ts : List Tree) → has_members t ≡ true → like t (placed (parts t) ts) (attributes t) ≡ remade t ts
-like_is (group ps xs) ts h = refl
-like_is (composite ps xs) ts h = refl
-like_is (series ps xs) ts h = refl
-like_is (array a xs) ts h = absurd cc
-like_is (text b xs) ts h = absurd cc
-like_is (field ps xs) ts h = absurd cc
-
-group_good : (ps xs : PartList) → differ ps ≡ true → (all_named xs && differ xs) ≡ true → IsGood (group ps xs)
-group_good ps xs p q = record { names = rw p q; components = refl; members = refl }
-
-composite_good : (ps xs : PartList) → differ ps ≡ true → (all_named xs && differ xs) ≡ true → IsGood (composite_or_group ps xs)
-composite_good ps xs p q = by (all_fields ps) refl
-  where
-    by : (b : Bool) → all_fields ps ≡ b → IsGood (if b then composite ps xs else group ps xs)
-    by true is = record { names = rw p q; components = refl; members = is }
-    by false is = group_good ps xs p q
-
-series_good : (ps xs : PartList) → none_named ps ≡ true → (all_named xs && differ xs) ≡ true → IsGood (series ps xs)
-series_good ps xs p q = record { names = rw p q; components = refl; members = refl }
-
--- the group or series with other members is good, and has positions where it had
-pub remade_good : (t : Tree) (ts : List Tree) → IsLawful t → has_members t ≡ true → IsGood (remade t ts) × has_no_places t (placed (parts t) ts) × (unplaced (attributes t) ≡ attributes t)
-remade_good (group ps xs) ts h is =
-    let own = and_of (differ ps) (all_named xs && differ xs) h.0.names in
-    (group_good (placed ps ts) xs (differ_placed ps ts ∙ own.0) own.1, unplaced_placed ps ts h.0.positions.0, h.0.positions.1)
-remade_good (composite ps xs) ts h is =
-    let own = and_of (differ ps) (all_named xs && differ xs) h.0.names in
-    (composite_good (placed ps ts) xs (differ_placed ps ts ∙ own.0) own.1, unplaced_placed ps ts h.0.positions.0, h.0.positions.1)
-remade_good (series ps xs) ts h is =
-    let own = and_of (none_named ps) (all_named xs && differ xs) h.0.names in
-    (series_good (placed ps ts) xs (none_named_placed ps ts ∙ own.0) own.1, tt, h.0.positions)
-remade_good (array a xs) ts h is = absurd cc
-remade_good (text b xs) ts h is = absurd cc
-remade_good (field ps xs) ts h is = absurd cc
-
--- the members that are placed are fields where the objects are
-pub placed_fields : (ps : PartList) (ts : List Tree) → length ts ≡ part_count ps → list_all is_field ts ≡ all_fields (placed ps ts)
-placed_fields no_parts [] h = refl
-placed_fields no_parts (t ∷ ts) h = absurd (omega (arith, h))
-placed_fields (part n p u ps) [] h = absurd (omega (arith, h))
-placed_fields (part n p u ps) (t ∷ ts) h = ap (λ b. is_field t && b) (placed_fields ps ts (omega (arith, h)))
+-- ---- what no object could hold
 
 -- a field whose new data no object could hold
 pub none_large : (n : ℕ) (whole before : Tree) (there : Answered ArrayData) → is_field whole ≡ true → stands_for whole ≡ Some before → has_items n (array_of before) ≡ true → IsTooLarge there → finished n (Some whole) there ≡ Err code.TooLarge

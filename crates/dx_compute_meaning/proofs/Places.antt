@@ -1,25 +1,23 @@
 -- What stands at a place of the code's lists.
-use Rattle.std.proofs.Common.{◌≡◌, ℕ, zero, suc, ◌+◌, ◌-◌, ◌<◌, ◌≤◌, Bool, true, false, List, [], ◌∷◌, ◌++◌, Option, Some, None, Bor, length, get_or, drop, refl, sym, ap, ◌∙◌, add-one, drop-cons, arith}
+use Rattle.std.proofs.Common.{◌≡◌, ℕ, zero, suc, ◌+◌, ◌-◌, ◌<◌, ◌≤◌, Bool, true, false, List, [], ◌∷◌, ◌++◌, Option, Some, None, Bor, length, get_or, refl, sym, ap, ◌∙◌, arith}
 use Rattle.std.specs.Prelude.{cond, ◌&&◌, ◌==◌, if◌then◌else◌}
 use Rattle.std.proofs.lemmas.Bool.{eqb-true}
-use Rattle.std.specs.List.{filter, list_all, range_with_len}
+use Rattle.std.specs.List.{filter, range_with_len}
 use Rattle.std.specs.declared.rc.Rc.{Rc}
 use Rattle.std.specs.declared.alloc.Global.{Global}
-use Rattle.dx_base.specs.Array.{ArrayData, items, product}
+use Rattle.dx_base.specs.Array.{ArrayData, items}
 use Rattle.dx_base.specs.ArrayLimits.{is_shape}
-use Rattle.dx_base.specs.Object.{Tree, part}
-use Rattle.dx_base.specs.ObjectMembers.{placed}
+use Rattle.dx_base.specs.Object.{Tree}
 use Rattle.dx_objects.specs.declared.object.Part.{Part}
 use Rattle.dx_objects.specs.Shown.{parts_of}
 use Rattle.dx_objects.specs.Values.{value_at}
-use Rattle.dx_objects.proofs.PartsLaws.{parts_of-drop}
 use Rattle.dx_expr_grammar.specs.declared.tree.Expression.{Expression}
 use Rattle.dx_expr.specs.Shape.{Shape, shape_of}
 use Rattle.dx_expr_bounds.specs.Bounds.{is_bounded}
 use Rattle.dx_expr_eval.proofs.Joining.{range_next}
 use Rattle.dx_compute_meaning.proofs.Shapes.{shape_fits}
 use Rattle.dx_compute_meaning.specs.Operands.{object_at, are_all}
-use Rattle.dx_compute_meaning.specs.Arrays.{Arrays, given, array_at, item_counts, other_count, before_counts, first_or_one, item_count, item_of, shape_in}
+use Rattle.dx_compute_meaning.specs.Arrays.{Arrays, given, array_at, item_counts, other_count, before_counts, item_of, shape_in}
 use Rattle.dx_compute_meaning.specs.Shown.{shown, shown_one, shown_arrays, shown_array, objects_of, all_shaped}
 
 pub array_past : (xs : List (Option (Bor ArrayData))) (k : ℕ) → length xs ≤ k → array_at (shown_arrays xs) k ≡ None
@@ -62,17 +60,6 @@ pub ruleset object_places = (object_past, object_here)
 
 pub filter_next : (p : ℕ → Bool) (k n : ℕ) → k < n → filter p (range_with_len k (n - k)) ≡ cond (p k) (k ∷ filter p (range_with_len (k + 1) (n - (k + 1)))) (filter p (range_with_len (k + 1) (n - (k + 1))))
 filter_next p k n h = ap (filter p) (range_next k n h)
-
--- ---- parts with objects in their places
-
-objects_drop : (os : List (Rc Tree Global)) (i : ℕ) (o : Rc Tree Global) → i < length os → o ≡ get_or os i o → objects_of (drop i os) ≡ o.value ∷ objects_of (drop (i + 1) os)
-objects_drop os i o h e = rw (add-one, drop-cons os i o) (ap (λ (q : Rc Tree Global). q.value ∷ objects_of (drop (suc i) os)) (sym e))
-
-pub placed_next : (ps : List Part) (os : List (Rc Tree Global)) (i : ℕ) (p : Part) (o : Rc Tree Global) → i < length ps → i < length os → p ≡ get_or ps i p → o ≡ get_or os i o →
-    placed (parts_of (drop i ps)) (objects_of (drop i os)) ≡ part p.name p.position o.value (placed (parts_of (drop (i + 1) ps)) (objects_of (drop (i + 1) os)))
-placed_next ps os i p o h g e f =
-    ap (λ l. placed l (objects_of (drop i os))) (parts_of-drop ps i p h e)
-    ∙ ap (λ l. placed (part p.name p.position p.object.value (parts_of (drop (i + 1) ps))) l) (objects_drop os i o g f)
 
 -- ---- arrays that go together
 

@@ -1,7 +1,6 @@
 -- The shape of a bounded expression over arrays is one that an array may have.
-use Rattle.std.proofs.Common.{◌≡◌, ℕ, zero, suc, ◌<◌, ◌*◌, Bool, true, false, List, [], ◌∷◌, Option, Some, None, length, get_or, refl, sym, ap, subst, ◌∙◌, arith}
-use Rattle.std.specs.Prelude.{map, ◌&&◌, ◌||◌, nat_le, if◌then◌else◌}
-use Rattle.std.specs.List.{list_all}
+use Rattle.std.proofs.Common.{◌≡◌, ℕ, zero, suc, ◌<◌, ◌*◌, Bool, true, false, List, [], ◌∷◌, Option, Some, None, length, refl, sym, ap, subst, ◌∙◌, arith}
+use Rattle.std.specs.Prelude.{map, ◌&&◌, ◌||◌, if◌then◌else◌}
 use Rattle.dx_base.specs.Array.{product}
 use Rattle.dx_base.specs.ArrayLimits.{is_shape}
 use Rattle.dx_expr_grammar.specs.declared.tree.Unary.{Unary}

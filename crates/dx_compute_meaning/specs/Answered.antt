@@ -1,5 +1,5 @@
 -- Something, or the code by which it is refused.
-use Rattle.std.specs.Prelude.{Bool, List, [], ◌∷◌, Option, Some, None, Result, Ok, Err}
+use Rattle.std.specs.Prelude.{List, [], ◌∷◌, Option, Some, None, Result, Ok, Err}
 use Rattle.dx_base.specs.declared.code.Code.{Code}
 
 abbrev pub Answered : Type 0 → Type 0

@@ -3,7 +3,7 @@ use Rattle.std.specs.Prelude.{ℕ, zero, suc, ◌==◌, Bool, List, [], ◌∷�
 use Rattle.std.specs.List.{range_with_len}
 use Rattle.dx_base.specs.declared.code.Code.TheVariants.{BadArgument, ItemMismatch, NoComponent, TooLarge}
 use Rattle.dx_base.specs.Array.{ArrayData, items}
-use Rattle.dx_base.specs.Object.{Tree, array, text, field, group, composite, series, no_parts, attributes}
+use Rattle.dx_base.specs.Object.{Tree, array, no_parts, attributes}
 use Rattle.dx_base.specs.ObjectLimits.{fits, is_field, max_levels}
 use Rattle.dx_base.specs.ObjectMembers.{with_members}
 use Rattle.dx_base.specs.ObjectNames.{with_component}

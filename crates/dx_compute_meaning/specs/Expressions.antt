@@ -1,6 +1,5 @@
 -- The expression of a Compute, which is its first input.
 use Rattle.std.specs.Prelude.{ℕ, List, Option, Some, None, Result, Ok, Err}
-use Rattle.dx_base.specs.declared.code.Code.{Code}
 use Rattle.dx_base.specs.declared.code.Code.TheVariants.{BadArgument, BadExpression}
 use Rattle.dx_base.specs.Object.{Tree}
 use Rattle.dx_objects.specs.Kinds.{text_of}

@@ -1,14 +1,13 @@
 -- What contracts see of the code's lists: objects and arrays in the places of those that it borrows.
-use Rattle.std.specs.Prelude.{◌≡◌, ◌<◌, ℕ, Bool, List, [], ◌∷◌, ◌++◌, map, length, Option, Some, None, Result, Ok, Err, option_map}
+use Rattle.std.specs.Prelude.{◌≡◌, ◌<◌, Bool, List, [], ◌∷◌, ◌++◌, map, Option, Some, None, Result, Ok, Err, option_map}
 use Rattle.std.specs.List.{list_all}
 use Rattle.std.specs.Borrow.{Bor}
 use Rattle.std.specs.declared.rc.Rc.{Rc}
 use Rattle.std.specs.declared.alloc.Global.{Global}
 use Rattle.dx_base.specs.declared.code.Code.{Code}
 use Rattle.dx_base.specs.Array.{ArrayData, array_size}
-use Rattle.dx_base.specs.Object.{Tree, PartList, array, text, field, group, composite, series}
-use Rattle.dx_base.specs.ObjectMembers.{composite_or_group}
-use Rattle.dx_base.specs.ObjectLimits.{is_field, max_size, unplaced}
+use Rattle.dx_base.specs.Object.{Tree}
+use Rattle.dx_base.specs.ObjectLimits.{max_size}
 use Rattle.dx_objects.specs.declared.run_fail.RunFail.{RunFail}
 use Rattle.dx_objects.specs.declared.run_fail.RunFail.TheVariants as fail
 use Rattle.dx_compute_meaning.specs.Answered.{Answered, ◌>>=◌}
@@ -56,9 +55,6 @@ Computes there (Ok found) = IsFound there found
 Computes there (Err (fail.Code code)) = there ≡ Err code
 Computes there (Err fail.Memory) = Unit {0}
 
-abbrev pub all_are_fields : List Tree → Bool
-all_are_fields ts = list_all is_field ts
-
 -- these before what is there
 abbrev pub behind : {A : Type 0} → List A → Answered (List A) → Answered (List A)
 behind found there = there >>= λ more. Ok (found ++ more)
@@ -66,21 +62,3 @@ behind found there = there >>= λ more. Ok (found ++ more)
 -- each array has a shape
 abbrev pub all_shaped : Arrays → Bool
 all_shaped arrays = list_all (λ a. is_shape (shape_in a)) arrays
-
--- a group or series like another one, of these members and attributes
-abbrev pub like : Tree → PartList → PartList → Tree
-like (array a ys) ps xs = group ps xs
-like (text b ys) ps xs = group ps xs
-like (field qs ys) ps xs = group ps xs
-like (group qs ys) ps xs = group ps xs
-like (composite qs ys) ps xs = composite_or_group ps xs
-like (series qs ys) ps xs = series ps xs
-
--- members of a series alone have positions
-abbrev pub has_no_places : Tree → PartList → Type 0
-has_no_places (array a ys) ps = unplaced ps ≡ ps
-has_no_places (text b ys) ps = unplaced ps ≡ ps
-has_no_places (field qs ys) ps = unplaced ps ≡ ps
-has_no_places (group qs ys) ps = unplaced ps ≡ ps
-has_no_places (composite qs ys) ps = unplaced ps ≡ ps
-has_no_places (series qs ys) ps = Unit {0}

@@ -1,5 +1,5 @@
-// Arrays as inputs: which stand for every item, how many items there are, types and classes, and the first error of the
-// first item.
+//! Arrays as inputs: which stand for every item, how many items there are, types and classes, and the first error of the
+//! first item.
 use crate::calls::{Row, check};
 use std::test::Fail;
 

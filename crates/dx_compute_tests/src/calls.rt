@@ -1,4 +1,4 @@
-// The call of a row, and what it answers.
+//! The call of a row, and what it answers.
 use crate::shown::push_object;
 use crate::stock::value;
 use dx_base::{Bytes, Code, Module, push_count};

@@ -1,4 +1,4 @@
-// Fields: each stands for its data, and the first of them gets the answer in its place.
+//! Fields: each stands for its data, and the first of them gets the answer in its place.
 use crate::calls::{Row, check};
 use std::test::Fail;
 

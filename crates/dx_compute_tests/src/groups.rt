@@ -1,4 +1,4 @@
-// Groups and series: the result is the first of them, but at each place stands what is answered for their members at that place.
+//! Groups and series: the result is the first of them, but at each place stands what is answered for their members at that place.
 use crate::calls::{Row, check};
 use std::test::Fail;
 

@@ -1,4 +1,4 @@
-// Answers beyond the limits of objects: TooLarge, behind all other codes.
+//! Answers beyond the limits of objects: TooLarge, behind all other codes.
 use crate::calls::{answer, code, text};
 use crate::stock::{alone, part, regular, value};
 use dx_base::{Bytes, push_count};

@@ -1,4 +1,4 @@
-// Some thousands of items.
+//! Some thousands of items.
 use crate::calls::{answer, text};
 use crate::stock::{alone, narrow, regular};
 use dx_base::push_number;

@@ -1,4 +1,4 @@
-// Inputs that keep their ints in 4 bytes each: they answer like any other of the same values.
+//! Inputs that keep their ints in 4 bytes each: they answer like any other of the same values.
 use crate::calls::{Row, check};
 use std::test::Fail;
 

@@ -1,5 +1,5 @@
-// Expressions over numbers alone: what operators make of them, where a value leaves the range of ints, which side is looked
-// at, and which fault comes first.
+//! Expressions over numbers alone: what operators make of them, where a value leaves the range of ints, which side is looked
+//! at, and which fault comes first.
 use crate::calls::{Row, check};
 use std::test::Fail;
 

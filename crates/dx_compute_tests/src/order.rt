@@ -1,5 +1,5 @@
-// Which code comes where several could: the inputs before groups, groups before fields, fields before the numbers of items,
-// shapes before items, and a field's number of items behind them.
+//! Which code comes where several could: the inputs before groups, groups before fields, fields before the numbers of items,
+//! shapes before items, and a field's number of items behind them.
 use crate::calls::{Row, check};
 use std::test::Fail;
 

@@ -1,4 +1,4 @@
-// Answers beyond the limits over many items: these go by runs, of which those are left out in which no item can have a fault.
+//! Answers beyond the limits over many items: these go by runs, of which those are left out in which no item can have a fault.
 use crate::calls::{code, text};
 use crate::limits::sevens;
 use crate::stock::{alone, narrow, regular};

@@ -1,6 +1,6 @@
-// What a row says of an object: an array as `{1 2 3}`, behind its extents where it has some, and behind its class and type
-// where it isn't a plain int array; a text in quotes; others with their parts; and behind each its attributes, as
-// `@dep:"positions"`.
+//! What a row says of an object: an array as `{1 2 3}`, behind its extents where it has some, and behind its class and type
+//! where it isn't a plain int array; a text in quotes; others with their parts; and behind each its attributes, as
+//! `@dep:"positions"`.
 use dx_base::push_number;
 use dx_objects::{Array, ArrayClass, ElemType, Kind, Object, Part};
 use std::alloc::AllocError;

@@ -1,4 +1,4 @@
-// The inputs of the rows, by their names.
+//! The inputs of the rows, by their names.
 use dx_base::Bytes;
 use dx_objects::{Array, ElemType, Object, ObjectError, Part, Parts, Shape, Value};
 use std::alloc::{AllocError, Global};

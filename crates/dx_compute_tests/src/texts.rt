@@ -1,4 +1,4 @@
-// Texts that are no expression, each with the offset of its first token that doesn't fit, and first inputs that are no text.
+//! Texts that are no expression, each with the offset of its first token that doesn't fit, and first inputs that are no text.
 use crate::calls::{Row, answer, check, inputs};
 use crate::stock::value;
 use std::test::Fail;

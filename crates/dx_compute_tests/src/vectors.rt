@@ -1,4 +1,4 @@
-// Vectors: their shapes, their parts, and the order of their values.
+//! Vectors: their shapes, their parts, and the order of their values.
 use crate::calls::{Row, check};
 use std::test::Fail;
 

@@ -1,4 +1,4 @@
-// Arrays of ints.
+//! Arrays of ints.
 ghost use Rattle.std.specs.Prelude.{◌≡◌, ◌<◌, ◌≤◌, ◌*◌, ◌%◌, ◌∷◌, [], true, length, IfOk, IsTrue};
 ghost use Rattle.std.specs.List.{list_all};
 ghost use Rattle.dx_base.specs.Array.{product};

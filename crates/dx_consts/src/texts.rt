@@ -1,4 +1,4 @@
-// Texts, and groups of them.
+//! Texts, and groups of them.
 ghost use Rattle.std.specs.Prelude.{◌≡◌, ◌≤◌, IfOk, IsTrue};
 ghost use Rattle.dx_base.specs.Object as spec;
 ghost use Rattle.dx_base.specs.ObjectLimits.{fits, max_size};

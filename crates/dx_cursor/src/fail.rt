@@ -1,7 +1,6 @@
-// Why a text gives no statements.
+//! Why a text gives no statements.
 use dx_base::SyntaxError;
-use dx_lexer::LexFail;
-use std::alloc::{AllocError, AllocFailed};
+use std::alloc::AllocError;
 use thiserror::Error;
 
 /// Why there are no statements.

@@ -1,4 +1,4 @@
-// Arrays of each class: what they hand out, their values, their stated size, and which are refused.
+//! Arrays of each class: what they hand out, their values, their stated size, and which are refused.
 ghost use Rattle.std.specs.Prelude.{◌≤◌};
 ghost use Rattle.dx_base.specs.Array.{items};
 

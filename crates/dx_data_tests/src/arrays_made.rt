@@ -1,4 +1,4 @@
-// Arrays that the tests ask for.
+//! Arrays that the tests ask for.
 use dx_arrays::{Array, ArrayError, ElemType, Shape};
 use std::alloc::{AllocError, Global};
 use std::test::Fail;

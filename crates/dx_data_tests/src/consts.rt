@@ -1,4 +1,4 @@
-// Constants of each kind as values: the array, the text or the group that each is, with its stated size.
+//! Constants of each kind as values: the array, the text or the group that each is, with its stated size.
 ghost use Rattle.std.specs.Prelude.{◌≡◌, ◌∷◌, [], IfOk};
 ghost use Rattle.dx_ast.specs.Lawful.{IsLawfulConst};
 

@@ -1,4 +1,4 @@
-// What Print and Echo write of values of each kind, and what Print refuses.
+//! What Print and Echo write of values of each kind, and what Print refuses.
 use crate::arrays_made::{Given, array};
 use dx_arrays::{Array, ElemType};
 use dx_base::{Bytes, Code};

@@ -5,8 +5,8 @@ use Rattle.std.specs.Cmp.{unsigned_Decides}
 use Rattle.indexmap.specs.IndexMap.{insert_entry}
 use Rattle.dx_graph.specs.Graph.{Node, node_at}
 use Rattle.dx_tags.specs.declared.term.Term.{Term}
-use Rattle.dx_tags.specs.Closed.{ValueTerm, FileTerm, ResultTerm, CallTerm, Head, ConstantHead, HeldHead, CallHead, FileHead, head_at, head_of, heads_of, heads_after, result_of_head, AllFormed, AreDistinct, GoesOn, NamesExactly}
-use Rattle.dx_tags.proofs.Growth.{heads_grow, longer}
+use Rattle.dx_tags.specs.Closed.{ValueTerm, FileTerm, ResultTerm, CallTerm, Head, ConstantHead, HeldHead, CallHead, FileHead, head_at, head_of, heads_of, heads_after, result_of_head, AllFormed, AreDistinct, HasMore, GoesOn, NamesExactly}
+use Rattle.dx_tags.proofs.Growth.{heads_stay, heads_grow, longer}
 use Rattle.dx_tags.proofs.ClosedTerms.{head_unfolds, names_exactly}
 use Rattle.dx_links.specs.Getting.{same_value, same_call, has_value}
 use Rattle.dx_meaning.specs.Met.{Called}
@@ -110,12 +110,12 @@ interned_named_terms old new t tag f d kept fo slot = ⊎_elim
     (λ there. absurd (
     let r = named_at (heads_of old) (named_of (heads_of old) t) there in
     let lt : r.0 < length old = (let a = r.1 in let b = heads_length old in omega (arith, a, b)) in
-    let g : GoesOn old new = (t ∷ [], more) in
+    let g : HasMore old new = (t ∷ [], more) in
     let long : length new ≡ length old + 1 = (let a = ap length more in let b = length-append old (t ∷ []) in omega (arith, a, b)) in
-    let before : head_at (heads_of new) r.0 ≡ head_of (heads_of old) t = heads_grow old new g r.0 lt ∙ head_known (head_at (heads_of old) r.0) (head_of (heads_of old) t) r.2 in
+    let before : head_at (heads_of new) r.0 ≡ head_of (heads_of old) t = heads_stay old new g r.0 lt ∙ head_known (head_at (heads_of old) r.0) (head_of (heads_of old) t) r.2 in
     let last : slice_get new (length old) ≡ Some t = subst (λ (x : List Term). slice_get x (length old) ≡ Some t) (sym more) (last_slot old t) in
     let own : head_at (heads_of new) (length old) ≡ head_of (heads_of old) t = head_last old t new more in
-    let same : r.0 ≡ length old = names_exactly new f d r.0 (length old) (let a = longer old new g in omega (arith, lt, long)) (omega (arith, long)) (before ∙ sym own) in
+    let same : r.0 ≡ length old = names_exactly new f d r.0 (length old) (omega (arith, lt, long)) (omega (arith, long)) (before ∙ sym own) in
     omega (arith, lt, same)))
     (λ none. ap named_terms more ∙ named_more old t ∙ sym (added (named_of (heads_of old) t) (named_terms old) none)))
     kept

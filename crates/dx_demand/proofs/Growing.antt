@@ -1,13 +1,13 @@
 -- Terms that are added change nothing of what earlier tags name.
 use Rattle.dx_demand.specs.Terms.{AreArguments, IsValue}
 use Rattle.dx_demand.proofs.Terms.{arguments_on, value_grow}
-use Rattle.std.proofs.Common.{◌≡◌, List, [], ◌∷◌, length, Option, Some, None, option_map, refl, sym, ap, ◌∙◌, append-nil, arith}
+use Rattle.std.proofs.Common.{◌≡◌, List, [], ◌∷◌, length, Option, Some, None, option_map, refl, sym, ap, ◌∙◌, subst, arith}
 use Rattle.dx_graph.specs.Graph.{Node}
 use Rattle.dx_tags.specs.declared.term.Term.{Term}
 use Rattle.dx_tags.specs.declared.term.ValueTag.{ValueTag}
 use Rattle.dx_tags.specs.Files.{FileMap}
 use Rattle.dx_tags.specs.Closed.{ValueTerm, heads_of, value_term, result_of_head, GoesOn, AreEarlier}
-use Rattle.dx_tags.proofs.Growth.{heads_grow, longer}
+use Rattle.dx_tags.proofs.Growth.{heads_grow, goes_on_same, longer}
 use Rattle.dx_links.specs.Holding.{Holding}
 use Rattle.dx_links.specs.LinkMap.{LinkMap, held_at}
 use Rattle.dx_meaning.specs.Outcome.{Value}
@@ -113,7 +113,7 @@ if_ok_with (Err e) P h f = tt
 -- the terms go on also where there is no memory for one
 pub always_on : {T E : Type 0} (r : Result T E) (old new : List Term) → OnOk r (GoesOn old new) → OnErr r (new ≡ old) → GoesOn old new
 always_on (Ok t) old new ok err = ok
-always_on (Err e) old new ok err = ([], err ∙ sym (append-nil old))
+always_on (Err e) old new ok err = subst (GoesOn old) (sym err) (goes_on_same old)
 
 pub left_right_grows : (s : Sight) (nodes : List Node) (old new : List Term) → GoesOn old new → (answers : Answers) (fs : List Frame) → StackFits nodes old answers fs → LeftRight s nodes old fs → LeftRight s nodes new fs
 left_right_grows s nodes old new g answers [] h r = tt

@@ -7,13 +7,16 @@ use Rattle.dx_base.specs.declared.function.Module.TheVariants as computing
 use Rattle.dx_tags.specs.declared.term.Term.{Term}
 use Rattle.dx_tags.specs.declared.term.Term.TheVariants.{Constant, Held, Call, File}
 use Rattle.dx_tags.specs.declared.term.ValueTag.{ValueTag}
-use Rattle.dx_tags.specs.Closed.{Head, head_at, heads_of, AreEarlier, AllFormed, AreDistinct, IsFormed, AreFormed, GoesOn}
+use Rattle.dx_tags.specs.Closed.{Head, head_at, heads_of, AreEarlier, AllFormed, AreDistinct, IsFormed, AreFormed, HasMore, GoesOn}
 use Rattle.dx_tags.specs.Whole.{is_file, HaveNoFile, HasInputs, ReadsFile, IsWhole, AreWhole, AllWhole}
-use Rattle.dx_tags.proofs.Growth.{heads_grow, fits_grow, earlier_on, earlier_push, interned_formed}
+use Rattle.dx_tags.proofs.Growth.{heads_stay, heads_grow, fits_stay, earlier_on, earlier_push, interned_formed}
 use Rattle.dx_demand.specs.Terms.{AreExact, IsValue, AreArguments}
 
+pub value_stays : (old new : List Term) → HasMore old new → (t : ValueTag) → IsValue old t → IsValue new t
+value_stays old new g t v = record { fits = fits_stay old new g t v.fits; value = ap is_file (heads_stay old new g t.tag v.fits.within) ∙ v.value }
+
 pub value_grow : (old new : List Term) → GoesOn old new → (t : ValueTag) → IsValue old t → IsValue new t
-value_grow old new g t v = record { fits = fits_grow old new g t v.fits; value = ap is_file (heads_grow old new g t.tag v.fits.within) ∙ v.value }
+value_grow old new g t v = value_stays old new (g.0, g.1) t v
 
 -- ---- arguments
 
@@ -76,8 +79,8 @@ all_whole_snoc hs (u ∷ ts) t w g = (w.0, all_whole_snoc hs ts t w.1 g)
 whole_more : (old : List Term) (t : Term) → AllFormed old → IsFormed (heads_of old) (length old) t → AllWhole old → IsWhole (heads_of old) t → AllWhole (old ++ t ∷ [])
 whole_more old t f g w x =
     let new = old ++ t ∷ [] in
-    let on : GoesOn old new = (t ∷ [], refl) in
-    let grow = heads_grow old new on in
+    let on : HasMore old new = (t ∷ [], refl) in
+    let grow = heads_stay old new on in
     all_whole_snoc (heads_of new) old t
     (all_whole_grows (heads_of old) (heads_of new) 0 old (λ m lt. grow m (omega arith)) f w)
     (whole_grows (heads_of old) (heads_of new) (length old) grow t g x)

@@ -1,4 +1,4 @@
-// The call that an error names.
+//! The call that an error names.
 ghost use Rattle.std.specs.Prelude.{◌≡◌, ◌<◌, ◌+◌, ℕ, List, Option, Some, None, option_map, length, IfOk, OnOk};
 ghost use Rattle.dx_graph.specs.Graph.{MayTake, node_at};
 ghost use Rattle.dx_graph.specs.GraphView.{graph_of};

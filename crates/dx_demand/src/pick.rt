@@ -1,4 +1,4 @@
-// What the value of a selector picks, as the code has it.
+//! What the value of a selector picks, as the code has it.
 ghost use Rattle.std.specs.Prelude.{◌≡◌, ◌<◌, ℕ, List, Option, Some, None, length, IfOk};
 ghost use Rattle.dx_graph.specs.Graph.{node_at};
 ghost use Rattle.dx_graph.specs.GraphView.{graph_of};

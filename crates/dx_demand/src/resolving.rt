@@ -1,4 +1,4 @@
-// Resolving an input: a loop of steps along the way to the port that is looked at.
+//! Resolving an input: a loop of steps along the way to the port that is looked at.
 ghost use Rattle.dx_demand.specs.Terms.{AreExact};
 ghost use Rattle.std.specs.Prelude.{◌≡◌, ◌<◌, ℕ, List, None, length, slice_index_or, [], ◌∷◌, IfOk, OnOk};
 ghost use Rattle.dx_graph.specs.Graph.{Node, MayTake};
@@ -20,7 +20,7 @@ ghost use Rattle.dx_demand.specs.Steps.{Sees, SeenFits, SeenRight, KeepsSelector
 
 use crate::given::Given;
 use crate::seen::{Frame, Memo, Seen, pop_frame, push_frame, top_of};
-use crate::settled::{Answer, Port, Resolved, Settled};
+use crate::settled::{Port, Resolved, Settled};
 use crate::step::{Step, constant_tag, next_step};
 use dx_graph::{Graph, Input};
 use dx_links::Links;

@@ -1,4 +1,4 @@
-// What one execution resolved, and the way to what it goes on with.
+//! What one execution resolved, and the way to what it goes on with.
 ghost use Rattle.std.specs.Prelude.{◌≡◌, ◌<◌, ◌⊎◌, ◌++◌, ◌∷◌, [], Some, length, slice_set, IfOk, OnOk, MatchOption};
 ghost use Rattle.dx_graph.specs.GraphView.{graph_of};
 ghost use Rattle.dx_demand.specs.Memo.{answers_of, selector_of, formed_of, with_answer, with_formed, EmptyMemo};
@@ -6,7 +6,6 @@ ghost use Rattle.dx_demand.specs.Stack.{fresh, Opens};
 ghost use Rattle.dx_demand.specs.Forming.{with_entry};
 
 use crate::settled::{Answer, Port};
-use dx_graph::Graph;
 use dx_tags::{Tag, ValueTag, ValueTags};
 use indexmap::IndexMap;
 use std::alloc::{AllocError, Global};

@@ -1,4 +1,4 @@
-// What resolving ends in, and what is kept of it.
+//! What resolving ends in, and what is kept of it.
 use dx_base::Code;
 use dx_tags::ValueTag;
 

@@ -1,4 +1,4 @@
-// One step for a port: it is settled, or waits for another, or for a value.
+//! One step for a port: it is settled, or waits for another, or for a value.
 ghost use Rattle.dx_demand.specs.Terms.{MayRead, AreArguments, AreExact, IsValue};
 ghost use Rattle.std.specs.Prelude.{◌≡◌, ◌<◌, ◌≤◌, List, [], ◌∷◌, ◌++◌, Option, Some, is_some, true, ℕ, length, slice_get, IfOk, OnOk};
 ghost use Rattle.dx_ast.specs.Lawful.{IsLawfulConst};
@@ -8,7 +8,7 @@ ghost use Rattle.dx_graph.specs.GraphView.{graph_of};
 ghost use Rattle.dx_base.specs.Modules.{Takes};
 ghost use Rattle.dx_tags.specs.declared.term.Term.TheVariants as term;
 ghost use Rattle.dx_tags.specs.Whole.{is_file, IsWhole};
-ghost use Rattle.dx_tags.specs.Closed.{ConstantTerm, ResultTerm, FileTerm, CallOf, IsFormed, GoesOn, NamesHead, heads_of, head_of, result_of_head, value_term, value_terms, AreEarlier, Fits, head_at};
+ghost use Rattle.dx_tags.specs.Closed.{ConstantTerm, ResultTerm, FileTerm, CallOf, IsFormed, NoneHeld, GoesOn, NamesHead, heads_of, head_of, result_of_head, value_term, value_terms, AreEarlier, Fits, head_at};
 ghost use Rattle.dx_tags.specs.declared.term.ValueTag.{ValueTag};
 ghost use Rattle.dx_ast.specs.declared.constants.Const.TheVariants as const;
 ghost use Rattle.dx_meaning.specs.Outcome.{Value};
@@ -63,7 +63,7 @@ fn name(tags: &mut Tags, t: Term) -> Result<Tag, AllocError>
     requires within { IsFormed (heads_of tags.old) (length tags.old) t }
     requires whole { IsWhole (heads_of tags.old) t }
     ensures formed { AreExact tags.new }
-    ensures goes_on { GoesOn tags.old tags.new }
+    ensures goes_on { NoneHeld (t ∷ []) → GoesOn tags.old tags.new }
     ensures named { IfOk result (λ tag. NamesHead tags.new tag (head_of (heads_of tags.old) t)) }
     ensures slot { IfOk result (λ tag. slice_get tags.new tag ≡ Some t) }
     ensures terms { OnOk result (named_terms tags.new ≡ with_term (result_of_head (head_of (heads_of tags.old) t) 0) (named_terms tags.old)) }
@@ -371,12 +371,15 @@ fn select_term(
     }
 }
 
-/// A text as a constant. One that is too long to be the text of an object is refused as want of memory.
+/// How many bytes a text has at most that is an object: 64 bytes more are the greatest size of one.
+const LONGEST_TEXT: usize = 268_435_392;
+
+/// A text as a constant. One that is too long to be the text of an object is refused as want of memory; no name is so long.
 fn text_constant(alloc: Global, name: Bytes) -> Result<Const, AllocError>
     ensures lawful { IfOk result (λ c. ∥ IsLawfulConst c ∥₁) }
     ensures text { IfOk result (λ c. c ≡ const.Text name) }
 {
-    if name.bytes().len() > 268435392 {
+    if name.bytes().len() > LONGEST_TEXT {
         return Err(AllocError);
     }
     Ok(Const::Text(Shared::from_vec(alloc, name.into_vec()?)?))

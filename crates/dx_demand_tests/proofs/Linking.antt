@@ -4,7 +4,7 @@ use Rattle.std.specs.Prelude.{if◌then◌else◌}
 use Rattle.std.specs.Ordering.{is_eq}
 use Rattle.dx_tags.specs.declared.term.Term.{Term}
 use Rattle.dx_tags.specs.declared.term.ValueTag.{ValueTag}
-use Rattle.dx_tags.specs.Closed.{Head, NamesHead, IsResultOf, GoesOn}
+use Rattle.dx_tags.specs.Closed.{Head, NamesHead, IsResultOf, HasMore}
 use Rattle.dx_tags.specs.Whole.{is_file}
 use Rattle.dx_links.specs.declared.key.Key.{Key}
 use Rattle.dx_links.specs.declared.held.Change.{Change}
@@ -14,7 +14,7 @@ use Rattle.dx_links.proofs.LinkLaws.{key_cmp_total}
 use Rattle.dx_links.proofs.MapLaws.{lookup_put}
 use Rattle.dx_demand.specs.Terms.{AreExact, IsValue}
 use Rattle.dx_demand.specs.Picked.{LinksFit}
-use Rattle.dx_demand.proofs.Growing.{links_fit_grows}
+use Rattle.dx_demand.proofs.Terms.{value_stays}
 use Rattle.dx_demand_tests.specs.Linked.{AreLinked}
 
 -- ---- nothing yet
@@ -27,8 +27,8 @@ linked_none terms links x e = record { exact = x; fit = subst (LinksFit terms) (
 
 -- ---- more terms
 
-pub linked_grows : (old new : List Term) (links : LinkMap) → GoesOn old new → AreExact new → AreLinked old links → AreLinked new links
-linked_grows old new links g x h = record { exact = x; fit = links_fit_grows old new g links h.fit }
+pub linked_grows : (old new : List Term) (links : LinkMap) → HasMore old new → AreExact new → AreLinked old links → AreLinked new links
+linked_grows old new links g x h = record { exact = x; fit = λ k x p. value_stays old new g x.tag (h.fit k x p) }
 
 pub value_named : (terms : List Term) (tag : ℕ) (h : Head) → NamesHead terms tag h → IsResultOf h 0 → is_file h ≡ false → IsValue terms (record { tag = tag; result = 0 })
 value_named terms tag h n r f = record {

@@ -1,7 +1,7 @@
 //! Links whose values have terms.
 ghost use Rattle.std.specs.Prelude.{◌≡◌, ◌∷◌, [], length, IfOk, OnOk};
 ghost use Rattle.dx_tags.specs.declared.term.Term.TheVariants as term;
-ghost use Rattle.dx_tags.specs.Closed.{GoesOn, IsFormed, NamesHead, head_of, heads_of};
+ghost use Rattle.dx_tags.specs.Closed.{HasMore, IsFormed, NamesHead, head_of, heads_of};
 ghost use Rattle.dx_tags.specs.Whole.{IsWhole};
 ghost use Rattle.dx_links.specs.LinkMap.{after};
 ghost use Rattle.dx_demand.specs.Terms.{AreExact, IsValue};
@@ -19,7 +19,7 @@ fn named(tags: &mut Tags, t: Term) -> Result<Tag, AllocError>
     requires formed { IsFormed (heads_of tags.old) (length tags.old) t }
     requires whole { IsWhole (heads_of tags.old) t }
     ensures exact { AreExact tags.new }
-    ensures goes_on { OnOk result (GoesOn tags.old tags.new) }
+    ensures has_more { OnOk result (HasMore tags.old tags.new) }
     ensures named { IfOk result (λ tag. NamesHead tags.new tag (head_of (heads_of tags.old) t)) }
 {
     tags.intern(t)
@@ -29,7 +29,7 @@ fn named(tags: &mut Tags, t: Term) -> Result<Tag, AllocError>
 fn held_term(tags: &mut Tags, n: u64) -> Result<ValueTag, AllocError>
     requires exact { AreExact tags.old }
     ensures exact { AreExact tags.new }
-    ensures goes_on { OnOk result (GoesOn tags.old tags.new) }
+    ensures has_more { OnOk result (HasMore tags.old tags.new) }
     ensures value { IfOk result (λ t. IsValue tags.new t) }
 {
     let tag = named(tags, Term::Held(n))?;
@@ -41,7 +41,7 @@ fn call_term(alloc: Global, tags: &mut Tags, argument: ValueTag) -> Result<Value
     requires exact { AreExact tags.old }
     requires value { IsValue tags.old argument }
     ensures exact { AreExact tags.new }
-    ensures goes_on { OnOk result (GoesOn tags.old tags.new) }
+    ensures has_more { OnOk result (HasMore tags.old tags.new) }
     ensures value { IfOk result (λ t. IsValue tags.new t) }
 {
     let mut arguments = ValueTags::new(alloc);

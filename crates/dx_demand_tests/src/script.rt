@@ -1,5 +1,5 @@
 //! The graph of a statement of a text.
-ghost use Rattle.std.specs.Prelude.{IfSome};
+ghost use Rattle.std.specs.Prelude.{IfOk, IfSome};
 ghost use Rattle.dx_ast.specs.Lawful.{IsLawful, AreLawful};
 ghost use Rattle.dx_ast.specs.Plain.{plain_stmt, plain_stmts};
 
@@ -7,7 +7,7 @@ use dx_ast::{Frames, Stmt, Stmts};
 use dx_expansion::check_and_expand;
 use dx_graph::Graph;
 use dx_macros::{CheckFail, Dictionary};
-use dx_parser::parse;
+use dx_parser::{ParseFail, parse};
 use std::alloc::{AllocError, Global};
 
 /// The values of the variables of the sequencer.
@@ -42,24 +42,27 @@ fn join_all(d: &mut Dictionary, statements: Stmts) -> Result<(), AllocError>
 }
 
 /// The statements of a text that is a script, and isn't too long.
-fn statements_of(alloc: Global, text: &[u8]) -> Option<Stmts>
-    ensures { IfSome result (λ statements. AreLawful (plain_stmts statements)) }
+fn statements_of(alloc: Global, text: &[u8]) -> Result<Option<Stmts>, AllocError>
+    ensures { IfOk result (λ found. IfSome found (λ statements. AreLawful (plain_stmts statements))) }
 {
     if text.len() > 16_777_216 {
-        return None;
+        return Ok(None);
     }
     match parse(alloc, text) {
-        Ok(statements) => Some(statements),
-        Err(_) => None,
+        Ok(statements) => Ok(Some(statements)),
+        Err(ParseFail::Refused(_)) => Ok(None),
+        Err(ParseFail::Memory) => Err(AllocError),
     }
 }
 
-/// The macros and definitions of a text join.
-fn take(alloc: Global, d: &mut Dictionary, text: &[u8]) -> Result<(), AllocError> {
-    match statements_of(alloc, text) {
-        Some(statements) => join_all(d, statements),
-        None => Ok(()),
-    }
+/// The dictionary that has the macros and definitions of a text; None where that is no script.
+fn taken(alloc: Global, text: &[u8]) -> Result<Option<Dictionary>, AllocError> {
+    let Some(statements) = statements_of(alloc, text)? else {
+        return Ok(None);
+    };
+    let mut d = Dictionary::new(alloc);
+    join_all(&mut d, statements)?;
+    Ok(Some(d))
 }
 
 fn expanded(alloc: Global, d: &Dictionary, s: &Stmt) -> Result<Option<Graph>, AllocError>
@@ -72,20 +75,35 @@ fn expanded(alloc: Global, d: &Dictionary, s: &Stmt) -> Result<Option<Graph>, Al
     }
 }
 
-/// The graph of the first statement of a text by the macros and definitions of another; None where that is no statement, or
-/// has a static fault.
+fn first_expanded(
+    alloc: Global,
+    d: &Dictionary,
+    statements: &Stmts,
+) -> Result<Option<Graph>, AllocError>
+    requires { AreLawful (plain_stmts statements.now) }
+{
+    match statements.as_slice().first() {
+        None => Ok(None),
+        Some(s) => expanded(alloc, d, s),
+    }
+}
+
+fn graph_by(alloc: Global, d: &Dictionary, statement: &[u8]) -> Result<Option<Graph>, AllocError> {
+    match statements_of(alloc, statement)? {
+        None => Ok(None),
+        Some(statements) => first_expanded(alloc, d, &statements),
+    }
+}
+
+/// The graph of the first statement of a text by the macros and definitions of another; None where one of them is no script,
+/// or the first has no statement, or one with a static fault.
 pub fn graph_of(
     alloc: Global,
     before: &[u8],
     statement: &[u8],
 ) -> Result<Option<Graph>, AllocError> {
-    let mut d = Dictionary::new(alloc);
-    take(alloc, &mut d, before)?;
-    match statements_of(alloc, statement) {
+    match taken(alloc, before)? {
         None => Ok(None),
-        Some(statements) => match statements.as_slice().first() {
-            None => Ok(None),
-            Some(s) => expanded(alloc, &d, s),
-        },
+        Some(d) => graph_by(alloc, &d, statement),
     }
 }

@@ -28,7 +28,7 @@ found : (test : Key → Bool) (ls : LinkTerms) → lookup test (objects_of ls) �
 found test [] = refl
 found test (l ∷ ls) = found_by (test l.0) l.1 (lookup test (objects_of ls)) (lookup test ls) (found test ls)
 
-true_behind : (a b : Bool) → b ≡ true → (a || b) ≡ true
+pub true_behind : (a b : Bool) → b ≡ true → (a || b) ≡ true
 true_behind true b e = refl
 true_behind false b e = e
 

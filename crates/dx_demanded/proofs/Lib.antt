@@ -14,12 +14,15 @@ pub mod Last
 pub mod LastControl
 pub mod LastUses
 pub mod NamesReady
+pub mod Owned
 pub mod Parts
 pub mod Performed
 pub mod Picks
 pub mod Places
+pub mod Reading
 pub mod Ready
 pub mod Refused
+pub mod Scanned
 pub mod Seeing
 pub mod Sound
 pub mod Trees

@@ -143,7 +143,7 @@ course_ran x k r (TreeCall function.GetLocal p args ∷ cs) h at i = course_ran 
 course_ran x k r (TreeCall function.GetGlobal p args ∷ cs) h at i = course_ran x k r cs h.1 at i
 
 -- an emptying runs nothing
-cleared_runs_none : (k : Kept) → tasks_of (clearing k) ≡ []
+pub cleared_runs_none : (k : Kept) → tasks_of (clearing k) ≡ []
 cleared_runs_none k = by (is_full k.terms)
   where
     by : (b : Bool) → tasks_of (if b then Cleared ∷ [] else []) ≡ []

@@ -1,9 +1,10 @@
-// What is true of errors and runs.
+//! What is true of errors and runs.
 ghost use Rattle.dx_demanded.specs.Ended.{EffectsEndAsMeant};
 ghost use Rattle.dx_demanded.specs.Found.{ErrorsAreFound, FirstIsOfAll, GettingsFind};
 ghost use Rattle.dx_demanded.specs.Halted.{HaltedGettingsFind, HaltsAreFound};
 ghost use Rattle.dx_demanded.specs.Last.{ArgumentsStopLast, SelectorsStopLast, TermsStopLast};
 ghost use Rattle.dx_demanded.specs.Ordered.{ArgumentsInOrder, ExecutionsInOrder, SelectorsInOrder, TermsInOrder};
+ghost use Rattle.dx_demanded.specs.Reads.{ReadsAreOfNamesNotPut, RunsHaveWhatWasPut};
 ghost use Rattle.dx_demanded.specs.Used.{RunsAreDemanded, TermsUseDemand};
 
 /// Each module that an execution runs is one that its meaning demands, on the same inputs; and so is each that the term of a
@@ -21,6 +22,14 @@ pub fn runs_come_in_order()
     ensures terms { TermsInOrder }
     ensures arguments { ArgumentsInOrder }
     ensures executions { ExecutionsInOrder }
+{}
+
+/// Each run of an execution has as the file of its own what earlier executions put under the name that it gives, where it is an Import
+/// whose first input is a text, and else none. So the reads of an execution are the names that its Imports give, in order, but for
+/// those under which earlier executions have put a file.
+pub fn reads_are_of_names_not_put()
+    ensures files { RunsHaveWhatWasPut }
+    ensures reads { ReadsAreOfNamesNotPut }
 {}
 
 /// Where a tree or the arguments of an effect come to an error, getting their terms where nothing is kept refuses a call with the

@@ -1,4 +1,4 @@
-// Files that are put in order, up to one that fails.
+//! Files that are put in order, up to one that fails.
 ghost use Rattle.std.specs.Prelude.{◌≡◌, ◌≤◌, length, IfOk, OnOk};
 
 use dx_base::Bytes;

@@ -1,4 +1,4 @@
-// Links by their terms, and after changes.
+//! Links by their terms, and after changes.
 ghost use Rattle.std.specs.Prelude.{OnOk};
 ghost use Rattle.dx_getting.specs.Bound.{IsBound};
 

@@ -1,4 +1,4 @@
-// How many terms may stay.
+//! How many terms may stay.
 use dx_ending::is_full;
 use dx_tags::{Tags, Term};
 use std::test::Fail;

@@ -1,12 +1,13 @@
 -- From what is kept to where the effects begin, and from where they end to what is kept.
-use Rattle.std.proofs.Common.{true≢false, ◌≡◌, ℕ, List, [], ◌∷◌, map, Option, Some, None, refl, sym, ap, subst}
+use Rattle.std.proofs.Common.{true≢false, ◌≡◌, ℕ, List, [], ◌∷◌, length, map, Option, Some, None, refl, sym, ap, subst}
 use Rattle.std.specs.Prelude.{Result, Ok, Err, OnOk, IfOk}
 use Rattle.dx_base.specs.declared.code.Code.{Code}
 use Rattle.dx_io.specs.Devices.{FileMap as InputFiles}
 use Rattle.dx_graph.specs.Graph.{Node}
 use Rattle.dx_macros.specs.Tree.{CallTree}
 use Rattle.dx_tags.specs.declared.term.Term.{Term}
-use Rattle.dx_tags.specs.Closed.{heads_of}
+use Rattle.dx_tags.specs.Closed.{heads_of, GoesOn}
+use Rattle.dx_tags.proofs.Growth.{held_grows}
 use Rattle.dx_machine.specs.Machine.{State as Machine, tasks_of}
 use Rattle.dx_getting.specs.Told.{Told}
 use Rattle.dx_getting.proofs.TellLaws.{adds_none, grows_nothing}
@@ -132,14 +133,15 @@ nothing_done x st all nodes base before (Err short) e st' =
 
 -- ---- what fits
 
-pub state_fits : (setup : Setup) (st : State) (is : IsSetup setup st) (r : Result Gathered Short) (at : Progress) → OnOk r (IsLooking setup at) → OnOk r (StateFits (standing_at st at))
-state_fits setup st is (Ok g) at l = record {
+pub state_fits : (setup : Setup) (st : State) (is : IsSetup setup st) → StateFits st → (r : Result Gathered Short) (at : Progress) → GoesOn st.at.tags at.tags → OnOk r (IsLooking setup at) → OnOk r (StateFits (standing_at st at))
+state_fits setup st is f (Ok g) at on l = record {
   exact = l.exact;
+  held = held_grows (length st.held) st.at.tags at.tags on f.held;
   links = subst (λ y. AllFit at.tags y.links) is.links l.links;
   bound = subst (IsBound st.links.links) is.bound (subst (λ y. IsBound y.links setup.bound.now) is.links l.bound);
   entries = l.entries;
 }
-state_fits setup st is (Err short) at l = tt
+state_fits setup st is f (Err short) at on l = tt
 
 error_fits : (setup : Setup) (e : Option (ℕ × Code)) → ErrorFits setup e → NodeFits (nodes_in setup) e
 error_fits setup None h = tt

@@ -1,8 +1,10 @@
 -- What is kept behind an execution that was cut short fits and is sound.
-use Rattle.std.proofs.Common.{◌≡◌, inl, inr, List, [], map, Option, refl, sym, ap, ap₂, ◌∙◌, subst, arith}
+use Rattle.std.proofs.Common.{◌≡◌, inl, inr, List, [], length, map, Option, refl, sym, ap, ap₂, ◌∙◌, subst, arith}
 use Rattle.std.specs.Prelude.{Result, Ok, Err}
 use Rattle.dx_macros.specs.Tree.{CallTree}
-use Rattle.dx_tags.specs.Closed.{heads_of, GoesOn}
+use Rattle.dx_objects.specs.Runs.{Values}
+use Rattle.dx_tags.specs.Closed.{HeldBelow, heads_of, GoesOn}
+use Rattle.dx_tags.proofs.Growth.{held_grows}
 use Rattle.dx_io.proofs.Growing.{grows_by_nothing}
 use Rattle.dx_ending.specs.Putting.{ArePut, ArePutBefore}
 use Rattle.dx_performing.specs.Execution.{Export}
@@ -39,6 +41,7 @@ module _ (st st1 st2 : State) (fits : StateFits st) (cut : IsCutFrom st st1) (go
   fits_then : StateFits st2
   fits_then = record {
     exact = subst AreExact (sym gone.tags) cut.exact;
+    held = subst (HeldBelow (length st2.held)) (sym gone.tags) (subst (λ (vs : Values). HeldBelow (length vs) st1.at.tags) (sym (gone.held ∙ cut.held)) (held_grows (length st.held) st.at.tags st1.at.tags cut.goes_on fits.held));
     links = subst (AllFit st2.at.tags) (sym links_are) (subst (λ terms. AllFit terms st.links.links) (sym gone.tags) (all_fit_grows st.at.tags st1.at.tags cut.goes_on st.links.links fits.links));
     bound = bound_stays st.links.links st2.links.links st.bound st2.bound links_are pairs_are (ap (λ (t : Table). t.counts) gone.bound ∙ cut.counts) fits.bound;
     entries = subst (AreCalls st2.at.tags) (sym gone.entries) tt;

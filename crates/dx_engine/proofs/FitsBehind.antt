@@ -1,5 +1,5 @@
 -- What fits behind an execution: its links after what was set, and what an emptying leaves.
-use Rattle.std.proofs.Common.{◌≡◌, ℕ, suc, ◌+◌, ◌<◌, ◌≤◌, List, [], ◌∷◌, length, cond, Bool, true, false, Option, Some, None, refl, sym, ap, subst, arith}
+use Rattle.std.proofs.Common.{◌≡◌, ℕ, zero, suc, ◌+◌, ◌<◌, ◌≤◌, List, [], ◌∷◌, ◌++◌, length, cond, Bool, true, false, Option, Some, None, refl, sym, ap, subst, arith}
 use Rattle.std.specs.Map.{remove_entry}
 use Rattle.std.specs.BTreeMap.{insert_entry, is_at}
 use Rattle.std.specs.Ordering.{match_ordering}
@@ -7,14 +7,14 @@ use Rattle.std.specs.declared.cmp.Ordering.{Ordering}
 use Rattle.std.specs.declared.cmp.Ordering.TheVariants.{Less, Equal, Greater}
 use Rattle.dx_tags.specs.declared.term.Term.{Term}
 use Rattle.dx_tags.specs.declared.term.Term.TheVariants.{Held as HeldBy}
-use Rattle.dx_tags.specs.Closed.{Head, HeldHead, IsResultOf, head_at, heads_of}
+use Rattle.dx_tags.specs.Closed.{Head, HeldHead, HeldBelow, IsResultOf, head_at, heads_of}
 use Rattle.dx_tags.specs.Whole.{is_file}
 use Rattle.dx_tags.proofs.ClosedTerms.{head_unfolds}
 use Rattle.dx_links.specs.declared.key.Key.{Key}
 use Rattle.dx_links.specs.declared.held.Change.{Change}
 use Rattle.dx_links.specs.Holding.{Holding}
 use Rattle.dx_links.specs.LinkMap.{LinkMap, key_cmp, put_at, after}
-use Rattle.dx_getting.specs.Emptied.{held_terms, held_tag, front_held, all_held}
+use Rattle.dx_getting.specs.Emptied.{held_terms, values_held, held_tag, front_held, all_held}
 use Rattle.dx_getting.proofs.EmptyLaws as emptied
 use Rattle.dx_getting.proofs.EmptyLaws.{held_exact, held_length}
 use Rattle.dx_demand.specs.Terms.{IsValue, AreExact}
@@ -74,6 +74,21 @@ front_fits n m (l ∷ ls) h = (held_value n m (omega (arith, h)), front_fits n (
 
 pub held_fits : (links : LinkMap) → AllFit (held_terms (length links)) (all_held links)
 held_fits links = front_fits (length links) 0 links (omega arith)
+
+below_snoc : (n k : ℕ) (ts : List Term) → k < n → HeldBelow n ts → HeldBelow n (ts ++ HeldBy k ∷ [])
+below_snoc n k [] lt h = (lt, tt)
+below_snoc n k (t ∷ ts) lt h = (h.0, below_snoc n k ts lt h.1)
+
+front_below : (n k : ℕ) → k ≤ n → HeldBelow n (held_terms k)
+front_below n zero le = tt
+front_below n (suc k) le = below_snoc n k (held_terms k) (omega (arith, le)) (front_below n k (omega (arith, le)))
+
+values_length : (links : LinkMap) → length (values_held links) ≡ length links
+values_length [] = refl
+values_length (l ∷ ls) = ap suc (values_length ls)
+
+pub held_are_below : (links : LinkMap) → HeldBelow (length (values_held links)) (held_terms (length links))
+held_are_below links = front_below (length (values_held links)) (length links) (let same = values_length links in omega arith)
 
 pub held_are_exact : (n : ℕ) → AreExact (held_terms n)
 held_are_exact n = let x = held_exact n in record { formed = x.formed; distinct = x.distinct; whole = x.whole }

@@ -17,7 +17,7 @@ use Rattle.dx_graph.specs.declared.node.Input.TheVariants as input
 use Rattle.dx_graph.proofs.Unfolding.{unfold_by_inputs}
 use Rattle.dx_macros.specs.Tree.{CallTree}
 use Rattle.dx_tags.specs.declared.term.Term.{Term}
-use Rattle.dx_tags.specs.Closed.{heads_of, GoesOn}
+use Rattle.dx_tags.specs.Closed.{HeldBelow, heads_of, GoesOn}
 use Rattle.dx_tags.specs.Files.{FileMap}
 use Rattle.dx_links.specs.Denotes.{Around}
 use Rattle.dx_links.specs.LinkMap.{LinkMap, Linked}
@@ -58,7 +58,7 @@ use Rattle.dx_engine.specs.Beginning.{EffectsAre, course_of}
 use Rattle.dx_engine.specs.Leaving.{links_behind, ValuesLeft}
 use Rattle.dx_engine.specs.declared.gathered.Gathered.{Gathered}
 use Rattle.dx_engine.specs.declared.state.State.{State}
-use Rattle.dx_engine.proofs.FitsBehind.{behind_fits, held_fits, held_are_exact}
+use Rattle.dx_engine.proofs.FitsBehind.{behind_fits, held_fits, held_are_exact, held_are_below}
 use Rattle.dx_engine.proofs.ValuesBehind.{values_behind}
 
 -- ---- the calls of a graph have lawful attributes
@@ -110,12 +110,13 @@ pub record IsEmptied (st : State) (g : Gathered) (st2 : State) : Type 0 where
 
 -- ---- it fits
 
-pub carried_fits : (st st' st2 : State) (g : Gathered) → StateFits st' → st'.links ≡ st.links → ChangesFit st'.at.tags g.changes → IsCarried st st' g st2 → IsBound st2.links.links st2.bound → StateFits st2
-carried_fits st st' st2 g f same c is bound =
+pub carried_fits : (st st' st2 : State) (g : Gathered) → StateFits st' → st'.links ≡ st.links → st'.held ≡ st.held → ChangesFit st'.at.tags g.changes → IsCarried st st' g st2 → IsBound st2.links.links st2.bound → StateFits st2
+carried_fits st st' st2 g f same held c is bound =
     let links : AllFit st'.at.tags st.links.links = subst (λ (l : Linked). AllFit st'.at.tags l.links) same f.links in
     let calls : AreCalls st'.at.tags st2.at.work.cache.entries = subst (AreCalls st'.at.tags) (sym is.entries) f.entries in
     record {
       exact = subst AreExact (sym is.tags) f.exact;
+      held = subst (HeldBelow (length st2.held)) (sym is.tags) (subst (λ (vs : Values). HeldBelow (length vs) st'.at.tags) (held ∙ sym is.held) f.held);
       links = subst (λ ts. AllFit ts st2.links.links) (sym is.tags) (subst (AllFit st'.at.tags) (sym is.links) (behind_fits st'.at.tags st.links.links (is_some g.error) g.changes links c));
       bound = bound;
       entries = subst (λ ts. AreCalls ts st2.at.work.cache.entries) (sym is.tags) calls;
@@ -126,6 +127,7 @@ emptied_fits st st2 g is bound =
     let links = links_left st g in
     record {
       exact = subst AreExact (sym is.tags) (held_are_exact (length links));
+      held = subst (HeldBelow (length st2.held)) (sym is.tags) (subst (λ (vs : Values). HeldBelow (length vs) (held_terms (length links))) (sym is.held) (held_are_below links));
       links = subst (λ ts. AllFit ts st2.links.links) (sym is.tags) (subst (AllFit (held_terms (length links))) (sym is.links) (held_fits links));
       bound = bound;
       entries = subst (AreCalls st2.at.tags) (sym is.entries) tt;
@@ -341,7 +343,7 @@ module _ (st st' st2 : State) (g : Gathered) (links : LinkMap) (full : Bool)
   pub fits_behind : StateFits st' → st'.links ≡ st.links → ChangesFit st'.at.tags g.changes → IsBound st2.links.links st2.bound → StateFits st2
   fits_behind f same c bound = cases full
       (λ so. emptied_fits st st2 g (is_emptied so) bound)
-      (λ off. carried_fits st st' st2 g f same c (is_carried off) bound)
+      (λ off. carried_fits st st' st2 g f same held_same c (is_carried off) bound)
 
   module _ (x : Fixed) (effects : List CallTree) (nodes : List Node) (base : Told) (before : Option (List ℕ)) (now : Told) (written : Option (List ℕ)) (are : EffectsAre x st effects nodes base before g st' now written) (fits : StateFits st) (on : GoesOn st.at.tags st'.at.tags) (full_is : is_full (named_terms st'.at.tags) ≡ full) where
     pub kept_there : kept_of st2 ≡ (executed x effects (kept_of st)).kept

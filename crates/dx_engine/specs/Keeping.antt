@@ -1,6 +1,6 @@
 -- What is kept between executions, as the cache machine's, and when it is sound.
-use Rattle.std.specs.Prelude.{◌≡◌, [], map}
-use Rattle.dx_tags.specs.Closed.{heads_of}
+use Rattle.std.specs.Prelude.{◌≡◌, [], map, length}
+use Rattle.dx_tags.specs.Closed.{HeldBelow, heads_of}
 use Rattle.dx_demand.specs.Terms.{AreExact}
 use Rattle.dx_demand.specs.Forming.{named_terms}
 use Rattle.dx_machine.specs.Sound.{IsSound}
@@ -14,9 +14,10 @@ use Rattle.dx_looking.specs.Looking.{AllFit}
 use Rattle.dx_looking.specs.Setting.{links_of}
 use Rattle.dx_engine.specs.declared.state.State.{State}
 
--- the terms, links and entries fit together
+-- the terms, links and entries fit together, and each held value that a term stands for is there
 pub record StateFits (st : State) : Type 0 where
   pub exact : AreExact st.at.tags
+  pub held : HeldBelow (length st.held) st.at.tags
   pub links : AllFit st.at.tags st.links.links
   pub bound : IsBound st.links.links st.bound
   pub entries : AreCalls st.at.tags st.at.work.cache.entries

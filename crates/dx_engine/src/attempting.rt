@@ -8,7 +8,7 @@ ghost use Rattle.dx_engine.specs.Keeping.{StateFits};
 ghost use Rattle.dx_engine.specs.Beginning.{FromState};
 ghost use Rattle.dx_engine.specs.Ending.{OnEnd, OnCut, HasPut};
 ghost use Rattle.dx_engine.specs.Cutting.{IsCutFrom, IsForgotten};
-ghost use Rattle.dx_engine.specs.Executing.{Devices, ExecutesSo};
+ghost use Rattle.dx_engine.specs.Executing.{ExecutesSo};
 ghost use Rattle.dx_engine.specs.declared.exec_error.ExecError.TheVariants.{ReadFault, WriteFault, ExportFault};
 
 use crate::exec_error::ExecError;

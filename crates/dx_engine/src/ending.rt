@@ -1,6 +1,6 @@
 //! The end of an execution: its puts, and what is kept behind it.
 ghost use Rattle.std.specs.Prelude.{◌≡◌, ◌<◌, List, Bool, IfOk, Ok, Err, vec_len, vec_capacity};
-ghost use Rattle.dx_io.specs.Devices.{Rose, Cause};
+ghost use Rattle.dx_io.specs.Devices.{Cause};
 ghost use Rattle.dx_graph.specs.GraphView.{graph_of};
 ghost use Rattle.dx_links.specs.declared.held.Change.{Change};
 ghost use Rattle.dx_links.specs.LinkMap.{LinkMap};

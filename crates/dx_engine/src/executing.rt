@@ -7,7 +7,7 @@ ghost use Rattle.dx_getting.specs.Told.{told};
 ghost use Rattle.dx_engine.specs.Keeping.{StateFits, IsSoundState};
 ghost use Rattle.dx_engine.specs.Beginning.{FromState};
 ghost use Rattle.dx_engine.specs.Ending.{OnCut, HasPut};
-ghost use Rattle.dx_engine.specs.Executing.{Devices, ExecutesSo};
+ghost use Rattle.dx_engine.specs.Executing.{ExecutesSo};
 ghost use Rattle.dx_engine.specs.declared.exec_error.ExecError.TheVariants.{ReadFault, WriteFault, ExportFault};
 
 use crate::exec_error::ExecError;

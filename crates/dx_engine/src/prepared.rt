@@ -28,8 +28,8 @@ pub(crate) enum Prepared {
 }
 
 // What an emptying leaves of links.
-fn empty_of(alloc: Global, links: &Links) -> Result<Boxed<NextEmpty>, AllocError>
-    ensures { IfOk result (λ next. EmptySo links.now.links next) }
+fn empty_of(alloc: Global, links: Links) -> Result<Boxed<NextEmpty>, AllocError>
+    ensures { IfOk result (λ next. EmptySo links.links next) }
 {
     let emptied = prepare_emptying(alloc, links)?;
     let bound = bound_of(alloc, &emptied.links)?;
@@ -44,8 +44,7 @@ fn emptied_after(
 ) -> Result<Boxed<NextEmpty>, AllocError>
     ensures { IfOk result (λ next. EmptySo (after links.now.links changes) next) }
 {
-    let links = links_after(alloc, links, changes)?;
-    empty_of(alloc, &links)
+    empty_of(alloc, links_after(alloc, links, changes)?)
 }
 
 /// Makes all that is put in place behind an execution. The links and the values stay as they are.
@@ -67,7 +66,7 @@ pub(crate) fn prepare(
     match (is_full(tags), unchanged) {
         (false, true) => Ok(Prepared::Kept),
         (false, false) => Ok(Prepared::Changed(prepare_in_place(alloc, links, bound, changes)?)),
-        (true, true) => Ok(Prepared::Emptied(empty_of(alloc, links)?)),
+        (true, true) => Ok(Prepared::Emptied(empty_of(alloc, links.copy(alloc)?)?)),
         (true, false) => Ok(Prepared::Emptied(emptied_after(alloc, links, changes)?)),
     }
 }

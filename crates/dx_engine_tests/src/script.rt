@@ -55,12 +55,14 @@ fn statements_of(alloc: Global, text: &[u8]) -> Result<Option<Stmts>, AllocError
     }
 }
 
-/// The macros and definitions of a text join.
-fn take(alloc: Global, d: &mut Dictionary, text: &[u8]) -> Result<(), AllocError> {
-    match statements_of(alloc, text)? {
-        Some(statements) => join_all(d, statements),
-        None => Ok(()),
-    }
+/// The dictionary that has the macros and definitions of a text; None where that is no script.
+fn taken(alloc: Global, text: &[u8]) -> Result<Option<Dictionary>, AllocError> {
+    let Some(statements) = statements_of(alloc, text)? else {
+        return Ok(None);
+    };
+    let mut d = Dictionary::new(alloc);
+    join_all(&mut d, statements)?;
+    Ok(Some(d))
 }
 
 fn expanded(alloc: Global, d: &Dictionary, s: &Stmt) -> Result<Option<Graph>, AllocError>
@@ -93,14 +95,15 @@ fn graph_by(alloc: Global, d: &Dictionary, statement: &[u8]) -> Result<Option<Gr
     }
 }
 
-/// The graph of the first statement of a text by the macros and definitions of another; None where that is no statement, or
-/// has a static fault.
+/// The graph of the first statement of a text by the macros and definitions of another; None where one of them is no script,
+/// or the first has no statement, or one with a static fault.
 pub fn graph_of(
     alloc: Global,
     before: &[u8],
     statement: &[u8],
 ) -> Result<Option<Graph>, AllocError> {
-    let mut d = Dictionary::new(alloc);
-    take(alloc, &mut d, before)?;
-    graph_by(alloc, &d, statement)
+    match taken(alloc, before)? {
+        None => Ok(None),
+        Some(d) => graph_by(alloc, &d, statement),
+    }
 }

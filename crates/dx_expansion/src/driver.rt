@@ -247,8 +247,8 @@ pub fn check_and_expand<'a>(
 }
 
 /// The expansion of a statement: the graph whose effects are those of the statement, in order, which is empty where the
-/// statement isn't executed. What a definition comes to stands in it once, however often it is read. A definition that is
-/// read has no effects.
+/// statement isn't executed. A definition that is read has no effects. (That what a definition comes to stands in the graph once, however
+/// often it is read, is only tested.)
 ///
 /// # Errors
 ///

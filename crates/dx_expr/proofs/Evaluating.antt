@@ -13,6 +13,10 @@ use Rattle.dx_expr.specs.Value.{Inputs, Outcome, Values, value_of, values_by, si
 use Rattle.dx_expr.specs.Evaluated.{Gives, GivesSingle, FailsWith}
 use Rattle.dx_expr.proofs.Equations.{value_binary, value_choice}
 
+-- what the code has at hand of an expression x is that expression
+pub same_binary : (x : Expression) (o o' : Binary) (a b a' b' : Expression) → x ≡ e.Binary o a b → o' ≡ o → a' ≡ a → b' ≡ b → e.Binary o' a' b' ≡ x
+same_binary x o o' a b a' b' is same left right = ap (λ p. e.Binary p a' b') same ∙ ap (λ p. e.Binary o p b') left ∙ ap (λ p. e.Binary o a p) right ∙ sym is
+
 pub single_along : (r : Result ℤ EvalFail) (o p : Outcome Values) → o ≡ p → GivesSingle p r → GivesSingle o r
 single_along r o p e h = subst (λ q. GivesSingle q r) (sym e) h
 

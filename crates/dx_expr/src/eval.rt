@@ -1,6 +1,7 @@
 //! The evaluation of an item of an expression.
 
 ghost use Rattle.std.specs.Prelude.{◌≡◌, ◌<◌, [], Some, IfOk, IsSome, length, map, pos, true};
+ghost use Rattle.dx_expr_grammar.specs.declared.tree.Expression.TheVariants as expression;
 ghost use Rattle.dx_expr.specs.Shape as shapes;
 ghost use Rattle.dx_expr.specs.Value as spec;
 ghost use Rattle.dx_expr.specs.Evaluated.{Gives, GivesSingle};
@@ -12,7 +13,7 @@ use crate::values::{
 };
 use crate::{EvalFail, Inputs};
 use dx_base::Items;
-use dx_expr_grammar::Expression;
+use dx_expr_grammar::{Binary, Expression};
 use std::alloc::Global;
 
 fn number(n: u32) -> Result<i32, EvalFail>
@@ -40,30 +41,9 @@ pub fn single_value<I: Inputs>(
         Expression::Unary(operator, a) => {
             on_one(*operator, single_value(alloc, a.get(), inputs, item))
         }
-        Expression::Binary(operator, a, b) => match sides_of(*operator) {
-            Sides::UnlessTrue => {
-                let x = single_value(alloc, a.get(), inputs, item)?;
-                if x != 0 {
-                    return Ok(1);
-                }
-                decided(single_value(alloc, b.get(), inputs, item))
-            }
-            Sides::IfTrue => {
-                let x = single_value(alloc, a.get(), inputs, item)?;
-                if x == 0 {
-                    return Ok(0);
-                }
-                decided(single_value(alloc, b.get(), inputs, item))
-            }
-            Sides::Vectors => {
-                let x = all_values(alloc, a.get(), inputs, item)?;
-                dot_product(x.as_slice(), all_values(alloc, b.get(), inputs, item))
-            }
-            Sides::Both => {
-                let x = single_value(alloc, a.get(), inputs, item)?;
-                on_two(*operator, x, single_value(alloc, b.get(), inputs, item))
-            }
-        },
+        Expression::Binary(operator, a, b) => {
+            operator_value(alloc, *operator, a.get(), b.get(), inputs, item)
+        }
         Expression::Choice(condition, a, b) => {
             let c = single_value(alloc, condition.get(), inputs, item)?;
             if c == 0 {
@@ -74,6 +54,46 @@ pub fn single_value<I: Inputs>(
         }
         Expression::Part(a, k) => part_of(all_values(alloc, a.get(), inputs, item), *k),
         Expression::Vector(_) => unreachable!(),
+    }
+}
+
+/// The value of an item of an operator or a function of two operands that is a single value.
+#[cycle(eval)]
+fn operator_value<I: Inputs>(
+    alloc: Global,
+    operator: Binary,
+    a: &Expression,
+    b: &Expression,
+    inputs: &I,
+    item: u64,
+) -> Result<i32, EvalFail>
+    requires single { shapes.shape_of (I.given inputs.now).shape (expression.Binary operator a.now b.now) ≡ Some [] }
+    requires item { item < I.items inputs.now }
+    ensures { GivesSingle (spec.value_of (I.given inputs.now) item (expression.Binary operator a.now b.now)) result }
+{
+    match sides_of(operator) {
+        Sides::UnlessTrue => {
+            let x = single_value(alloc, a, inputs, item)?;
+            if x != 0 {
+                return Ok(1);
+            }
+            decided(single_value(alloc, b, inputs, item))
+        }
+        Sides::IfTrue => {
+            let x = single_value(alloc, a, inputs, item)?;
+            if x == 0 {
+                return Ok(0);
+            }
+            decided(single_value(alloc, b, inputs, item))
+        }
+        Sides::Vectors => {
+            let x = all_values(alloc, a, inputs, item)?;
+            dot_product(x.as_slice(), all_values(alloc, b, inputs, item))
+        }
+        Sides::Both => {
+            let x = single_value(alloc, a, inputs, item)?;
+            on_two(operator, x, single_value(alloc, b, inputs, item))
+        }
     }
 }
 

@@ -1,4 +1,4 @@
-// What keeps an item of an expression, or all items, from having values.
+//! What keeps an item of an expression, or all items, from having values.
 use std::alloc::{AllocError, AllocFailed};
 use thiserror::Error;
 

@@ -1,4 +1,4 @@
-// The inputs of an expression, as whoever evaluates it has them.
+//! The inputs of an expression, as whoever evaluates it has them.
 ghost use Rattle.std.specs.Prelude.{◌≡◌, ◌<◌, ℕ};
 ghost use Rattle.dx_expr.specs.Value as spec;
 ghost use Rattle.dx_expr.specs.Value.{size};

@@ -1,4 +1,4 @@
-//! Compute's expressions: their shapes and values, and how a text is parsed to one.
+//! Compute's expressions: their shapes and values. `dx_expr_parser` parses the text of one.
 #![tactic(auto)]
 
 mod eval;
@@ -14,6 +14,7 @@ pub use dx_expr_parser::parse_expr;
 pub use eval::{single_value, values_of};
 pub use fault::{EvalFail, ItemFault};
 pub use inputs::Inputs;
+pub use operators::{checked, truth, unary_value};
 pub use shape::{Shape, is_single, shape_of};
 pub use uses::uses_input;
 pub use values::Values;

@@ -30,7 +30,7 @@ pub fn sides_of(operator: Binary) -> Sides
     }
 }
 
-/// A value, where it lies in the int range.
+/// A value, where it lies in the int range, and else Overflow.
 pub fn checked(v: i64) -> Result<i32, ItemFault>
     ensures { result ≡ spec.checked v }
 {
@@ -40,13 +40,14 @@ pub fn checked(v: i64) -> Result<i32, ItemFault>
     Ok(v as i32)
 }
 
+/// What a comparison or a decision is worth: 1 where it is true, and 0 where it isn't.
 pub fn truth(b: bool) -> i32
     ensures { result ≡ spec.truth b }
 {
     if b { 1 } else { 0 }
 }
 
-/// What an operator or a function of one operand makes of a value.
+/// What an operator or a function of one operand makes of a value: Overflow where that lies outside the int range.
 pub fn unary_value(operator: Unary, v: i32) -> Result<i32, ItemFault>
     ensures { result ≡ spec.unary_value operator v }
 {

@@ -1,4 +1,4 @@
-// Shapes of expressions: a value, a vector or what an input has, and which of them fit together.
+//! Shapes of expressions: a value, a vector or what an input has, and which of them fit together.
 ghost use Rattle.std.specs.Prelude.{◌≡◌, ◌∷◌, [], map};
 ghost use Rattle.dx_expr.specs.Shape as spec;
 ghost use Rattle.dx_expr.specs.Shapes.{extents_of, found};

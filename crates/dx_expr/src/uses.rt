@@ -1,4 +1,4 @@
-// Which inputs occur in an expression.
+//! Which inputs occur in an expression.
 ghost use Rattle.std.specs.Prelude.{◌≡◌, map};
 ghost use Rattle.dx_expr.specs.Uses as spec;
 

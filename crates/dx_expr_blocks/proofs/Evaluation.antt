@@ -1,6 +1,6 @@
 -- What a block gives of an expression x that is of some kind, from what blocks gave of its parts.
-use Rattle.std.proofs.Common.{◌≡◌, ℕ, zero, suc, ◌-◌, ◌<◌, ◌≤◌, Bool, true, false, ℤ, pos, List, [], ◌∷◌, ◌++◌, length, take, drop, replicate, Option, Some, None, Ok, Err, refl, sym, ap, subst, ◌∙◌, arith}
-use Rattle.std.specs.Prelude.{map, not, if◌then◌else◌}
+use Rattle.std.proofs.Common.{◌≡◌, ℕ, zero, suc, ◌-◌, ◌≤◌, Bool, true, false, ℤ, pos, List, [], ◌∷◌, length, take, replicate, Some, Ok, Err, refl, sym, ap, subst, ◌∙◌, arith}
+use Rattle.std.specs.Prelude.{map, if◌then◌else◌}
 use Rattle.dx_expr_grammar.specs.declared.tree.Unary.{Unary}
 use Rattle.dx_expr_grammar.specs.declared.tree.Binary.{Binary}
 use Rattle.dx_expr_grammar.specs.declared.tree.Binary.TheVariants as binary
@@ -9,7 +9,7 @@ use Rattle.dx_expr_grammar.specs.declared.tree.Expression.TheVariants as e
 use Rattle.dx_expr.specs.declared.operators.Sides.TheVariants as sides
 use Rattle.dx_expr.specs.Shape.{shape_of}
 use Rattle.dx_expr.specs.Value.{Inputs, Outcome, sides_of, unary_value, binary_value, checked}
-use Rattle.dx_expr_blocks.specs.Block.{Run, block_of, up_to, before, fronted, both, ended, picked, passes, merged}
+use Rattle.dx_expr_blocks.specs.Block.{Run, block_of, up_to, both, ended, picked, passes, looking_where, merged}
 use Rattle.dx_expr_blocks.specs.Items.{all_below}
 use Rattle.dx_expr_blocks.proofs.Laws.{picked_count}
 use Rattle.dx_expr_blocks.proofs.Expressions.{block_number, block_input, block_unary, block_both, block_or, block_and, block_choice, decisions}
@@ -68,65 +68,67 @@ both_of binary.Dot h g k = absurd (k refl)
 
 -- ---- blocks
 
-module _ (inputs : Inputs) (x : Expression) (items : List ℕ) where
+-- what the code has at hand of a choice x is that choice
+pub same_choice : (x c a b c' a' b' : Expression) → x ≡ e.Choice c a b → c' ≡ c → a' ≡ a → b' ≡ b → e.Choice c' a' b' ≡ x
+same_choice x c a b c' a' b' is first left right = ap (λ p. e.Choice p a' b') first ∙ ap (λ p. e.Choice c p b') left ∙ ap (λ p. e.Choice c a p) right ∙ sym is
+
+module _ (inputs : Inputs) (items : List ℕ) where
   abbrev B : Expression → List ℕ → Run ℤ
   B = block_of inputs
 
   abbrev IsSingle : Expression → Type 0
   IsSingle a = shape_of inputs.shape a ≡ Some []
 
-  pub at_number : (n count : ℕ) → x ≡ e.Number n → count ≡ length items → up_to (replicate count (checked (pos n))) ≡ B x items
-  at_number n count is h = ap (λ c. up_to (replicate c (checked (pos n)))) h ∙ sym (block_number inputs n items) ∙ ap (λ x. B x items) (sym is)
+  pub at_number : (x : Expression) (n count : ℕ) → x ≡ e.Number n → count ≡ length items → up_to (replicate count (checked (pos n))) ≡ B x items
+  at_number x n count is h = ap (λ c. up_to (replicate c (checked (pos n)))) h ∙ sym (block_number inputs n items) ∙ ap (λ x. B x items) (sym is)
 
-  pub at_input : (k : ℕ) → x ≡ e.Input k → inputs.shape k ≡ [] → up_to (map (λ i. checked (inputs.value k i 0)) items) ≡ B x items
-  at_input k is h = sym (block_input inputs k items h) ∙ ap (λ x. B x items) (sym is)
+  pub at_input : (x : Expression) (k : ℕ) → x ≡ e.Input k → inputs.shape k ≡ [] → up_to (map (λ i. checked (inputs.value k i 0)) items) ≡ B x items
+  at_input x k is h = sym (block_input inputs k items h) ∙ ap (λ x. B x items) (sym is)
 
-  pub at_unary : (o : Unary) (a a' : Expression) (r : Run ℤ) → x ≡ e.Unary o a → a' ≡ a → IsSingle a' → B a' items ≡ r → ended (up_to (map (unary_value o) r.values)) r.fault ≡ B x items
-  at_unary o a a' r is same h found =
+  pub at_unary : (x : Expression) (o : Unary) (a a' : Expression) (r : Run ℤ) → x ≡ e.Unary o a → a' ≡ a → IsSingle a' → B a' items ≡ r → ended (up_to (map (unary_value o) r.values)) r.fault ≡ B x items
+  at_unary x o a a' r is same h found =
       let f : Run ℤ → Run ℤ = λ r. ended (up_to (map (unary_value o) r.values)) r.fault in
       ap f (sym found) ∙ ap (λ a. f (B a items)) same ∙ sym (block_unary inputs o a items (subst IsSingle same h)) ∙ ap (λ x. B x items) (sym is)
 
-  pub at_both : (o : Binary) (a b a' b' : Expression) (l r : Run ℤ) (reached : List ℕ) → x ≡ e.Binary o a b → sides_of o ≡ sides.Both → a' ≡ a → b' ≡ b → IsSingle a' → IsSingle b' →
-      B a' items ≡ l → reached ≡ take (length l.values) items → B b' reached ≡ r → both (binary_value o) l r ≡ B x items
-  at_both o a b a' b' l r reached is s left right h g found there found' =
-      let f : Run ℤ → Expression → Run ℤ = λ l b. both (binary_value o) l (B b (take (length l.values) items)) in
-      ap (λ r. both (binary_value o) l r) (sym found') ∙ ap (λ q. both (binary_value o) l (B b' q)) there
-      ∙ ap (λ l. f l b') (sym found) ∙ ap (λ a. f (B a items) b') left ∙ ap (λ b. f (B a items) b) right
-      ∙ sym (block_both inputs o a b items s (subst IsSingle left h) (subst IsSingle right g)) ∙ ap (λ x. B x items) (sym is)
+  pub at_both : (o : Binary) (a b : Expression) (l r : Run ℤ) (reached : List ℕ) → sides_of o ≡ sides.Both → IsSingle a → IsSingle b →
+      B a items ≡ l → reached ≡ take (length l.values) items → B b reached ≡ r → both (binary_value o) l r ≡ B (e.Binary o a b) items
+  at_both o a b l r reached s h g found there found' =
+      ap (λ r. both (binary_value o) l r) (sym found') ∙ ap (λ q. both (binary_value o) l (B b q)) there
+      ∙ ap (λ l. both (binary_value o) l (B b (take (length l.values) items))) (sym found) ∙ sym (block_both inputs o a b items s h g)
 
-  pub at_or : (o : Binary) (a b a' b' : Expression) (l r ones others : Run ℤ) (reached : List ℕ) (rest : ℕ) → x ≡ e.Binary o a b → o ≡ binary.Or → a' ≡ a → b' ≡ b →
-      B a' items ≡ l → reached ≡ picked (passes false) l.values items → B b' reached ≡ r → decisions r ≡ ones → rest ≡ length l.values - length reached → up_to (replicate rest (checked (pos 1))) ≡ others →
-      merged l.values l.fault others.values others.fault ones.values ones.fault ≡ B x items
-  at_or o a b a' b' l r ones others reached rest is s left right found there found' decides much fixed =
-      let m : Run ℤ → Run ℤ → Run ℤ → Run ℤ = λ l one other. merged l.values l.fault one.values one.fault other.values other.fault in
-      let count : rest ≡ length (picked (passes true) l.values items) =
-      omega (arith, much, ap length there, picked_count l.values items (reached_le inputs a' items l l.values found refl)) in
-      let f : Run ℤ → Expression → Run ℤ = λ l b. m l (up_to (replicate (length (picked (passes true) l.values items)) (checked (pos 1)))) (decisions (B b (picked (passes false) l.values items))) in
-      ap (λ q. m l (others) (q)) (sym decides ∙ ap decisions (sym found') ∙ ap (λ q. decisions (B b' q)) there)
-      ∙ ap (λ q. m l (q) (decisions (B b' (picked (passes false) l.values items)))) (sym fixed ∙ ap (λ n. up_to (replicate n (checked (pos 1)))) count)
-      ∙ ap (λ l. f l b') (sym found) ∙ ap (λ a. f (B a items) b') left ∙ ap (λ b. f (B a items) b) right
-      ∙ sym (block_or inputs a b items) ∙ ap (λ o. B (e.Binary o a b) items) (sym s) ∙ ap (λ x. B x items) (sym is)
-
-  pub at_and : (o : Binary) (a b a' b' : Expression) (l r ones others : Run ℤ) (reached : List ℕ) (rest : ℕ) → x ≡ e.Binary o a b → o ≡ binary.And → a' ≡ a → b' ≡ b →
-      B a' items ≡ l → reached ≡ picked (passes true) l.values items → B b' reached ≡ r → decisions r ≡ ones → rest ≡ length l.values - length reached → up_to (replicate rest (checked (pos 0))) ≡ others →
-      merged l.values l.fault ones.values ones.fault others.values others.fault ≡ B x items
-  at_and o a b a' b' l r ones others reached rest is s left right found there found' decides much fixed =
+  -- where the right side is looked at, as it was found, and elsewhere what it can't change
+  pub at_and : (wanted : Bool) (a b : Expression) (l r looked fixed : Run ℤ) (reached : List ℕ) (rest : ℕ) → wanted ≡ true →
+      B a items ≡ l → reached ≡ picked (passes wanted) l.values items → B b reached ≡ r → decisions r ≡ looked → rest ≡ length l.values - length reached → up_to (replicate rest (checked (pos 0))) ≡ fixed →
+      merged l.values l.fault looked.values looked.fault fixed.values fixed.fault ≡ B (e.Binary (looking_where wanted) a b) items
+  at_and true a b l r looked fixed reached rest is found there found' decides much same =
       let m : Run ℤ → Run ℤ → Run ℤ → Run ℤ = λ l one other. merged l.values l.fault one.values one.fault other.values other.fault in
       let count : rest ≡ length (picked (passes false) l.values items) =
-      omega (arith, much, ap length there, picked_count l.values items (reached_le inputs a' items l l.values found refl)) in
-      let f : Run ℤ → Expression → Run ℤ = λ l b. m l (decisions (B b (picked (passes true) l.values items))) (up_to (replicate (length (picked (passes false) l.values items)) (checked (pos 0)))) in
-      ap (λ q. m l (q) (others)) (sym decides ∙ ap decisions (sym found') ∙ ap (λ q. decisions (B b' q)) there)
-      ∙ ap (λ q. m l (decisions (B b' (picked (passes true) l.values items))) (q)) (sym fixed ∙ ap (λ n. up_to (replicate n (checked (pos 0)))) count)
-      ∙ ap (λ l. f l b') (sym found) ∙ ap (λ a. f (B a items) b') left ∙ ap (λ b. f (B a items) b) right
-      ∙ sym (block_and inputs a b items) ∙ ap (λ o. B (e.Binary o a b) items) (sym s) ∙ ap (λ x. B x items) (sym is)
+      omega (arith, much, ap length there, picked_count l.values items (reached_le inputs a items l l.values found refl)) in
+      ap (λ q. m l q fixed) (sym decides ∙ ap decisions (sym found') ∙ ap (λ q. decisions (B b q)) there)
+      ∙ ap (λ q. m l (decisions (B b (picked (passes true) l.values items))) q) (sym same ∙ ap (λ n. up_to (replicate n (checked (pos 0)))) count)
+      ∙ ap (λ l. m l (decisions (B b (picked (passes true) l.values items))) (up_to (replicate (length (picked (passes false) l.values items)) (checked (pos 0))))) (sym found)
+      ∙ sym (block_and inputs a b items)
+  at_and false a b l r looked fixed reached rest is found there found' decides much same = absurd cc
 
-  pub at_choice : (c a b c' a' b' : Expression) (l one other : Run ℤ) (reached reached' : List ℕ) → x ≡ e.Choice c a b → c' ≡ c → a' ≡ a → b' ≡ b →
-      B c' items ≡ l → reached ≡ picked (passes true) l.values items → B a' reached ≡ one → reached' ≡ picked (passes false) l.values items → B b' reached' ≡ other →
-      merged l.values l.fault one.values one.fault other.values other.fault ≡ B x items
-  at_choice c a b c' a' b' l one other reached reached' is first left right found there found' there' found'' =
+  pub at_or : (wanted : Bool) (a b : Expression) (l r looked fixed : Run ℤ) (reached : List ℕ) (rest : ℕ) → wanted ≡ false →
+      B a items ≡ l → reached ≡ picked (passes wanted) l.values items → B b reached ≡ r → decisions r ≡ looked → rest ≡ length l.values - length reached → up_to (replicate rest (checked (pos 1))) ≡ fixed →
+      merged l.values l.fault fixed.values fixed.fault looked.values looked.fault ≡ B (e.Binary (looking_where wanted) a b) items
+  at_or true a b l r looked fixed reached rest is found there found' decides much same = absurd cc
+  at_or false a b l r looked fixed reached rest is found there found' decides much same =
       let m : Run ℤ → Run ℤ → Run ℤ → Run ℤ = λ l one other. merged l.values l.fault one.values one.fault other.values other.fault in
-      let f : Run ℤ → Expression → Expression → Run ℤ = λ l a b. m l (B a (picked (passes true) l.values items)) (B b (picked (passes false) l.values items)) in
-      ap (λ o. m l o other) (sym found') ∙ ap (λ q. m l (B a' q) other) there
-      ∙ ap (λ o. m l (B a' (picked (passes true) l.values items)) o) (sym found'') ∙ ap (λ q. m l (B a' (picked (passes true) l.values items)) (B b' q)) there'
-      ∙ ap (λ l. f l a' b') (sym found) ∙ ap (λ c. f (B c items) a' b') first ∙ ap (λ a. f (B c items) a b') left ∙ ap (λ b. f (B c items) a b) right
-      ∙ sym (block_choice inputs c a b items) ∙ ap (λ x. B x items) (sym is)
+      let count : rest ≡ length (picked (passes true) l.values items) =
+      omega (arith, much, ap length there, picked_count l.values items (reached_le inputs a items l l.values found refl)) in
+      ap (λ q. m l fixed q) (sym decides ∙ ap decisions (sym found') ∙ ap (λ q. decisions (B b q)) there)
+      ∙ ap (λ q. m l q (decisions (B b (picked (passes false) l.values items)))) (sym same ∙ ap (λ n. up_to (replicate n (checked (pos 1)))) count)
+      ∙ ap (λ l. m l (up_to (replicate (length (picked (passes true) l.values items)) (checked (pos 1)))) (decisions (B b (picked (passes false) l.values items)))) (sym found)
+      ∙ sym (block_or inputs a b items)
+
+  pub at_choice : (c a b : Expression) (l one other : Run ℤ) (reached reached' : List ℕ) →
+      B c items ≡ l → reached ≡ picked (passes true) l.values items → B a reached ≡ one → reached' ≡ picked (passes false) l.values items → B b reached' ≡ other →
+      merged l.values l.fault one.values one.fault other.values other.fault ≡ B (e.Choice c a b) items
+  at_choice c a b l one other reached reached' found there found' there' found'' =
+      let m : Run ℤ → Run ℤ → Run ℤ → Run ℤ = λ l one other. merged l.values l.fault one.values one.fault other.values other.fault in
+      ap (λ o. m l o other) (sym found' ∙ ap (B a) there)
+      ∙ ap (λ o. m l (B a (picked (passes true) l.values items)) o) (sym found'' ∙ ap (B b) there')
+      ∙ ap (λ l. m l (B a (picked (passes true) l.values items)) (B b (picked (passes false) l.values items))) (sym found)
+      ∙ sym (block_choice inputs c a b items)

@@ -1,14 +1,12 @@
 -- What a block gives of each kind of expression.
-use Rattle.std.proofs.Common.{◌≡◌, ℕ, zero, suc, ◌<◌, Bool, true, false, ℤ, pos, List, [], ◌∷◌, length, take, replicate, Option, Some, None, Ok, Err, refl, sym, ap, subst, ◌∙◌, arith}
+use Rattle.std.proofs.Common.{◌≡◌, ℕ, Bool, true, false, ℤ, pos, List, [], ◌∷◌, length, take, replicate, Some, Ok, Err, refl, ap, ◌∙◌, arith}
 use Rattle.std.specs.List.{range_with_len}
-use Rattle.std.specs.Prelude.{map, not, if◌then◌else◌}
+use Rattle.std.specs.Prelude.{map, if◌then◌else◌}
 use Rattle.dx_expr_grammar.specs.declared.tree.Unary.{Unary}
 use Rattle.dx_expr_grammar.specs.declared.tree.Binary.{Binary}
 use Rattle.dx_expr_grammar.specs.declared.tree.Binary.TheVariants as binary
 use Rattle.dx_expr_grammar.specs.declared.tree.Expression.{Expression}
 use Rattle.dx_expr_grammar.specs.declared.tree.Expression.TheVariants as e
-use Rattle.dx_expr.specs.declared.fault.ItemFault.{ItemFault}
-use Rattle.dx_expr.specs.declared.operators.Sides.{Sides}
 use Rattle.dx_expr.specs.declared.operators.Sides.TheVariants as sides
 use Rattle.dx_expr.specs.Shape.{shape_of}
 use Rattle.dx_expr.specs.Value.{Inputs, Outcome, Values, value_of, values_by, sides_of, side_by_side, unary_value, binary_value, each, input_values, checked, alone, is_zero, the_value, ◌>>=◌}

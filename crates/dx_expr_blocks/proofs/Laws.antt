@@ -1,9 +1,9 @@
 -- What a block gives of an expression, by what it gives of the parts.
-use Rattle.std.proofs.Common.{◌≡◌, ℕ, zero, suc, Bool, true, false, ℤ, pos, List, [], ◌∷◌, ◌++◌, ◌+◌, ◌≤◌, length, take, replicate, Option, Some, None, Ok, Err, refl, sym, ap, ◌∙◌, arith}
+use Rattle.std.proofs.Common.{◌≡◌, ℕ, zero, suc, true, false, ℤ, List, [], ◌∷◌, ◌+◌, ◌≤◌, length, take, replicate, Option, None, Ok, Err, refl, sym, ap, ◌∙◌, arith}
 use Rattle.std.specs.Prelude.{map, not, if◌then◌else◌}
 use Rattle.dx_expr.specs.declared.fault.ItemFault.{ItemFault}
-use Rattle.dx_expr.specs.Value.{Outcome, is_zero, truth, ◌>>=◌}
-use Rattle.dx_expr_blocks.specs.Block.{Run, behind, fronted, before, up_to, beside, or_else, ended, both, picked, passes, next, merged, decision, decided}
+use Rattle.dx_expr.specs.Value.{Outcome, is_zero, ◌>>=◌}
+use Rattle.dx_expr_blocks.specs.Block.{Run, fronted, before, up_to, beside, or_else, ended, both, picked, passes, next, merged}
 
 both_next : {A : Type 0} → (o : Outcome A) (rest : Run A) (run : Run A) (fault : Option ItemFault) → rest ≡ ended run fault → before o rest ≡ ended (before o run) fault
 both_next (Ok v) rest run fault e = ap (fronted v) e

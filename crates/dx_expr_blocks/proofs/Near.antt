@@ -1,10 +1,10 @@
 -- Values near enough to 0, of which an operator makes one.
-use Rattle.std.proofs.Common.{◌≡◌, ℕ, suc, ◌+◌, ◌*◌, ◌<◌, ◌≤◌, ℤ, pos, negsuc, ◌+ℤ◌, ◌-ℤ◌, ◌*ℤ◌, ◌≤ℤ◌, Bool, true, false, refl, arith}
+use Rattle.std.proofs.Common.{◌≡◌, ℕ, ◌+◌, ◌*◌, ◌≤◌, ℤ, pos, negsuc, ◌+ℤ◌, ◌-ℤ◌, ◌*ℤ◌, ◌≤ℤ◌, Bool, true, false, refl, arith}
 use Rattle.std.specs.Prelude.{unsigned_abs, nat_lt, IsOk, Ok, Err, if◌then◌else◌}
 use Rattle.std.proofs.lemmas.Int.{ints, unsigned_abs-mul}
 use Rattle.std.proofs.Math.Nat.{mul-le-mul}
 use Rattle.dx_expr.specs.declared.fault.ItemFault.TheVariants.{Overflow}
-use Rattle.dx_expr.specs.Value.{Outcome, checked, is_int}
+use Rattle.dx_expr.specs.Value.{checked, is_int}
 
 pub near_ok : (z : ℤ) → unsigned_abs z ≤ 2147483647 → IsOk (checked z)
 near_ok (pos n) h =

@@ -1,10 +1,10 @@
 -- The items of a block, by their kind.
-use Rattle.std.proofs.Common.{◌≡◌, ℕ, zero, suc, ◌+◌, ◌-◌, ◌*◌, ◌<◌, ◌≤◌, List, [], ◌∷◌, length, take, get_or, refl, sym, ap, subst, ◌∙◌, arith}
+use Rattle.std.proofs.Common.{◌≡◌, ℕ, zero, suc, ◌+◌, ◌-◌, ◌*◌, ◌<◌, ◌≤◌, List, [], ◌∷◌, length, take, refl, sym, ap, subst, ◌∙◌, arith}
 use Rattle.std.specs.Prelude.{slice_index, map}
 use Rattle.std.specs.List.{range_with_len}
 use Rattle.std.proofs.lemmas.List.FromFn.{length-range_with_len, get_or-range_with_len}
 use Rattle.dx_expr_blocks.specs.declared.block.Block.{Block}
-use Rattle.dx_expr_blocks.specs.declared.block.Block.TheVariants.{Range, Listed}
+use Rattle.dx_expr_blocks.specs.declared.block.Block.TheVariants.{Range}
 use Rattle.dx_expr_blocks.specs.Items.{items_of, all_below}
 
 pub below_range : (b : Block) (from to place : ℕ) → b ≡ Range from to → place < length (items_of b) → place < to - from

@@ -20,13 +20,13 @@ of_ok P (Err f) h = tt
 -- a number
 pub same_number : (inputs : Inputs) (x : Expression) (items : List ℕ) (n : ℕ) (v : ℤ) → x ≡ e.Number n → checked (pos n) ≡ Ok v → block_of inputs x items ≡ run_of (replicate (length items) v) None
 same_number inputs x items n v is one =
-    sym (at_number inputs x items n (length items) is refl) ∙ constant_values (length items) (checked (pos n)) v (replicate (length items) v) one refl
+    sym (at_number inputs items x n (length items) is refl) ∙ constant_values (length items) (checked (pos n)) v (replicate (length items) v) one refl
 
 -- an input with one value for all items
 pub same_input : (inputs : Inputs) (x : Expression) (items : List ℕ) (k count : ℕ) (w v : ℤ) → x ≡ e.Input k → inputs.shape k ≡ [] → all_below count items → ((i : ℕ) → i < count → inputs.value k i 0 ≡ w) → checked w ≡ Ok v →
     block_of inputs x items ≡ run_of (replicate (length items) v) None
 same_input inputs x items k count w v is single below same one =
-    sym (at_input inputs x items k is single)
+    sym (at_input inputs items x k is single)
     ∙ ap up_to (map_below (λ i. checked (inputs.value k i 0)) (λ _. checked w) count items below (λ i h. ap checked (same i h)) ∙ map_constant (checked w) items)
     ∙ constant_values (length items) (checked w) v (replicate (length items) v) one refl
 

@@ -1,5 +1,7 @@
 -- What a block of items gives: the values of its items up to the first one that has a fault, and that fault.
 use Rattle.std.specs.Prelude.{ℕ, ◌+◌, Bool, true, false, not, List, [], ◌∷◌, ◌++◌, map, Option, Some, None, Ok, Err, if◌then◌else◌, ℤ}
+use Rattle.dx_expr_grammar.specs.declared.tree.Binary.{Binary}
+use Rattle.dx_expr_grammar.specs.declared.tree.Binary.TheVariants as binary
 use Rattle.dx_expr_grammar.specs.declared.tree.Expression.{Expression}
 use Rattle.dx_expr.specs.declared.fault.ItemFault.{ItemFault}
 use Rattle.dx_expr.specs.Value.{Inputs, Outcome, Values, value_of, is_zero, truth, the_value, ◌>>=◌}
@@ -71,6 +73,11 @@ picked p (c ∷ cs) (item ∷ items) = if p c then item ∷ picked p cs items el
 abbrev pub passes : Bool → ℤ → Bool
 passes true c = not (is_zero c)
 passes false c = is_zero c
+
+-- the operator that looks at its right side where the left one passes
+abbrev pub looking_where : Bool → Binary
+looking_where true = binary.And
+looking_where false = binary.Or
 
 -- the next value of a run, and what follows it
 abbrev pub next : {A : Type 0} → List A → Option ItemFault → (List A → Run A) → Run A

@@ -11,8 +11,9 @@ use crate::operators::{
     NotEqual, Operator, Remainder, Subtract,
 };
 use crate::side::{Beside, Same, Side};
+use crate::steps::{Step, fill};
 use crate::sure::{Sure, are_sure, make_all};
-use crate::{Found, Spare, Step, fill};
+use crate::{Found, Spare};
 use dx_expr::{Binary, ItemFault};
 use std::alloc::AllocError;
 
@@ -88,7 +89,7 @@ fn operate<R: Side>(operator: Binary, left: &mut Vec<i32>, right: &R) -> Option<
 }
 
 /// An operator on two runs, of which the right one goes no further than the left one.
-pub fn on_both(
+pub(crate) fn on_both(
     spare: &mut Spare,
     operator: Binary,
     mut left: Found,
@@ -106,7 +107,7 @@ pub fn on_both(
 }
 
 /// An operator on a run and one value on the right of all of its own.
-pub fn on_one_value(operator: Binary, mut left: Found, value: i32) -> Found
+pub(crate) fn on_one_value(operator: Binary, mut left: Found, value: i32) -> Found
     requires { sides_of operator ≡ sides.Both }
     ensures { IsFound (both (binary_value operator) (run_found left) (run_of (replicate (length left.values.items) value) None)) result }
 {

@@ -5,7 +5,7 @@ ghost use Rattle.dx_expr_blocks.specs.Items.{items_of};
 
 /// Items in the order in which they are looked at.
 #[derive(Clone, Copy)]
-pub enum Block<'a> {
+pub(crate) enum Block<'a> {
     /// From the first number to before the second.
     Range(usize, usize),
     /// These.
@@ -21,7 +21,7 @@ fn moved(from: usize, to: usize, by: usize) -> usize
 }
 
 /// How many items there are.
-pub fn count(block: Block<'_>) -> usize
+pub(crate) fn count(block: Block<'_>) -> usize
     ensures { result ≡ length (items_of block.entry) }
 {
     match block {
@@ -31,7 +31,7 @@ pub fn count(block: Block<'_>) -> usize
 }
 
 /// The item at a place.
-pub fn item_at(block: Block<'_>, place: usize) -> usize
+pub(crate) fn item_at(block: Block<'_>, place: usize) -> usize
     requires { place < length (items_of block) }
     ensures { result ≡ slice_index (items_of block.entry) place }
 {
@@ -42,7 +42,7 @@ pub fn item_at(block: Block<'_>, place: usize) -> usize
 }
 
 /// The first of them, so many.
-pub fn first(block: Block<'_>, n: usize) -> Block<'_>
+pub(crate) fn first(block: Block<'_>, n: usize) -> Block<'_>
     requires { n ≤ length (items_of block) }
     ensures { items_of result ≡ take n (items_of block.entry) }
 {

@@ -7,8 +7,9 @@ ghost use Rattle.dx_expr_blocks.specs.Block.{up_to};
 ghost use Rattle.dx_expr_blocks.specs.Found.{IsFound};
 ghost use Rattle.dx_expr_blocks.specs.Items.{items_of};
 
+use crate::Found;
 use crate::block::Block;
-use crate::{Found, Step, filled};
+use crate::steps::{Step, filled};
 use dx_expr::ItemFault;
 
 /// The ints of one place in rows of a width, from one of them on.

@@ -18,15 +18,7 @@ mod steps;
 mod sure;
 mod unary;
 
-pub use binary::{on_both, on_one_value};
-pub use block::{Block, count, first, item_at};
-pub use dx_expr::{Binary, EvalFail, Expression, ItemFault, Unary};
-pub use eval::{evaluate, evaluate_range};
-pub use found::{Found, Stop};
+pub use eval::evaluate_range;
+pub use found::Found;
 pub use inputs::{Columns, Source, Table};
-pub use load::{constant, input_run};
-pub use operators::{Operator, checked, truth};
-pub use sides::{chosen, merge_evenly, pick, picks};
 pub use spare::Spare;
-pub use steps::{Step, fill, filled};
-pub use unary::{decisions, on_each};

@@ -9,9 +9,9 @@ ghost use Rattle.dx_expr_blocks.specs.Items.{items_of, all_below};
 
 use crate::block::{Block, count, item_at};
 use crate::ints::loaded_ints;
-use crate::operators::checked;
-use crate::{Columns, Found, Source, Spare, Step, filled};
-use dx_expr::{Expression, Inputs, ItemFault};
+use crate::steps::{Step, filled};
+use crate::{Columns, Found, Source, Spare};
+use dx_expr::{Expression, Inputs, ItemFault, checked};
 use std::alloc::{AllocError, Global};
 
 /// The values of an array at the items of a block.
@@ -61,7 +61,7 @@ impl<I: Inputs> Step for Ask<'_, I> {
 }
 
 /// A value that is the same for so many items.
-pub fn constant(
+pub(crate) fn constant(
     alloc: Global,
     spare: &mut Spare,
     value: i64,
@@ -116,7 +116,7 @@ fn asked<I: Inputs>(inputs: &I, k: u8, block: Block<'_>, buffer: Vec<i32>) -> Fo
 }
 
 /// The values of an input at the items of a block.
-pub fn input_run<I: Columns>(
+pub(crate) fn input_run<I: Columns>(
     alloc: Global,
     spare: &mut Spare,
     inputs: &I,

@@ -11,9 +11,9 @@ ghost use Rattle.dx_expr_blocks.specs.Items.{items_of, all_below};
 use crate::block::{Block, count, item_at};
 use crate::eval::one_by_one;
 use crate::int_rows::in_int_rows;
-use crate::operators::checked;
-use crate::{Columns, Found, Spare, Step, Table, filled};
-use dx_expr::{Expression, Inputs, ItemFault};
+use crate::steps::{Step, filled};
+use crate::{Columns, Found, Spare, Table};
+use dx_expr::{Expression, Inputs, ItemFault, checked};
 use std::alloc::{AllocError, Global};
 
 /// The values in one place of each row, at the items of a block.

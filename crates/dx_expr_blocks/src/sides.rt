@@ -6,12 +6,13 @@ ghost use Rattle.dx_expr_blocks.specs.Found.{IsFound, StopsAt};
 ghost use Rattle.dx_expr_blocks.specs.Items.{items_of};
 
 use crate::block::{Block, count, item_at};
-use crate::{Found, Spare, Stop};
+use crate::found::Stop;
+use crate::{Found, Spare};
 use dx_expr::ItemFault;
 use std::alloc::{AllocError, Global};
 
 /// Puts the items whose condition is as wanted in front, and says how many they are.
-pub fn pick(conditions: &[i32], block: Block<'_>, wanted: bool, picks: &mut [usize]) -> usize
+fn pick(conditions: &[i32], block: Block<'_>, wanted: bool, picks: &mut [usize]) -> usize
     requires each { length conditions.now ≤ length (items_of block) }
     requires room { length conditions.now ≤ length picks.old }
     ensures { take result picks.new ≡ picked (passes wanted) conditions.now (items_of block.entry) }
@@ -27,7 +28,7 @@ pub fn pick(conditions: &[i32], block: Block<'_>, wanted: bool, picks: &mut [usi
 }
 
 /// The values of both sides in the order of the conditions, which give way to them: with no branch on a condition.
-pub fn merge_evenly(
+fn merge_evenly(
     conditions: &mut [i32],
     end: Option<ItemFault>,
     ones: &Found,
@@ -60,7 +61,7 @@ pub fn merge_evenly(
 }
 
 /// The items whose condition is as wanted.
-pub fn picks(
+pub(crate) fn picks(
     alloc: Global,
     spare: &mut Spare,
     conditions: &[i32],
@@ -77,7 +78,7 @@ pub fn picks(
 }
 
 /// The values of both sides in the order of the conditions.
-pub fn chosen(
+pub(crate) fn chosen(
     spare: &mut Spare,
     mut conditions: Found,
     ones: Found,

@@ -38,7 +38,7 @@ impl Spare {
     }
 
     /// A buffer with room for so many values, whatever stands in it: where it was as long before, nothing is cleared.
-    pub fn room(&mut self, alloc: Global, count: usize) -> Result<Vec<i32>, AllocError>
+    pub(crate) fn room(&mut self, alloc: Global, count: usize) -> Result<Vec<i32>, AllocError>
         ensures { IfOk result (λ found. length found.items ≡ count) }
     {
         let mut found = match self.values.pop() {
@@ -50,7 +50,7 @@ impl Spare {
     }
 
     /// A buffer with an item number so many times.
-    pub fn items(&mut self, alloc: Global, count: usize) -> Result<Vec<usize>, AllocError>
+    pub(crate) fn items(&mut self, alloc: Global, count: usize) -> Result<Vec<usize>, AllocError>
         ensures { IfOk result (λ found. found.items ≡ replicate count 0) }
     {
         let mut found = match self.items.pop() {
@@ -68,7 +68,7 @@ impl Spare {
         Ok(())
     }
 
-    pub fn keep_items(&mut self, buffer: Vec<usize>) -> Result<(), AllocError> {
+    pub(crate) fn keep_items(&mut self, buffer: Vec<usize>) -> Result<(), AllocError> {
         self.items.push(buffer)?;
         Ok(())
     }

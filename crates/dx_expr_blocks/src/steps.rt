@@ -5,11 +5,12 @@ ghost use Rattle.dx_expr.specs.Value.{Outcome};
 ghost use Rattle.dx_expr_blocks.specs.Block.{up_to, steps};
 ghost use Rattle.dx_expr_blocks.specs.Found.{IsFound, StopsAt};
 
-use crate::{Found, Stop};
+use crate::Found;
+use crate::found::Stop;
 use dx_expr::ItemFault;
 
 /// What is done at each place of a block.
-pub trait Step {
+pub(crate) trait Step {
     /// It can be done at a place.
     ghost can_step: { Self → ℕ → Type 0 };
 
@@ -22,7 +23,7 @@ pub trait Step {
 }
 
 /// The step at each place, in order, up to the first fault.
-pub fn fill<S: Step>(s: &S, values: &mut [i32]) -> Stop
+pub(crate) fn fill<S: Step>(s: &S, values: &mut [i32]) -> Stop
     requires { (place : ℕ) → place < length values.old → S.can_step s.now place }
     ensures { StopsAt (up_to (steps (S.gives s.now) 0 values.old)) values.new result }
 {
@@ -44,7 +45,7 @@ pub fn fill<S: Step>(s: &S, values: &mut [i32]) -> Stop
 }
 
 /// The step at each place of a buffer, in order, up to the first fault.
-pub fn filled<S: Step>(s: &S, mut values: Vec<i32>) -> Found
+pub(crate) fn filled<S: Step>(s: &S, mut values: Vec<i32>) -> Found
     requires { (place : ℕ) → place < length values.items → S.can_step s.now place }
     ensures { IsFound (up_to (steps (S.gives s.now) 0 values.items)) result }
 {

@@ -11,7 +11,7 @@ use crate::side::Side;
 const MOST: u64 = 2_147_483_647;
 
 /// An operator that makes a value of any two that are near enough to 0.
-pub trait Sure: Operator {
+pub(crate) trait Sure: Operator {
     /// Whether it makes one of any two that are no further from 0 than these.
     fn is_sure(&self, left: u32, right: u32) -> bool
         ensures { result ≡ true → (a b : ℤ) → unsigned_abs a ≤ left → unsigned_abs b ≤ right → IsOk (Self.makes self.now a b) };

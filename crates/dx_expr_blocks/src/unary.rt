@@ -5,20 +5,9 @@ ghost use Rattle.dx_expr.specs.Value as spec;
 ghost use Rattle.dx_expr_blocks.specs.Block.{ended, up_to, decided};
 ghost use Rattle.dx_expr_blocks.specs.Found.{IsFound};
 
-use crate::operators::{checked, truth};
-use crate::{Found, Step, filled};
-use dx_expr::{ItemFault, Unary};
-
-fn unary_value(operator: Unary, v: i32) -> Result<i32, ItemFault>
-    ensures { result ≡ spec.unary_value operator v }
-{
-    match operator {
-        Unary::Negate => checked(-i64::from(v)),
-        Unary::Not => Ok(truth(v == 0)),
-        Unary::Absolute => checked(i64::from(v.unsigned_abs())),
-        Unary::Sign => Ok(v.signum()),
-    }
-}
+use crate::Found;
+use crate::steps::{Step, filled};
+use dx_expr::{ItemFault, Unary, truth, unary_value};
 
 #[derive(Drop)]
 struct OnOne {
@@ -38,7 +27,7 @@ impl Step for OnOne {
 }
 
 /// An operator on each value of a run.
-pub fn on_each(operator: Unary, operand: Found) -> Found
+pub(crate) fn on_each(operator: Unary, operand: Found) -> Found
     ensures { IsFound (ended (up_to (map (spec.unary_value operator) operand.values.items)) operand.fault) result }
 {
     let Found { values, fault } = operand;
@@ -65,7 +54,7 @@ impl Step for Decide {
 }
 
 /// 1 or 0 for each value of a run, as it is true or not.
-pub fn decisions(operand: Found) -> Found
+pub(crate) fn decisions(operand: Found) -> Found
     ensures { IsFound (ended (up_to (map decided operand.values.items)) operand.fault) result }
 {
     let Found { values, fault } = operand;

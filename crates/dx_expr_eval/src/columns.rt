@@ -1,4 +1,4 @@
-// Which expressions are evaluated by components of vectors, and these.
+//! Which expressions are evaluated by components of vectors, and these.
 ghost use Rattle.std.specs.Prelude.{◌≡◌, ◌<◌, ◌≤◌, [], true, Some, IfOk, length, map};
 ghost use Rattle.std.specs.List.{range_with_len};
 ghost use Rattle.dx_expr.specs.Shape.{shape_of as spec_shape_of};

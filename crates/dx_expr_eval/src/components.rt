@@ -1,4 +1,4 @@
-// Expressions that are vectors, by their components and by blocks of items.
+//! Expressions that are vectors, by their components and by blocks of items.
 ghost use Rattle.std.specs.Prelude.{◌≤◌};
 ghost use Rattle.dx_base.specs.Answers.{Answers, refused};
 ghost use Rattle.dx_expr_eval.specs.Items.{all_values, values_from, faultless};

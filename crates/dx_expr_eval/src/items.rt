@@ -1,4 +1,4 @@
-// All items of an expression: by blocks where each has a single value, and else one after the other.
+//! All items of an expression: by blocks where each has a single value, and else one after the other.
 ghost use Rattle.std.specs.Prelude.{◌≡◌, ◌≤◌, ◌*◌, [], true, length, IsSome, Some, IfOk};
 ghost use Rattle.std.specs.List.{list_all};
 ghost use Rattle.dx_base.specs.Answers.{Answers, refused};

@@ -1,4 +1,4 @@
-// Expressions that are a single value for each item, by blocks of items.
+//! Expressions that are a single value for each item, by blocks of items.
 ghost use Rattle.std.specs.Prelude.{◌≡◌, ◌≤◌, [], length, Some, IfOk};
 ghost use Rattle.dx_base.specs.Answers.{Answers, refused};
 ghost use Rattle.dx_expr.specs.Shape.{shape_of as spec_shape_of};

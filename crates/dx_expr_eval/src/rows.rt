@@ -1,4 +1,4 @@
-// A block's items of a vector expression: component by component, and then in rows.
+//! A block's items of a vector expression: component by component, and then in rows.
 ghost use Rattle.std.specs.Prelude.{◌≡◌, ◌<◌, ◌≤◌, ◌+◌, ◌-◌, ◌*◌, ℕ, [], Some, IfOk, length, pos, slice_index_or};
 ghost use Rattle.dx_base.specs.Answers.{IsEither, refused};
 ghost use Rattle.dx_expr.specs.Shape.{shape_of};

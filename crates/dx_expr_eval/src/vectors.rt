@@ -1,4 +1,4 @@
-// Expressions that are vectors, item by item.
+//! Expressions that are vectors, item by item.
 ghost use Rattle.std.specs.Prelude.{◌≡◌, ◌≤◌, ◌<◌, ◌*◌, length, IsSome, Some, IfOk};
 ghost use Rattle.dx_base.specs.Answers.{Answers, refused};
 ghost use Rattle.dx_expr.specs.Shape as shapes;

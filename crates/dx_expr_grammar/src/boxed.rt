@@ -1,4 +1,4 @@
-// A part of a tree on the heap.
+//! A part of a tree on the heap.
 ghost use Rattle.std.specs.Prelude.{◌≡◌, IfOk};
 
 use std::alloc::{AllocError, Global};

@@ -1,4 +1,4 @@
-// Why a text gives no expression.
+//! Why a text gives no expression.
 use std::alloc::{AllocError, AllocFailed};
 use thiserror::Error;
 

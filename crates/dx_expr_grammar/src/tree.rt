@@ -1,4 +1,4 @@
-// The tree of an expression, its operators and how closely they bind.
+//! The tree of an expression, its operators and how closely they bind.
 use crate::Boxed;
 use dx_base::Items;
 

@@ -1,4 +1,4 @@
-// Whether the values of an expression lie where each item has them.
+//! Whether the values of an expression lie where each item has them.
 ghost use Rattle.std.specs.Prelude.{◌≡◌, ℕ, map, true, Ok, is_some};
 ghost use Rattle.dx_expr.specs.Value.{Inputs};
 ghost use Rattle.dx_expr_eval.specs.Items.{values_from, faultless};

@@ -1,4 +1,4 @@
-// What operators make of values of which it is known where they lie.
+//! What operators make of values of which it is known where they lie.
 ghost use Rattle.std.specs.Prelude.{◌≡◌, ◌+ℤ◌, ◌-ℤ◌, ◌*ℤ◌, neg_ℤ, pos};
 ghost use Rattle.std.specs.Int.{int_min, int_max};
 ghost use Rattle.dx_expr_ranges.specs.Ranges as spec;

@@ -1,4 +1,4 @@
-// Where values lie.
+//! Where values lie.
 ghost use Rattle.std.specs.Prelude.{◌≡◌, ◌||◌};
 ghost use Rattle.dx_expr_ranges.specs.Ranges as spec;
 

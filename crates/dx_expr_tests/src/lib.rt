@@ -1,4 +1,4 @@
-//! Tests of expressions: texts, their trees, and their values, by public calls alone.
+//! Tests of expressions: texts that are refused, and values, by public calls alone.
 #![tactic(auto)]
 
 #[cfg(test)]

@@ -1,5 +1,5 @@
 -- Cells of a grid: their corners are points, so each of their values names an item where there are as many as points.
-use Rattle.std.proofs.Common.{◌≡◌, ℕ, zero, suc, ◌+◌, ◌*◌, ◌/◌, ◌%◌, ◌^◌, ◌<◌, ◌≤◌, pos, List, [], ◌∷◌, length, min, None, true, refl, ap, arith, inl, inr}
+use Rattle.std.proofs.Common.{◌≡◌, ℕ, ◌*◌, ◌/◌, ◌%◌, ◌^◌, ◌<◌, ◌≤◌, pos, List, [], ◌∷◌, length, min, None, true, refl, ap, arith, inl, inr}
 use Rattle.std.specs.Prelude.{slice_index}
 use Rattle.std.proofs.lemmas.Int.{ints}
 use Rattle.std.proofs.lemmas.Bool.{cases_lt}
@@ -11,14 +11,8 @@ use Rattle.dx_arrays.specs.Classes.{kind_of}
 use Rattle.dx_arrays.specs.Corner.{corner_at}
 use Rattle.dx_arrays.specs.declared.array.ArrayClass.TheVariants.{GridConnections}
 use Rattle.dx_arrays.proofs.Cells.{corner_at-lt, corner_numbers_at, more_than_one, pow_pos}
-use Rattle.dx_fields.specs.Stray.{names_item, value_number, stray_from, first_stray}
-
--- where each value names an item, none is astray
-none_stray : (a : ArrayData) (n i k : ℕ) → ((j : ℕ) → j < i + k → names_item n (value_number a j) ≡ true) → stray_from a n i k ≡ None
-none_stray a n i zero h = refl
-none_stray a n i (suc k) h =
-    let now : names_item n (value_number a i) ≡ true = h i (omega arith) in
-    rw now (none_stray a n (i + 1) k (λ j l. h j (omega (arith, l))))
+use Rattle.dx_fields.specs.Stray.{names_item, first_stray}
+use Rattle.dx_fields.proofs.StrayLaws.{none_stray}
 
 named : (n m : ℕ) → m < n → names_item n (pos m) ≡ true
 named n m h = grind (arith, ints)

@@ -1,4 +1,4 @@
-// What is wrong with a field.
+//! What is wrong with a field.
 ghost use Rattle.std.specs.Prelude.{◌≡◌, None, Some, MatchResult};
 ghost use Rattle.dx_fields.specs.Faults.{field_fault, first_fault};
 ghost use Rattle.dx_objects.specs.Shown.{parts_of};

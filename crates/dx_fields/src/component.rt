@@ -1,4 +1,4 @@
-// What is wrong with one component of a field.
+//! What is wrong with one component of a field.
 ghost use Rattle.std.specs.Prelude.{◌≡◌, ◌<◌, ◌≤◌, None, Some, MatchOption};
 ghost use Rattle.dx_base.specs.Object.{attributes};
 ghost use Rattle.dx_base.specs.ObjectNames.{find};

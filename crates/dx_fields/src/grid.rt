@@ -1,4 +1,4 @@
-// Fields that are regular grids.
+//! Fields that are regular grids.
 ghost use Rattle.std.specs.Prelude.{◌≡◌, ◌<◌, ◌≤◌, length, None, Some, MatchOption, IfSome, slice_index, bytes_eq};
 ghost use Rattle.dx_base.specs.ArrayLimits.{max_dimensions};
 ghost use Rattle.dx_fields.specs.Grids as spec;

@@ -1,5 +1,6 @@
-// Values that name no item.
-ghost use Rattle.std.specs.Prelude.{◌≡◌, ◌<◌, ◌≤◌, true, None, Some};
+//! Values that name no item.
+ghost use Rattle.std.specs.Prelude.{◌≡◌, ℕ, ◌*◌, ◌<◌, ◌≤◌, true, None, Some};
+ghost use Rattle.dx_base.specs.Array.{items, width};
 ghost use Rattle.dx_arrays.specs.Classes.{plain_of};
 ghost use Rattle.dx_fields.specs.Stray as spec;
 
@@ -75,11 +76,23 @@ fn first_stray_int(array: &Array, values: &[i32], items: u64) -> Option<u64>
     None
 }
 
+// How many of an array's first items tell of all: those of a constant array are equal, so one does.
+fn telling_items(array: &Array) -> u64
+    ensures within { result ≤ items array.now }
+    ensures tell { (n : ℕ) → spec.stray_from array.now n 0 (result * width array.now) ≡ spec.first_stray array.now n }
+{
+    let items = array.items();
+    match array.class() {
+        ArrayClass::Constant => items.min(1),
+        _ => items,
+    }
+}
+
 fn first_stray_by_number(array: &Array, items: u64) -> Option<u64>
     ensures { result ≡ spec.first_stray array.now items }
 {
     let width = array.width();
-    for i in 0..array.items() * width {
+    for i in 0..telling_items(array) * width {
         if !names_item(items, array.value(i / width, i % width)) {
             return Some(i);
         }

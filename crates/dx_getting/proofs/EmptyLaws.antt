@@ -99,6 +99,13 @@ front_length zero n links = refl
 front_length (suc count) n [] = refl
 front_length (suc count) n (l ∷ ls) = ap suc (front_length count (suc n) ls)
 
+-- the later links stay
+pub front_at : (count n i : ℕ) (links : LinkMap) → count ≤ i → slice_get (front_held count n links) i ≡ slice_get links i
+front_at zero n i links h = refl
+front_at (suc count) n i [] h = refl
+front_at (suc count) n zero (l ∷ ls) h = absurd (omega (arith, h))
+front_at (suc count) n (suc i) (l ∷ ls) h = front_at count (suc n) i ls (omega (arith, h))
+
 pub values_more : (links : LinkMap) (i : ℕ) (l : Key × Holding) → slice_get links i ≡ Some l → values_held (take (suc i) links) ≡ values_held (take i links) ++ Some l.1.value ∷ []
 values_more [] i l e = cc
 values_more (x ∷ ls) zero l e = let same : x ≡ l = cc in ap (λ (y : Key × Holding). Some y.1.value ∷ []) same

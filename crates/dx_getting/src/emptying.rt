@@ -1,7 +1,5 @@
 //! Emptying: the cache and the terms are forgotten, and the values of links are held by their numbers.
 ghost use Rattle.std.specs.Prelude.{◌≡◌, ◌<◌, ◌++◌, ◌∷◌, [], length, IfOk, vec_len, vec_capacity};
-ghost use Rattle.dx_tags.specs.Closed.{AllFormed, AreDistinct};
-ghost use Rattle.dx_tags.specs.Whole.{AllWhole};
 ghost use Rattle.dx_getting.specs.declared.event.Event.TheVariants as shown;
 ghost use Rattle.dx_getting.specs.Stands.{AreExact};
 ghost use Rattle.dx_objects.specs.Values.{value_at};
@@ -25,15 +23,14 @@ pub struct Emptied {
     pub held: Outs,
 }
 
-/// Makes all that an emptying puts in place, for links as they will be then.
-pub fn prepare_emptying(alloc: Global, links: &Links) -> Result<Emptied, AllocError>
-    ensures links { IfOk result (λ e. e.links.links ≡ all_held links.now.links) }
-    ensures terms { IfOk result (λ e. e.tags ≡ held_terms (length links.now.links)) }
+/// Makes all that an emptying puts in place, of links as they will be then.
+pub fn prepare_emptying(alloc: Global, mut links: Links) -> Result<Emptied, AllocError>
+    ensures links { IfOk result (λ e. e.links.links ≡ all_held links.links) }
+    ensures terms { IfOk result (λ e. e.tags ≡ held_terms (length links.links)) }
     ensures exact { IfOk result (λ e. AreExact e.tags) }
-    ensures held { IfOk result (λ e. e.held ≡ values_held links.now.links) }
+    ensures held { IfOk result (λ e. e.held ≡ values_held links.links) }
     ensures denote { (a : Around) → IfOk result (λ e. a.held ≡ value_at e.held → LinksAreRight a (heads_of e.tags) e.links.links) }
 {
-    let mut new_links = links.copy(alloc)?;
     let mut tags = Tags::new(alloc);
     let mut held = Outs::new(alloc);
     for k in 0..links.len() {
@@ -41,13 +38,9 @@ pub fn prepare_emptying(alloc: Global, links: &Links) -> Result<Emptied, AllocEr
         let value = shared(link.value())?;
         held.push(value)?;
         let tag = tags.intern(Term::Held(k as u64))?;
-        new_links.set_tag(k, ValueTag { tag, result: 0 });
+        links.set_tag(k, ValueTag { tag, result: 0 });
     }
-    Ok(Emptied {
-        links: new_links,
-        tags,
-        held,
-    })
+    Ok(Emptied { links, tags, held })
 }
 
 /// Puts an emptying in place, for whose event there is room. This takes no memory.

@@ -1,5 +1,5 @@
 //! Hits, and results that are kept.
-ghost use Rattle.std.specs.Prelude.{◌≡◌, ℕ, ◌<◌, ◌≤◌, ◌++◌, ◌∷◌, [], None, map, length, true, is_some, nat_eq, OnOk, vec_len, vec_capacity};
+ghost use Rattle.std.specs.Prelude.{◌≡◌, ◌<◌, ◌≤◌, ◌++◌, ◌∷◌, [], None, map, length, true, is_some, nat_eq, OnOk, vec_len, vec_capacity};
 ghost use Rattle.std.specs.Map.{lookup};
 ghost use Rattle.dx_cache.specs.Cached as kept;
 ghost use Rattle.dx_cache.specs.Cached.{IsPartOf};

@@ -1,5 +1,5 @@
 //! The calls whose results are known in an execution.
-ghost use Rattle.std.specs.Prelude.{◌≡◌, ◌<◌, ◌++◌, ◌∷◌, [], Some, None, nat_eq, MatchOption, OnOk, OnErr};
+ghost use Rattle.std.specs.Prelude.{◌≡◌, ◌<◌, ◌++◌, ◌∷◌, [], Some, None, nat_eq, MatchOption, OnOk};
 ghost use Rattle.std.specs.Map.{lookup};
 
 use dx_objects::Outs;

@@ -1,5 +1,5 @@
 //! Getting a value by a stack of calls in work.
-ghost use Rattle.std.specs.Prelude.{◌≡◌, ℕ, ◌<◌, None, length, OnOk, IfOk, slice_get};
+ghost use Rattle.std.specs.Prelude.{◌≡◌, ℕ, ◌<◌, None, OnOk, IfOk, slice_get};
 ghost use Rattle.std.specs.Option.{option_copied};
 ghost use Rattle.dx_io.specs.Devices.{Cause};
 ghost use Rattle.dx_tags.specs.Closed.{heads_of, value_term};

@@ -1,5 +1,5 @@
 //! Values that need no get, and results of known calls.
-ghost use Rattle.std.specs.Prelude.{◌≡◌, ◌<◌, Some, None, true, length, is_some, slice_get, nat_eq, IfOk, IfErr, OnErr};
+ghost use Rattle.std.specs.Prelude.{◌≡◌, ◌<◌, Some, None, true, length, is_some, slice_get, nat_eq, IfOk};
 ghost use Rattle.std.specs.Map.{lookup};
 ghost use Rattle.dx_objects.specs.Values.{value_of, value_at};
 ghost use Rattle.dx_objects.specs.Runs.{Values};

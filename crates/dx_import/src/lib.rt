@@ -2,7 +2,9 @@
 #![tactic(auto)]
 
 mod import;
+mod laws;
 
 pub use dx_base::Bytes;
 pub use dx_objects::{Code, Outs, RunFail};
 pub use import::run_import;
+pub use laws::steps_law;

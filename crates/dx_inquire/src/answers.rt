@@ -1,4 +1,4 @@
-// Results of one value.
+//! Results of one value.
 ghost use Rattle.std.specs.Prelude.{◌≡◌, ◌∷◌, [], pos, map, Ok, IfOk};
 ghost use Rattle.dx_base.specs.Object.{text as text_tree, no_parts};
 ghost use Rattle.dx_objects.specs.Runs.{Gives};

@@ -1,4 +1,4 @@
-// Inquire.
+//! Inquire.
 ghost use Rattle.std.specs.Prelude.{◌≡◌, length, Some, None, MatchOption, IfOk};
 ghost use Rattle.dx_base.specs.Array.{counts_of};
 ghost use Rattle.dx_base.specs.Modules.{Takes};

@@ -1,4 +1,4 @@
-// The questions.
+//! The questions.
 ghost use Rattle.std.specs.Prelude.{◌≡◌};
 ghost use Rattle.dx_inquire.specs.Inquire as spec;
 

@@ -84,11 +84,15 @@ fn list(alloc: Global, items: &[i32]) -> Result<Shared<i32>, AllocError> {
     Shared::from_vec(alloc, items.to_vec(alloc)?)
 }
 
+// Lists of which no two have the same elements in the same order.
+const SHARED: &[&[i32]] = &[&[], &[0], &[1], &[1, 2], &[2, 1], &[1, 2, 3]];
+
 // Whether a list of these elements, and a share of it, has them and no others.
 fn is_shared(alloc: Global, items: &[i32]) -> Result<bool, AllocError> {
     let list = list(alloc, items)?;
     let shared = list.share()?;
-    Ok(shared == list && shared.as_slice() == items && shared.len() == items.len())
+    let is_whole = shared.len() == items.len() && shared.is_empty() == items.is_empty();
+    Ok(shared == list && shared.as_slice() == items && is_whole)
 }
 
 fn are_equal(alloc: Global, one: &[i32], other: &[i32]) -> Result<bool, AllocError> {
@@ -105,11 +109,12 @@ fn are_its_items(alloc: Global, items: &[i32]) -> Result<bool, AllocError> {
 #[test]
 fn lists_are_shared_and_compared_by_their_elements(rt: HostRuntime) -> Result<(), AllocError> {
     let alloc = rt.alloc();
-    assert!(rt; is_shared(alloc, &[1, 2, 3])?);
-    assert!(rt; are_equal(alloc, &[1, 2, 3], &[1, 2, 3])?);
-    assert!(rt; !are_equal(alloc, &[1, 2, 3], &[1, 2])?);
-    assert!(rt; !list(alloc, &[1, 2, 3])?.is_empty());
-    assert!(rt; are_its_items(alloc, &[1, 2])?);
+    for (i, one) in SHARED.iter().enumerate() {
+        assert!(rt; is_shared(alloc, one)? && are_its_items(alloc, one)?);
+        for (k, other) in SHARED.iter().enumerate() {
+            assert!(rt; are_equal(alloc, one, other)? == (i == k));
+        }
+    }
     Ok(())
 }
 

@@ -9,7 +9,7 @@ ghost use Rattle.dx_lexer.specs.Answers.{Answers, Finds, IsAmong, LiesIn, Stands
 ghost use Rattle.dx_lexer.specs.Lexemes.{as_lexeme};
 
 use crate::borrowed::{Token, TokenKind, lexeme};
-use crate::bytes::{begins, begins_digit, is_name_start};
+use crate::bytes::{begins_digit, is_name_start};
 use crate::fail::{Fault, LexFail};
 use crate::gap::after_gap;
 use crate::number::number;

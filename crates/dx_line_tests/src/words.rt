@@ -1,4 +1,4 @@
-// Lists of words, each with what it says: which session or how large a workload, under which budget, and what is listed.
+//! Lists of words, each with what it says: which session or how large a workload, under which budget, and what is listed.
 use dx_words::{Job, Words, WordsFail, read_words};
 use std::alloc::Global;
 use std::test::Fail;

@@ -1,4 +1,4 @@
-// The text of the workload, as its lines are written down, and its length where there are many.
+//! The text of the workload, as its lines are written down, and its length where there are many.
 use dx_workload::workload_text;
 use std::test::Fail;
 

@@ -1,4 +1,4 @@
-// The changes of one execution.
+//! The changes of one execution.
 ghost use Rattle.std.specs.Prelude.{◌≡◌, ◌<◌, ◌==◌, [], ◌∷◌, ◌++◌, Some, length, slice_get, OnOk, OnErr};
 
 use crate::held::Change;

@@ -1,4 +1,4 @@
-// What links hold, and how they change.
+//! What links hold, and how they change.
 ghost use Rattle.std.specs.Prelude.{◌≡◌, IfOk};
 
 use crate::key::Key;

@@ -1,4 +1,4 @@
-// The keys of links.
+//! The keys of links.
 ghost use Rattle.std.specs.Prelude.{◌≡◌, IfOk};
 
 use dx_base::Bytes;

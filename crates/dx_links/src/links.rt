@@ -1,4 +1,4 @@
-// The links: slots in the order in which they came, and their numbers in the order of the keys, which is searched by halving.
+//! The links: slots in the order in which they came, and their numbers in the order of the keys, which is searched by halving.
 
 ghost use Rattle.std.specs.Prelude.{◌≡◌, ◌+◌, ◌<◌, ◌≤◌, [], None, Some, length, MatchOption, OnOk, IfOk, slice_get};
 ghost use Rattle.std.specs.List.{range_with_len};

@@ -1,4 +1,4 @@
-// Where a key and a slot stand in the order of the keys, which is searched by halving.
+//! Where a key and a slot stand in the order of the keys, which is searched by halving.
 ghost use Rattle.std.specs.Prelude.{◌≡◌, ◌<◌, length, slice_get, slice_index};
 ghost use Rattle.std.specs.List.{All};
 ghost use Rattle.std.specs.List.Sorted.{IsBinarySearchResult, IsSearchInRange};

@@ -1,4 +1,4 @@
-// How a change is made: the slots of the other keys stay where they are, and so do their links.
+//! How a change is made: the slots of the other keys stay where they are, and so do their links.
 ghost use Rattle.std.specs.Prelude.{◌≡◌, ◌+◌, ◌<◌, ◌≤◌, length};
 ghost use Rattle.std.specs.List.{insert, remove};
 ghost use Rattle.std.specs.List.Sorted.{IsStrictlySortedBy};

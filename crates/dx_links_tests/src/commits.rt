@@ -1,4 +1,4 @@
-// Links after commits of a few changes, in the order of their keys.
+//! Links after commits of a few changes, in the order of their keys.
 use dx_base::Bytes;
 use dx_links::{Change, Changes, Held, Key, Links};
 use dx_objects::{Object, Parts};

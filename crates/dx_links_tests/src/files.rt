@@ -1,4 +1,4 @@
-// Files that were written: what was put last under a name is got.
+//! Files that were written: what was put last under a name is got.
 use dx_base::Bytes;
 use dx_tags::{Content, Written};
 use std::alloc::{AllocError, Global};

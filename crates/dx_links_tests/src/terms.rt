@@ -1,4 +1,4 @@
-// Terms and their tags: equal terms have one tag, and different terms two.
+//! Terms and their tags: equal terms have one tag, and different terms two.
 ghost use Rattle.std.specs.Prelude.{◌≡◌, ◌∷◌, [], IfOk, IsTrue, length};
 ghost use Rattle.dx_ast.specs.Lawful.{IsLawfulConst};
 ghost use Rattle.dx_tags.specs.Closed.{AllFormed, Fits, IsFormed, heads_of};

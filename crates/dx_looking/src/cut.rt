@@ -1,6 +1,5 @@
 //! What cuts an execution short.
 
-use dx_getting::GetFail;
 use std::alloc::AllocError;
 use thiserror::Error;
 

@@ -1,5 +1,5 @@
 //! The values of selectors that were got.
-ghost use Rattle.std.specs.Prelude.{◌≡◌, ◌++◌, ◌∷◌, [], None, OnOk};
+ghost use Rattle.std.specs.Prelude.{◌≡◌, ◌++◌, ◌∷◌, [], None, OnOk, OnErr};
 ghost use Rattle.std.specs.Map.{lookup};
 ghost use Rattle.dx_objects.specs.Values.{value_of};
 ghost use Rattle.dx_tags.specs.contracts.term.ValueTagPartialEq.TheImpl as tags;
@@ -40,7 +40,8 @@ impl ToldValues {
     /// The value of a term is told from now on, which wasn't.
     pub fn tell(&mut self, tag: ValueTag, value: Value) -> Result<(), AllocError>
         requires absent { lookup (tags.ghosts.eq tag) self.old ≡ None }
-        ensures { OnOk result (self.new ≡ self.old ++ (tag, value_of value) ∷ []) }
+        ensures ok { OnOk result (self.new ≡ self.old ++ (tag, value_of value) ∷ []) }
+        ensures err { OnErr result (self.new ≡ self.old) }
     {
         self.table.insert(tag, value)?;
         Ok(())

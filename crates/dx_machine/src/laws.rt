@@ -1,4 +1,4 @@
-// What is true of the cache machine.
+//! What is true of the cache machine.
 ghost use Rattle.dx_machine.specs.Agree.{GettingAgrees, PlainAgrees};
 ghost use Rattle.dx_machine.specs.Sound.{TellingKeeps, HitKeeps, StoringKeeps, EmptyingKeeps, GettingKeeps, GettingAllKeeps};
 

@@ -60,8 +60,6 @@ switched n a b = ResultTree 0 (TreeCall function.Switch (at (step (codes "Switch
 abbrev route : ℤ → CallTree
 route n = TreeCall function.Route (at (Target (codes "p") ∷ step (codes "Route") 1)) (AndTree (int (pos 2)) (AndTree (int n) NoTree))
 
--- `Collect(Compute("1 / 0"), p)`: nothing is run
-
 -- in a macro: `Compute("$0 + $1", Compute("1 / 0"), p)` is passed over, and the error's site is that of the later call
 abbrev in_m : ℕ → Place
 in_m k = record { site = Nth (codes "m") 1 ∷ step (codes "Compute") k; path = Nth (codes "m") 1 ∷ []; cache = 1 }
@@ -105,6 +103,7 @@ pub record Examples : Type 0 where
   pub text_halts : (outcome no_links (ResultTree 0 (TreeCall function.Route (at (Target (codes "p") ∷ step (codes "Route") 1)) (AndTree (words (codes "a")) (AndTree (int (pos 5)) NoTree))))).decided ≡ HaltAt (Target (codes "p") ∷ step (codes "Route") 1) BadArgument
   pub first_is_off : outcome no_links (ResultTree 0 (route (pos 5))) ≡ record { decided = Off; control_uses = []; data_uses = [] }
   pub second_is_on : outcome no_links (ResultTree 1 (route (pos 5))) ≡ record { decided = Val (number (pos 5)); control_uses = []; data_uses = [] }
+  -- `Collect(Compute("1 / 0"), p)`: nothing is run
   pub nothing_runs : outcome no_links (ResultTree 0 (TreeCall (function.Module computing.Collect) (at (step (codes "Collect") 1)) (AndTree bad (AndTree (ResultTree 0 (route (pos 1))) NoTree)))) ≡ record { decided = Off; control_uses = []; data_uses = [] }
   pub passed_over : (outcome no_links (ResultTree 0 (TreeCall (function.Module computing.Compute) (in_m 1) (AndTree (words (codes "$0 + $1")) (AndTree (division 2) (AndTree (ResultTree 0 (route (pos 1))) NoTree)))))).decided ≡ Off
   pub later_site : (outcome no_links (division 3)).decided ≡ ErrAt (Nth (codes "m") 1 ∷ step (codes "Compute") 3) DivisionByZero

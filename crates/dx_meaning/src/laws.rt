@@ -1,4 +1,4 @@
-// Laws of the meaning of calls.
+//! Laws of the meaning of calls.
 ghost use Rattle.dx_meaning.specs.More.{ScansStay};
 ghost use Rattle.dx_meaning.specs.Forming.{FormsStay, FormsOnce};
 ghost use Rattle.dx_meaning.specs.Rows.{Examples};

@@ -1,6 +1,7 @@
-// What a module answers, as a text.
+//! What a module answers, as a text.
 use dx_base::{Bytes, Code, Module};
 use dx_modules::Modules;
+use dx_native_read::read_object;
 use dx_native_write::write_object;
 use dx_objects::{Library, Object, Outs, Parts, Recorder, RunFail, Value, number};
 use std::alloc::Global;
@@ -13,12 +14,22 @@ pub(crate) enum Given<'a> {
     Null,
     Text(&'a str),
     Number(i64),
+    // The object of a native text.
+    Native(&'a str),
+}
+
+fn native(alloc: Global, text: &str) -> Result<Value, Fail> {
+    match read_object(alloc, text.as_bytes(), None) {
+        Ok(object) => Ok(Some(Rc::new(alloc, object)?)),
+        Err(_) => Err(Fail::from("not read")),
+    }
 }
 
 fn value(alloc: Global, given: Given) -> Result<Value, Fail> {
     match given {
         Given::Null => Ok(None),
         Given::Number(n) => Ok(number(alloc, n)?),
+        Given::Native(text) => native(alloc, text),
         Given::Text(text) => {
             let bytes = Bytes::copy_of(alloc, text.as_bytes())?;
             let object = Object::text(bytes, Parts::new(alloc))?;
@@ -47,17 +58,20 @@ fn code_name(code: Code) -> &'static str {
     }
 }
 
-// Whether the first result has this canonical text.
-fn is_object(alloc: Global, results: &Outs, text: &str) -> Result<bool, Fail> {
-    let Some(object) = results.value(0) else {
-        return Ok(text == "NULL");
-    };
-    let written = write_object(alloc, object)?;
-    Ok(written.bytes() == text.as_bytes())
+// The canonical texts of all results, one behind the other, and a line for NULL.
+fn written(alloc: Global, results: &Outs) -> Result<Vec<u8>, Fail> {
+    let mut texts = Vec::new(alloc);
+    for place in 0..results.len() {
+        match results.value(place) {
+            Some(object) => texts.extend_from_slice(write_object(alloc, object)?.bytes())?,
+            None => texts.extend_from_slice(b"NULL\n")?,
+        }
+    }
+    Ok(texts)
 }
 
-// Whether a module answers with one object of this canonical text, or refuses with the code of this name, and whether the run
-// is kept.
+// Whether a module answers with objects of these canonical texts, one behind the other, or refuses with the code of this name, and
+// whether the run is kept.
 pub(crate) fn answers(
     alloc: Global,
     module: Module,
@@ -74,7 +88,7 @@ pub(crate) fn answers(
         return Ok(false);
     }
     match answer {
-        Ok(results) => is_object(alloc, &results, text),
+        Ok(results) => Ok(written(alloc, &results)?.as_slice() == text.as_bytes()),
         Err(RunFail::Code(code)) => Ok(code_name(code) == text),
         Err(RunFail::Memory) => Ok(false),
     }

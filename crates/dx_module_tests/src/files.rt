@@ -1,4 +1,4 @@
-// Import: what it reads of a file, and why it refuses.
+//! Import: what it reads of a file, and why it refuses.
 use crate::asked::{Given, answers, inputs, kind_of_answer};
 use dx_base::{Bytes, Module};
 use std::alloc::Global;

@@ -1,9 +1,9 @@
-//! Tests of the library of modules through its trait: each module that is built answers as its own, and the runs are kept.
+//! Tests of the library of modules through its trait: each of the fourteen answers as no other would, and the runs are kept.
 #![tactic(auto)]
 
 #[cfg(test)]
 mod asked;
 #[cfg(test)]
-mod files;
+mod each_module;
 #[cfg(test)]
-mod other_modules;
+mod files;

@@ -2,7 +2,7 @@
 
 ghost use Rattle.std.specs.Prelude.{◌≡◌, ◌||◌, false, IfOk, IfErr};
 ghost use Rattle.dx_native_lex.specs.declared.fault.NativeError.{NativeError};
-ghost use Rattle.dx_native_lex.specs.Token.{Reads};
+ghost use Rattle.dx_native_lex.specs.Token.{Reads, is_key};
 ghost use Rattle.dx_native_grammar.specs.Grammar as spec;
 ghost use Rattle.dx_native_grammar.specs.Grammar.{File};
 ghost use Rattle.dx_native_grammar.specs.Names.{has_clause};
@@ -32,43 +32,53 @@ fn class_fault(token: &Lexeme<'_>) -> NativeError
     NativeError { kind, at: token.at }
 }
 
+fn is_word(token: &Lexeme<'_>, word: &[u8]) -> bool
+    ensures { result ≡ is_key word.now token.now.kind token.now.content.now }
+{
+    match token.kind {
+        Kind::Word => token.content == word,
+        _ => false,
+    }
+}
+
 /// What follows `class`.
 #[tactic(auto, unfolding(dx_native_grammar::specs::Grammar::content, dx_native_grammar::specs::Grammar::place, dx_native_grammar::specs::Grammar::content_at))]
 fn content(alloc: Global, cursor: &mut Cursor<'_>) -> Result<Content, NativeFail>
     ensures { Reads (spec.content.read cursor.old) result cursor.new }
 {
-    let at = cursor.peek().at;
-    if cursor.sees(b"array") {
+    let next = cursor.peek();
+    let at = next.at;
+    if is_word(&next, b"array") {
         return plain_array_content(alloc, cursor, at);
     }
-    if cursor.sees(b"constantarray") {
+    if is_word(&next, b"constantarray") {
         return constant_array_content(alloc, cursor, at);
     }
-    if cursor.sees(b"regulararray") {
+    if is_word(&next, b"regulararray") {
         return regular_array_content(alloc, cursor, at);
     }
-    if cursor.sees(b"gridpositions") {
+    if is_word(&next, b"gridpositions") {
         return grid_points_content(alloc, cursor, at);
     }
-    if cursor.sees(b"gridconnections") {
+    if is_word(&next, b"gridconnections") {
         return grid_cells_content(alloc, cursor, at);
     }
-    if cursor.sees(b"string") {
+    if is_word(&next, b"string") {
         return text(alloc, cursor);
     }
-    if cursor.sees(b"field") {
+    if is_word(&next, b"field") {
         return listing_content(alloc, cursor, ListClass::Field);
     }
-    if cursor.sees(b"group") {
+    if is_word(&next, b"group") {
         return listing_content(alloc, cursor, ListClass::Group);
     }
-    if cursor.sees(b"compositefield") {
+    if is_word(&next, b"compositefield") {
         return listing_content(alloc, cursor, ListClass::Composite);
     }
-    if cursor.sees(b"series") {
+    if is_word(&next, b"series") {
         return listing_content(alloc, cursor, ListClass::Series);
     }
-    Err(NativeFail::Refused(class_fault(&cursor.peek())))
+    Err(NativeFail::Refused(class_fault(&next)))
 }
 
 #[tactic(auto, unfolding(dx_native_grammar::specs::Grammar::clause))]

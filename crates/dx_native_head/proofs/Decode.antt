@@ -1,10 +1,18 @@
 -- The bytes of items that are left.
-use Rattle.std.proofs.Common.{◌≡◌, ℕ, suc, ◌+◌, ◌-◌, ◌*◌, ◌<◌, ap, ◌∙◌, sym, arith}
-use Rattle.std.proofs.Common.{Bool, ℤ, List, [], ◌∷◌, ◌++◌, take, drop, append_assoc}
+use Rattle.std.proofs.Common.{◌≡◌, ℕ, suc, ◌+◌, ◌-◌, ◌*◌, ◌<◌, ◌≤◌, Bool, ℤ, List, [], ◌∷◌, ◌++◌, take, drop, append_assoc, ap, ◌∙◌, sym, arith}
 use Rattle.dx_places.proofs.Turns.{one_more}
 use Rattle.dx_base.specs.declared.elem.ElemType.{ElemType}
+use Rattle.dx_base.specs.declared.elem.ElemType.TheVariants.{Byte, UByte, Short, UShort, Int, UInt}
 use Rattle.dx_base.specs.Elem.{byte_count}
 use Rattle.dx_native_grammar.specs.Words.{decoded, complement, joined}
+
+pub few_bytes : (t : ElemType) → byte_count t ≤ 4
+few_bytes Byte = omega arith
+few_bytes UByte = omega arith
+few_bytes Short = omega arith
+few_bytes UShort = omega arith
+few_bytes Int = omega arith
+few_bytes UInt = omega arith
 
 pub one_row : (n i w l : ℕ) → i < n → l ≡ (n - i) * w → l ≡ w + (n - (i + 1)) * w
 one_row n i w l below e =

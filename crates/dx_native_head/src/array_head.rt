@@ -1,6 +1,6 @@
 //! What is said of an array before its data.
 
-ghost use Rattle.std.specs.Prelude.{◌≡◌, ◌*◌, ◌≤◌, true, IfOk, bytes_eq};
+ghost use Rattle.std.specs.Prelude.{◌≡◌, ◌*◌, ◌≤◌, true, IfOk, if◌then◌else◌, bytes_eq};
 ghost use Rattle.dx_native_lex.specs.Shown.{shown};
 ghost use Rattle.dx_native_lex.specs.Token as token_spec;
 ghost use Rattle.dx_native_lex.specs.Token.{Reads, Shows, one};
@@ -144,35 +144,22 @@ fn type_word(cursor: &mut Cursor<'_>) -> Result<TypeWord, NativeFail>
     }
 }
 
-fn signed_rest(cursor: &mut Cursor<'_>) -> Result<ElemType, NativeFail>
-    ensures { Reads ((one token_spec.misfit spec.signed_at token_spec.none_of).read cursor.old) result cursor.new }
+/// A word that names a type behind `signed`, or else behind `unsigned`.
+fn sized_type(cursor: &mut Cursor<'_>, signed: bool) -> Result<ElemType, NativeFail>
+    ensures { Reads ((one token_spec.misfit (if signed then spec.signed_at else spec.unsigned_at) token_spec.none_of).read cursor.old) result cursor.new }
 {
     let next = cursor.peek();
-    match next.kind {
-        Kind::Word => match signed_type(next.content) {
-            Some(t) => {
-                cursor.pass(&next);
-                Ok(t)
-            }
-            None => Err(NativeFail::Refused(misfit(&next))),
-        },
-        _ => Err(NativeFail::Refused(misfit(&next))),
-    }
-}
-
-fn unsigned_rest(cursor: &mut Cursor<'_>) -> Result<ElemType, NativeFail>
-    ensures { Reads ((one token_spec.misfit spec.unsigned_at token_spec.none_of).read cursor.old) result cursor.new }
-{
-    let next = cursor.peek();
-    match next.kind {
-        Kind::Word => match unsigned_type(next.content) {
-            Some(t) => {
-                cursor.pass(&next);
-                Ok(t)
-            }
-            None => Err(NativeFail::Refused(misfit(&next))),
-        },
-        _ => Err(NativeFail::Refused(misfit(&next))),
+    let found = match next.kind {
+        Kind::Word if signed => signed_type(next.content),
+        Kind::Word => unsigned_type(next.content),
+        _ => None,
+    };
+    match found {
+        Some(t) => {
+            cursor.pass(&next);
+            Ok(t)
+        }
+        None => Err(NativeFail::Refused(misfit(&next))),
     }
 }
 
@@ -182,8 +169,8 @@ fn type_rest(cursor: &mut Cursor<'_>, word: TypeWord) -> Result<ElemType, Native
 {
     match word {
         TypeWord::Whole(t) => Ok(t),
-        TypeWord::Signed => signed_rest(cursor),
-        TypeWord::Unsigned => unsigned_rest(cursor),
+        TypeWord::Signed => sized_type(cursor, true),
+        TypeWord::Unsigned => sized_type(cursor, false),
     }
 }
 

@@ -144,17 +144,6 @@ fn complement(t: ElemType, n: u64) -> i64
     }
 }
 
-fn width(t: ElemType) -> usize
-    ensures value { result ≡ byte_count t }
-    ensures bound { result ≤ 4 }
-{
-    match t {
-        ElemType::Byte | ElemType::UByte => 1,
-        ElemType::Short | ElemType::UShort => 2,
-        ElemType::Int | ElemType::UInt => 4,
-    }
-}
-
 fn decoded(
     alloc: Global,
     t: ElemType,
@@ -167,8 +156,9 @@ fn decoded(
 {
     let mut found = Items::from_vec(Vec::with_capacity(alloc, n)?);
     let mut rest = bytes;
+    let width = t.byte_count() as usize;
     for _i in 0..n {
-        let (one, more) = rest.split_at(width(t));
+        let (one, more) = rest.split_at(width);
         found.push(complement(t, joined(t, msb, one)))?;
         rest = more;
     }
@@ -197,7 +187,7 @@ fn decoded_ints(alloc: Global, msb: bool, n: usize, bytes: &[u8]) -> Result<Item
     Ok(found)
 }
 
-#[tactic(auto, unfolding(dx_native_grammar::specs::Grammar::raw_values))]
+#[tactic(auto, using(crate::proofs::Decode::few_bytes), unfolding(dx_native_grammar::specs::Grammar::raw_values))]
 fn raw_values(
     alloc: Global,
     cursor: &mut Cursor<'_>,
@@ -208,7 +198,7 @@ fn raw_values(
     requires { n ≤ 134217728 }
     ensures { Reads ((spec.raw_values t msb n).read cursor.old) result cursor.new }
 {
-    let bytes = cursor.raw(n * width(t))?;
+    let bytes = cursor.raw(n * t.byte_count() as usize)?;
     Ok(decoded(alloc, t, msb, n, bytes)?)
 }
 

@@ -1,4 +1,4 @@
-// Laws of the definitions, each as a function that does nothing and ensures it.
+//! Laws of the definitions, each as a function that does nothing and ensures it.
 ghost use Rattle.std.specs.Prelude.{◌≡◌, ℕ, List, Option, Result, Ok, None, true};
 ghost use Rattle.dx_base.specs.Object.{Tree};
 ghost use Rattle.dx_base.specs.ObjectLimits.{IsLawful};

@@ -4,7 +4,7 @@ ghost use Rattle.std.specs.Prelude.{◌≡◌, ◌≤◌, length, drop};
 ghost use Rattle.dx_native_lex.specs.Scan.{lexed};
 ghost use Rattle.dx_native_lex.specs.Tokens.{IsToken};
 
-use crate::cursor::{Cursor, misfit, unquoted};
+use crate::cursor::{misfit, unquoted};
 use crate::fault::NativeFail;
 use crate::scan::{Kind, lexed};
 use dx_base::Bytes;

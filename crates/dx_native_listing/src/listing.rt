@@ -185,7 +185,7 @@ fn index(cursor: &mut Cursor<'_>, count: usize) -> Result<Label, NativeFail>
 }
 
 /// A token that is a name, or the index of the next part.
-#[tactic(auto, unfolding(dx_native_grammar::specs::Grammar::label))]
+#[tactic(auto, unfolding(dx_native_grammar::specs::Grammar::label, dx_native_grammar::specs::Grammar::index))]
 fn label(alloc: Global, cursor: &mut Cursor<'_>, count: usize) -> Result<Label, NativeFail>
     ensures { Reads ((spec.label count).read cursor.old) result cursor.new }
 {
@@ -199,17 +199,7 @@ fn label(alloc: Global, cursor: &mut Cursor<'_>, count: usize) -> Result<Label, 
                 at: next.at,
             })
         }
-        Kind::Word => match number_of(next.content) {
-            Some(z) if is_index(z, count) => {
-                cursor.pass(&next);
-                Ok(Label {
-                    name: None,
-                    at: next.at,
-                })
-            }
-            _ => Err(NativeFail::Refused(number_misfit(&next))),
-        },
-        _ => Err(NativeFail::Refused(number_misfit(&next))),
+        _ => index(cursor, count),
     }
 }
 

@@ -1,4 +1,4 @@
-// What reading answers, as rows tell it.
+//! What reading answers, as rows tell it.
 use dx_base::Bytes;
 use dx_native_read::{NativeError, NativeFail, NativeKind, Object, read_object};
 use dx_native_write::write_object;

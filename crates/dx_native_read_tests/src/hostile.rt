@@ -1,4 +1,4 @@
-// Files that are made to do harm: each has an answer, and soon.
+//! Files that are made to do harm: each has an answer, and soon.
 ghost use Rattle.std.specs.Prelude.{◌≤◌};
 
 use crate::answer::{Answer, error, is_refused, means, read};

@@ -1,4 +1,4 @@
-// Raw data: each type in both orders of bytes.
+//! Raw data: each type in both orders of bytes.
 use crate::answer::{error, is_refused, means};
 use dx_native_read::NativeKind;
 use std::alloc::Global;
@@ -37,65 +37,67 @@ fn holds(
     means(alloc, &text, &wanted)
 }
 
+// Items in raw data: what says how they stand, their bytes, how that is written in the canonical text, and the lines of the items.
+const TYPES_IN_BOTH_ORDERS: [(&str, &[u8], &str, &str); 9] = [
+    (
+        "signed byte items 2 binary",
+        b"\x80\x7f",
+        "signed byte rank 0",
+        "-128\n127\n",
+    ),
+    (
+        "byte items 2 lsb ieee",
+        b"\x80\xff",
+        "unsigned byte rank 0",
+        "128\n255\n",
+    ),
+    (
+        "short items 2 binary",
+        b"\x01\x02\xff\xfe",
+        "short rank 0",
+        "258\n-2\n",
+    ),
+    (
+        "short items 2 lsb binary",
+        b"\x01\x02\xff\xfe",
+        "short rank 0",
+        "513\n-257\n",
+    ),
+    (
+        "ushort items 2 msb ieee",
+        b"\x01\x02\xff\xfe",
+        "unsigned short rank 0",
+        "258\n65534\n",
+    ),
+    (
+        "int items 2 ieee",
+        b"\x00\x00\x01\x00\xff\xff\xff\xff",
+        "int rank 0",
+        "256\n-1\n",
+    ),
+    (
+        "int items 2 lsb ieee",
+        b"\x00\x01\x00\x00\x00\x00\x00\x80",
+        "int rank 0",
+        "256\n-2147483648\n",
+    ),
+    (
+        "uint items 2 lsb binary",
+        b"\x01\x00\x00\x00\xff\xff\xff\xff",
+        "unsigned int rank 0",
+        "1\n4294967295\n",
+    ),
+    (
+        "byte rank 1 shape 2 items 2 binary",
+        b"\x01 \n#",
+        "unsigned byte rank 1 shape 2",
+        "1 32\n10 35\n",
+    ),
+];
+
 #[test]
 fn each_type_in_both_orders(rt: HostRuntime) -> Result<(), Fail> {
-    let rows = [
-        (
-            "signed byte items 2 binary",
-            b"\x80\x7f".as_slice(),
-            "signed byte rank 0",
-            "-128\n127\n",
-        ),
-        (
-            "byte items 2 lsb ieee",
-            b"\x80\xff".as_slice(),
-            "unsigned byte rank 0",
-            "128\n255\n",
-        ),
-        (
-            "short items 2 binary",
-            b"\x01\x02\xff\xfe".as_slice(),
-            "short rank 0",
-            "258\n-2\n",
-        ),
-        (
-            "short items 2 lsb binary",
-            b"\x01\x02\xff\xfe".as_slice(),
-            "short rank 0",
-            "513\n-257\n",
-        ),
-        (
-            "ushort items 2 msb ieee",
-            b"\x01\x02\xff\xfe".as_slice(),
-            "unsigned short rank 0",
-            "258\n65534\n",
-        ),
-        (
-            "int items 2 ieee",
-            b"\x00\x00\x01\x00\xff\xff\xff\xff".as_slice(),
-            "int rank 0",
-            "256\n-1\n",
-        ),
-        (
-            "int items 2 lsb ieee",
-            b"\x00\x01\x00\x00\x00\x00\x00\x80".as_slice(),
-            "int rank 0",
-            "256\n-2147483648\n",
-        ),
-        (
-            "uint items 2 lsb binary",
-            b"\x01\x00\x00\x00\xff\xff\xff\xff".as_slice(),
-            "unsigned int rank 0",
-            "1\n4294967295\n",
-        ),
-        (
-            "byte rank 1 shape 2 items 2 binary",
-            b"\x01 \n#".as_slice(),
-            "unsigned byte rank 1 shape 2",
-            "1 32\n10 35\n",
-        ),
-    ];
-    all_mean(rt.alloc(), &rows)
+    all_mean(rt.alloc(), &TYPES_IN_BOTH_ORDERS)
 }
 
 #[test]

@@ -1,4 +1,4 @@
-// Texts that are refused, each with its kind; the offset is the place of the sign `^`, which is no part of the text.
+//! Texts that are refused, each with its kind; the offset is the place of the sign `^`, which is no part of the text.
 use crate::answer::{error, is_refused};
 use dx_base::Bytes;
 use dx_native_read::NativeKind;

@@ -1,4 +1,4 @@
-// What was written reads back: each canonical text means an object whose canonical text it is.
+//! What was written reads back: each canonical text means an object whose canonical text it is.
 use crate::answer::means;
 use std::test::Fail;
 

@@ -1,4 +1,4 @@
-// The kinds of lists that an object's parts stand in.
+//! The kinds of lists that an object's parts stand in.
 
 /// How the parts of an object are listed in a native file.
 #[derive(Clone, Copy)]

@@ -1,4 +1,4 @@
-// The lines of an array behind its first.
+//! The lines of an array behind its first.
 ghost use Rattle.std.specs.Prelude.{◌≡◌, ◌≤◌, ◌*◌, ◌++◌, OnOk, map, length};
 ghost use Rattle.dx_base.specs.Array.{counts_of, origin_of, deltas_of};
 ghost use Rattle.dx_base.specs.Words.{numbers_behind};

@@ -1,4 +1,4 @@
-// What stands behind the word `class` in an array's first line.
+//! What stands behind the word `class` in an array's first line.
 ghost use Rattle.std.specs.Prelude.{◌≡◌, ◌++◌, OnOk, codes};
 ghost use Rattle.dx_base.specs.Array.{counts_of};
 ghost use Rattle.dx_base.specs.Words.{counts_behind};

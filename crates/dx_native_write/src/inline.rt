@@ -1,4 +1,4 @@
-// The values of attributes that stand in the attribute's own line.
+//! The values of attributes that stand in the attribute's own line.
 ghost use Rattle.std.specs.Prelude.{◌≡◌, is_some, MatchOption, Some, None};
 ghost use Rattle.dx_native_text.specs.Inline.{inline_of, as_text, as_number, int_of as spec_int_of};
 ghost use Rattle.dx_native_write.specs.Inlines.{text_in, number_in, int_in};

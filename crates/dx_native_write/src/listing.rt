@@ -1,4 +1,4 @@
-// The lines of an object's parts and attributes.
+//! The lines of an object's parts and attributes.
 ghost use Rattle.std.specs.Prelude.{◌≡◌, ◌++◌, ◌∷◌, [], OnOk, length, Some, None};
 ghost use Rattle.dx_base.specs.Words.{quoted};
 ghost use Rattle.dx_objects.specs.Shown.{parts_of};

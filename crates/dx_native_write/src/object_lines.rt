@@ -1,4 +1,4 @@
-// The lines of one object, without those of the objects below it.
+//! The lines of one object, without those of the objects below it.
 ghost use Rattle.std.specs.Prelude.{◌≡◌, ◌++◌, OnOk, length, codes, true};
 ghost use Rattle.std.specs.Fmt.{decimal};
 ghost use Rattle.dx_base.specs.Object.{parts, part_count};

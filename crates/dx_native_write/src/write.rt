@@ -1,4 +1,4 @@
-// Writes an object and all that it has, each occurrence once.
+//! Writes an object and all that it has, each occurrence once.
 ghost use Rattle.std.specs.Prelude.{◌≡◌, ◌≤◌, ◌<◌, ◌+◌, ◌++◌, IfOk, Ok, None, true};
 ghost use Rattle.dx_base.specs.ObjectNumbers.{steps_by_ints};
 ghost use Rattle.dx_native_grammar.specs.Native.{IsNative};

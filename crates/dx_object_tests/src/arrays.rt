@@ -1,4 +1,4 @@
-// Arrays at the limits of items and of values, and as objects.
+//! Arrays at the limits of items and of values, and as objects.
 use dx_objects::{Array, ArrayError, ElemType, Object, ObjectError, Parts, Shape};
 use std::alloc::Global;
 use std::test::Fail;

@@ -1,4 +1,4 @@
-// Objects with other parts, lists of parts, and parts that are looked up by their names.
+//! Objects with other parts, lists of parts, and parts that are looked up by their names.
 use crate::shown::{push_object, push_parts};
 use crate::stock::{Words, object, parts};
 use crate::wholes::any;

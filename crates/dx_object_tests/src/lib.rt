@@ -15,8 +15,6 @@ mod outs;
 #[cfg(test)]
 mod runs;
 #[cfg(test)]
-mod shared;
-#[cfg(test)]
 mod shown;
 #[cfg(test)]
 mod small;

@@ -1,4 +1,4 @@
-// What the six makers answer, and what `Measure` tells of an object before it is made.
+//! What the six makers answer, and what `Measure` tells of an object before it is made.
 use crate::shown::{measure_of, push_made};
 use crate::stock::{Words, made_of, object, parts, twelve};
 use dx_base::Bytes;

@@ -1,4 +1,4 @@
-// Many names: parts are made and looked through in the order of their names.
+//! Many names: parts are made and looked through in the order of their names.
 use crate::stock::{object, part};
 use dx_objects::{Object, ObjectError, Parts};
 use std::alloc::Global;

@@ -1,4 +1,4 @@
-// Lists of values.
+//! Lists of values.
 use crate::wholes::any;
 use dx_objects::{Object, Outs, Value};
 use std::alloc::{AllocError, Global};

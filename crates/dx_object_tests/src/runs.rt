@@ -1,4 +1,4 @@
-// What a recorder answers, and the runs that it keeps.
+//! What a recorder answers, and the runs that it keeps.
 use crate::outs::outs;
 use crate::small::Small;
 use dx_base::{Bytes, Module};

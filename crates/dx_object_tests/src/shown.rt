@@ -1,4 +1,4 @@
-// What a row says of an object.
+//! What a row says of an object.
 use dx_base::{push_count, push_number};
 use dx_objects::{Kind, Measure, Object, ObjectError, Part};
 use std::alloc::AllocError;

@@ -1,4 +1,4 @@
-// A library for tests: each module gives its inputs back, and refuses a file, and NULL as the first input.
+//! A library for tests: each module gives its inputs back, and refuses a file, and NULL as the first input.
 ghost use Rattle.dx_object_tests.specs.Small.{small_answer, small_few};
 
 use dx_base::{Bytes, Module};

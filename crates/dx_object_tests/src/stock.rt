@@ -1,4 +1,4 @@
-// Simple objects, each named by a letter, and lists of parts of them.
+//! Simple objects, each named by a letter, and lists of parts of them.
 use dx_base::Bytes;
 use dx_objects::{Array, ElemType, Object, ObjectError, Part, Parts, Shape};
 use std::alloc::{AllocError, Global};

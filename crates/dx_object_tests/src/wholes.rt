@@ -1,4 +1,4 @@
-// Objects with parts or attributes, each named by a capital letter.
+//! Objects with parts or attributes, each named by a capital letter.
 use crate::stock::{Words, made_of, object, part, parts, twelve};
 use dx_objects::{Array, Object, Parts};
 use std::alloc::Global;

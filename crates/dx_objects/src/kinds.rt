@@ -1,4 +1,4 @@
-// What kind an object is, and its content by kind.
+//! What kind an object is, and its content by kind.
 ghost use Rattle.std.specs.Prelude.{◌≡◌, ◌≤◌, ◌<◌, None, Some, MatchOption};
 ghost use Rattle.dx_base.specs.Object as spec;
 ghost use Rattle.dx_base.specs.ObjectLimits.{is_array as spec_is_array, is_field as spec_is_field, IsLawful, max_size, max_count};

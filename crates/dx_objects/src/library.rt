@@ -1,4 +1,4 @@
-// The modules that compute, as one trait, and a library that keeps what it was asked.
+//! The modules that compute, as one trait, and a library that keeps what it was asked.
 ghost use Rattle.std.specs.Prelude.{◌≡◌, ◌++◌, ◌∷◌, [], ℕ, List, Option, OnOk, OnErr, length};
 ghost use Rattle.std.specs.Option.{option_copied};
 ghost use Rattle.dx_base.specs.Modules.{Takes};

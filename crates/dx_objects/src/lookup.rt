@@ -1,4 +1,4 @@
-// Parts that are looked up by their names.
+//! Parts that are looked up by their names.
 ghost use Rattle.std.specs.Prelude.{◌≡◌, None, Some, MatchOption};
 ghost use Rattle.dx_base.specs.ObjectNames as spec_names;
 

@@ -1,4 +1,4 @@
-// The calls that make objects: arrays, texts, fields, groups and series.
+//! The calls that make objects: arrays, texts, fields, groups and series.
 ghost use Rattle.std.specs.Prelude.{◌≡◌};
 ghost use Rattle.dx_base.specs.Object as spec;
 ghost use Rattle.dx_base.specs.ObjectLimits.{unplaced, has_good_names as spec_good_names, has_array_components as spec_array_components, has_field_members as spec_field_members, HasNoPositions};

@@ -1,4 +1,4 @@
-// How large objects are, also before they are made. A sum that would pass the greatest number stops there.
+//! How large objects are, also before they are made. A sum that would pass the greatest number stops there.
 ghost use Rattle.std.specs.Prelude.{◌≡◌, ◌+◌, ◌*◌, ◌<◌, ◌≤◌, min, max, length, IsTrue, nat_le, not, ◌&&◌};
 ghost use Rattle.dx_base.specs.Elem.{in_range as spec_in_range};
 ghost use Rattle.dx_base.specs.declared.elem.ElemType.TheVariants.{Int};

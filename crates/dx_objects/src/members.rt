@@ -1,4 +1,4 @@
-// Groups and series with other members.
+//! Groups and series with other members.
 ghost use Rattle.std.specs.Prelude.{◌≡◌, IfOk, MatchOption, None};
 ghost use Rattle.dx_base.specs.ObjectLimits.{unplaced};
 ghost use Rattle.dx_base.specs.ObjectMembers.{placed, composite_or_group};
@@ -83,8 +83,8 @@ impl Body {
     }
 }
 
-#[tactic(auto, using(dx_object_laws::proofs::PlacedLaws::unplaced_fields))]
 // A composite group where the members are all fields, and else a group.
+#[tactic(auto, using(dx_object_laws::proofs::PlacedLaws::unplaced_fields))]
 fn composite_or_group(members: Parts, attributes: Parts) -> Result<Object, ObjectError>
     ensures { Makes (composite_or_group (unplaced members) (unplaced attributes)) result }
 {
@@ -96,8 +96,8 @@ fn composite_or_group(members: Parts, attributes: Parts) -> Result<Object, Objec
 }
 
 impl NamedParts {
-    #[tactic(auto, using(crate::proofs::PartsLaws::appending))]
     // The parts with these objects in their places.
+    #[tactic(auto, using(crate::proofs::PartsLaws::appending))]
     fn placed(&self, alloc: Global, objects: &[Rc<Object>]) -> Result<Parts, AllocError>
         ensures { IfOk result (λ ps. ps ≡ placed self.now (trees objects.now)) }
     {

@@ -1,4 +1,4 @@
-// The names of parts, and their kinds.
+//! The names of parts, and their kinds.
 ghost use Rattle.std.specs.Prelude.{◌≡◌, ◌&&◌};
 ghost use Rattle.dx_base.specs.ObjectNames as spec_names;
 ghost use Rattle.dx_base.specs.ObjectLimits as limits;

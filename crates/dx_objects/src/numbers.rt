@@ -1,4 +1,4 @@
-// Numbers as objects.
+//! Numbers as objects.
 ghost use Rattle.std.specs.Prelude.{◌≡◌, IfOk, IsTrue};
 ghost use Rattle.dx_base.specs.Elem.{in_range as spec_in_range};
 ghost use Rattle.dx_base.specs.declared.elem.ElemType.TheVariants.{Int};

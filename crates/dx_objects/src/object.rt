@@ -1,4 +1,4 @@
-// Objects, their parts, and lists of parts whose names differ.
+//! Objects, their parts, and lists of parts whose names differ.
 ghost use Rattle.std.specs.Prelude.{◌≡◌, IsTrue};
 ghost use Rattle.dx_base.specs.ObjectLimits.{differ};
 ghost use Rattle.dx_objects.specs.Shown.{parts_of};

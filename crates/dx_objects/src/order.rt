@@ -1,4 +1,4 @@
-// Parts in the order of their names, and the look-up in it.
+//! Parts in the order of their names, and the look-up in it.
 ghost use Rattle.std.specs.Prelude.{◌≡◌, ◌<◌, length, None, Some, true, false, IfSome, MatchOption, MatchResult};
 ghost use Rattle.std.specs.List.{range_with_len};
 ghost use Rattle.dx_base.specs.ObjectNames as spec_names;
@@ -69,8 +69,8 @@ fn in_order(parts: &[Part], places: Vec<usize>) -> Vec<usize>
     order
 }
 
-#[tactic(auto, using(dx_object_laws::proofs::OrderLaws::not_differ_in_order, dx_object_laws::proofs::OrderLaws::all_differ_in_order))]
 // Whether the names that stand differ: equal ones are neighbours in the order.
+#[tactic(auto, using(dx_object_laws::proofs::OrderLaws::not_differ_in_order, dx_object_laws::proofs::OrderLaws::all_differ_in_order))]
 fn do_differ(parts: &[Part], order: &[usize]) -> bool
     requires { IsOrder (parts_of parts.now) order.now }
     ensures { result ≡ differ (parts_of parts.now) }

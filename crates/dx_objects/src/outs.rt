@@ -1,4 +1,4 @@
-// Values, and lists of them.
+//! Values, and lists of them.
 ghost use Rattle.std.specs.Prelude.{◌≡◌, ◌++◌, ◌∷◌, ◌==◌, ◌<◌, [], min, OnOk, OnErr, IfOk, length, slice_get, Some, None, MatchOption};
 ghost use Rattle.dx_base.specs.Object.{value_size as spec_value_size, results_size};
 ghost use Rattle.dx_objects.specs.Values.{value_of, values_of, value_at};
@@ -77,8 +77,8 @@ impl Outs {
         &self.items.as_slice()[i]
     }
 
-    #[tactic(auto, using(crate::proofs::ValuesLaws::values))]
     /// The object at a place, and none where NULL stands there or the place is behind the end.
+    #[tactic(auto, using(crate::proofs::ValuesLaws::values))]
     pub fn value(&self, i: usize) -> Option<&Rc<Object>>
         ensures { MatchOption result (value_at self.now i ≡ None) (λ o. value_at self.now i ≡ Some o.now.value) }
     {

@@ -1,4 +1,4 @@
-// Lists of parts, of which objects are made.
+//! Lists of parts, of which objects are made.
 ghost use Rattle.std.specs.Prelude.{◌≡◌, ◌==◌, length, OnOk, OnErr, IfOk};
 ghost use Rattle.std.specs.List.{range_with_len};
 ghost use Rattle.dx_base.specs.Object as spec;
@@ -7,7 +7,6 @@ ghost use Rattle.dx_base.specs.ObjectLimits.{unplaced};
 ghost use Rattle.dx_objects.specs.Shown.{parts_of};
 
 use crate::object::Part;
-use dx_base::Bytes;
 use std::alloc::{AllocError, Global};
 use std::marker::Model;
 
@@ -79,8 +78,8 @@ impl Parts {
         self.items.is_empty()
     }
 
-    #[tactic(auto, using(crate::proofs::PartsLaws::pushing))]
     /// Puts a part at the end. Where memory runs out the list stays as it was.
+    #[tactic(auto, using(crate::proofs::PartsLaws::pushing))]
     pub fn push(&mut self, part: Part) -> Result<(), AllocError>
         ensures ok { OnOk result (self.new ≡ append self.old (one_part part.name part.position part.object.value no_parts)) }
         ensures err { OnErr result (self.new ≡ self.old) }
@@ -107,8 +106,8 @@ impl Parts {
     }
 }
 
-#[tactic(auto, using(crate::proofs::PartsLaws::range_more))]
 // The places of so many parts.
+#[tactic(auto, using(crate::proofs::PartsLaws::range_more))]
 fn places(alloc: Global, len: usize) -> Result<Vec<usize>, AllocError>
     ensures { IfOk result (λ places. places.items ≡ range_with_len 0 len) }
 {

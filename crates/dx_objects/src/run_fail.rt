@@ -1,4 +1,4 @@
-// Why a run gives nothing.
+//! Why a run gives nothing.
 use dx_base::Code;
 use std::alloc::AllocError;
 use thiserror::Error;

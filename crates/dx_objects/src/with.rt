@@ -1,4 +1,4 @@
-// Fields with another component, and without one.
+//! Fields with another component, and without one.
 ghost use Rattle.std.specs.Prelude.{◌≡◌, IfOk};
 ghost use Rattle.dx_base.specs.Object as spec;
 ghost use Rattle.dx_base.specs.ObjectNames.{put, without};

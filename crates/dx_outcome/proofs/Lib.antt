@@ -3,5 +3,6 @@ pub mod Loaded
 pub mod Attributes
 pub mod Folding
 pub mod Course
+pub mod Asking
 pub mod Split
 pub mod Meant

@@ -1,12 +1,13 @@
 -- Laws of outcomes.
-use Rattle.std.specs.Prelude.{◌≡◌, ℕ, List}
+use Rattle.std.specs.Prelude.{◌≡◌, ℕ, List, []}
 use Rattle.dx_getting.specs.Stands.{Answers}
 use Rattle.dx_io.specs.Devices.{FileMap}
-use Rattle.dx_machine.specs.Machine.{runs_in}
+use Rattle.dx_machine.specs.Machine.{runs_in, reads_in}
 use Rattle.dx_outcome.specs.Budget.{StaysWithin}
 use Rattle.dx_outcome.specs.Meaning.{Meaning, IfSaid, meaning, AreSplit}
 use Rattle.dx_outcome.specs.Outcome.{Outcome, outcome, IsOutcome, texts_of, exports_of, runs_of}
 use Rattle.dx_outcome.specs.Plan.{Plan, IsPlan}
+use Rattle.dx_outcome.specs.Reads.{asked_behind, EachReads}
 
 -- there is one
 abbrev pub IsOne : {A : Type 0} → (A → Type 0) → Type 0
@@ -33,3 +34,11 @@ RunsAreDemanded = (words : List (List ℕ)) (files : FileMap) (answer : Answers)
 
 abbrev pub EntriesStayWithin : Type 0
 EntriesStayWithin = (words : List (List ℕ)) (files : FileMap) (answer : Answers) (p : Plan) → IsPlan words files p → StaysWithin answer files p
+
+-- what each execution reads is what its Imports name, but for the names under which earlier ones have put a file
+abbrev pub ReadsAreOfNamesNotPut : Type 0
+ReadsAreOfNamesNotPut = (answer : Answers) (files : FileMap) (p : Plan) → EachReads [] (outcome answer files p).seen
+
+-- and so it is of all runs together
+abbrev pub AllReadsAreOfNamesNotPut : Type 0
+AllReadsAreOfNamesNotPut = (answer : Answers) (files : FileMap) (p : Plan) → reads_in (runs_of (outcome answer files p).seen) ≡ asked_behind [] (outcome answer files p).seen

@@ -3,6 +3,7 @@ pub mod Plan
 pub mod Computed
 pub mod Outcome
 pub mod Ends
+pub mod Reads
 pub mod Meaning
 pub mod Budget
 pub mod Laws

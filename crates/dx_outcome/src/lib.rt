@@ -4,4 +4,7 @@
 
 mod laws;
 
-pub use laws::{entries_stay_within, one_outcome, outcomes_are_meant, runs_are_demanded};
+pub use laws::{
+    entries_stay_within, one_outcome, outcomes_are_meant, reads_are_of_names_not_put,
+    runs_are_demanded,
+};

@@ -1,4 +1,4 @@
-// Fields whose components are arrays of every class: their first fault, and whether they are regular grids.
+//! Fields whose components are arrays of every class: their first fault, and whether they are regular grids.
 use crate::fields::{fault, field_of, has_counts, push_attribute};
 use dx_objects::{Array, ElemType, Object, Part, Parts, Shape};
 use std::alloc::Global;

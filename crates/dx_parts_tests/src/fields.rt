@@ -1,4 +1,4 @@
-// The first fault of a field, and which fields are regular grids.
+//! The first fault of a field, and which fields are regular grids.
 use dx_base::{Bytes, push_count};
 use dx_fields::{FieldFault, check_field, grid_of};
 use dx_objects::{Array, ElemType, Object, Part, Parts, Shape};

@@ -1,4 +1,4 @@
-// Objects near the limits of objects, each small in memory since its parts are shared.
+//! Objects near the limits of objects, each small in memory since its parts are shared.
 use dx_base::Bytes;
 use dx_objects::{Object, Part, Parts};
 use std::alloc::Global;

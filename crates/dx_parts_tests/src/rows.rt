@@ -1,4 +1,4 @@
-// What each module answers for inputs that the stock names by letters.
+//! What each module answers for inputs that the stock names by letters.
 use crate::calls::answers;
 use dx_base::Module;
 use std::alloc::Global;

@@ -1,5 +1,5 @@
-// What a row says of an object: of an array its first value, of a text its bytes, of others their parts, and behind each
-// `@` where it has an attribute.
+//! What a row says of an object: of an array its first value, of a text its bytes, of others their parts, and behind each
+//! `@` where it has an attribute.
 use dx_base::push_number;
 use dx_objects::{Kind, Object, Part};
 use std::alloc::AllocError;

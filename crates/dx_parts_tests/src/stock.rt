@@ -1,4 +1,4 @@
-// The objects of the rows, each named by a letter.
+//! The objects of the rows, each named by a letter.
 use crate::limits::{deep, many, wide};
 use dx_base::Bytes;
 use dx_objects::{Array, ElemType, Object, Part, Parts, Shape, Value};

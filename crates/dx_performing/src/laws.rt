@@ -1,4 +1,4 @@
-// What is true of executions and their courses.
+//! What is true of executions and their courses.
 ghost use Rattle.dx_performing.specs.Alike.{GetAllAlike, GetsAlike};
 ghost use Rattle.dx_performing.specs.Meant.{EffectsComeSo, LeavesWhatIsMeant, ScansAreMeant};
 ghost use Rattle.dx_performing.specs.Resuming.{AllSelectorsGoOn, LookingResumes, ReadyStays, SelectorsGoOn};

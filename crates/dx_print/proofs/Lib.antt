@@ -1,3 +1,4 @@
 pub mod Headers
+pub mod Words
 pub mod Ranges
 pub mod NestedLaws

@@ -1,15 +1,12 @@
 -- The line that Echo prints of its inputs.
-use Rattle.std.specs.Prelude.{ℕ, Bool, List, [], ◌∷◌, ◌++◌, ◌==◌, ◌&&◌, map, length, Option, Some, None, if◌then◌else◌}
+use Rattle.std.specs.Prelude.{ℕ, List, [], ◌∷◌, ◌++◌, map, Option, Some, None, if◌then◌else◌}
 use Rattle.std.specs.Fmt.{signed_decimal}
 use Rattle.dx_base.specs.Tokens.Ascii as ascii
-use Rattle.dx_base.specs.Array.{ArrayData, items, value}
+use Rattle.dx_base.specs.Array.{ArrayData, value}
 use Rattle.dx_base.specs.Object.{Tree, array, text, field, group, series, composite}
+use Rattle.dx_base.specs.ObjectNumbers.{is_number}
 use Rattle.dx_base.specs.Words.{spaced}
 use Rattle.dx_print.specs.Header.{header, array_header, object_header}
-
--- an array is a number where its rank is 0 and it has one item, whatever its class and type
-abbrev pub is_number : ArrayData → Bool
-is_number a = (length a.extents == 0) && (items a == 1)
 
 -- a number in decimal, and any other array as its header
 abbrev pub array_word : ArrayData → List ℕ

@@ -1,4 +1,4 @@
-// How much Print is asked to show.
+//! How much Print is asked to show.
 ghost use Rattle.std.specs.Prelude.{◌≡◌};
 ghost use Rattle.std.specs.List.{list_all};
 ghost use Rattle.dx_objects.specs.Values.{value_of};

@@ -1,14 +1,12 @@
-// The line that Echo prints.
+//! The line that Echo prints.
 ghost use Rattle.std.specs.Prelude.{◌≡◌, ◌++◌, OnOk, map};
 ghost use Rattle.dx_objects.specs.Values.{value_of, values_of};
 ghost use Rattle.dx_base.specs.Words.{behind, spaced};
-ghost use Rattle.dx_print.specs.Echoed.{echo_of, array_word, is_number as spec_is_number, object_word, value_word};
+ghost use Rattle.dx_print.specs.Echoed.{echo_of, object_word, value_word};
 ghost use Rattle.dx_print.specs.Results.{Echoes};
 
-use crate::header::{push_array_header, push_header, push_object_header};
-use crate::item_lines::push_value;
-use dx_arrays::Array;
-use dx_base::Bytes;
+use crate::header::{push_header, push_object_header};
+use dx_base::{Bytes, push_number};
 use dx_objects::{Object, Outs, RunFail, Value};
 use std::alloc::{AllocError, Global};
 
@@ -59,31 +57,15 @@ fn push_word(out: &mut Vec<u8>, value: &Value) -> Result<(), AllocError>
     }
 }
 
+#[tactic(auto, using(crate::proofs::Words::number_word, crate::proofs::Words::other_word))]
 fn push_object_word(out: &mut Vec<u8>, object: &Object) -> Result<(), AllocError>
     ensures { OnOk result (out.new.items ≡ out.old.items ++ object_word object.now) }
 {
     if let Some(text) = object.as_text() {
         return out.extend_from_slice(text);
     }
-    match object.as_array() {
+    match object.as_number() {
         None => push_object_header(out, object),
-        Some(array) => push_array_word(out, array),
+        Some(n) => push_number(out, n),
     }
-}
-
-fn push_array_word(out: &mut Vec<u8>, array: &Array) -> Result<(), AllocError>
-    ensures { OnOk result (out.new.items ≡ out.old.items ++ array_word array.now) }
-{
-    if is_number(array) {
-        push_value(out, array, 0, 0)
-    } else {
-        push_array_header(out, array)
-    }
-}
-
-// Whether the array is a number: one item of rank 0, whatever its class and type.
-fn is_number(array: &Array) -> bool
-    ensures { result ≡ spec_is_number array.now }
-{
-    array.extents().is_empty() && array.items() == 1
 }

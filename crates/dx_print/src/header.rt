@@ -1,4 +1,4 @@
-// Headers of values.
+//! Headers of values.
 ghost use Rattle.std.specs.Prelude.{◌≡◌, ◌++◌, OnOk};
 ghost use Rattle.std.specs.Fmt.{decimal};
 ghost use Rattle.dx_base.specs.Object.{part_count, parts};

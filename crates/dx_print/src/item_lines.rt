@@ -1,4 +1,4 @@
-// Items of arrays, each on a line at an indent.
+//! Items of arrays, each on a line at an indent.
 ghost use Rattle.std.specs.Prelude.{◌≡◌, ◌++◌, ◌-◌, ◌<◌, ◌≤◌, OnOk, replicate};
 ghost use Rattle.std.specs.Fmt.{signed_decimal};
 ghost use Rattle.dx_base.specs.Array.{items, value, width};
@@ -100,13 +100,8 @@ fn push_item(out: &mut Vec<u8>, array: &Array, item: u64) -> Result<(), AllocErr
     Ok(())
 }
 
-/// The value of an item in a place.
-pub(crate) fn push_value(
-    out: &mut Vec<u8>,
-    array: &Array,
-    item: u64,
-    place: u64,
-) -> Result<(), AllocError>
+// The value of an item in a place.
+fn push_value(out: &mut Vec<u8>, array: &Array, item: u64, place: u64) -> Result<(), AllocError>
     requires item { item < items array.now }
     requires place { place < width array.now }
     ensures { OnOk result (out.new.items ≡ out.old.items ++ signed_decimal (value array.now item place)) }

@@ -1,4 +1,4 @@
-// The lines that tell what the cache did in an execution, and those that tell the links behind it.
+//! The lines that tell what the cache did in an execution, and those that tell the links behind it.
 ghost use Rattle.std.specs.Prelude.{◌≡◌, ◌++◌, OnOk};
 ghost use Rattle.dx_print.specs.Lines as spec;
 

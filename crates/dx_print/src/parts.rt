@@ -1,4 +1,4 @@
-// Objects with their parts and attributes, each further in.
+//! Objects with their parts and attributes, each further in.
 ghost use Rattle.std.specs.Prelude.{◌≡◌, ◌++◌, ◌+◌, ◌*◌, ◌≤◌, OnOk};
 ghost use Rattle.dx_base.specs.Object.{levels, deepest};
 ghost use Rattle.dx_objects.specs.Kinds.{array_of};

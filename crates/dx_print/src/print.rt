@@ -1,4 +1,4 @@
-// What Print prints.
+//! What Print prints.
 ghost use Rattle.std.specs.Prelude.{◌≡◌, ◌++◌, length, OnOk, MatchResult, Ok, Err};
 ghost use Rattle.dx_objects.specs.Values.{value_of};
 ghost use Rattle.dx_print.specs.Printed as spec;

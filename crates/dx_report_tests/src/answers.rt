@@ -1,4 +1,4 @@
-// What calls answer, beside what they are to answer.
+//! What calls answer, beside what they are to answer.
 use dx_arrays::{Array, ArrayClass, ElemType};
 use dx_objects::{Code, Object, Outs, Part, RunFail};
 

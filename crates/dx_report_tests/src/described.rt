@@ -1,4 +1,4 @@
-// Objects as lists: each by what it is, and by which of those before it are its parts and attributes.
+//! Objects as lists: each by what it is, and by which of those before it are its parts and attributes.
 use dx_arrays::{Array, ArrayError, ElemType, Shape};
 use dx_base::Bytes;
 use dx_objects::{Object, Part, Parts, Value};

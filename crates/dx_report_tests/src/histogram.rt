@@ -1,4 +1,4 @@
-// What Histogram answers of numbers, and what it refuses.
+//! What Histogram answers of numbers, and what it refuses.
 use crate::answers::{are_texts, fail_name, has_name, is_number, is_plain};
 use crate::made::{Sample, inputs_of};
 use dx_arrays::{ArrayClass, ElemType};

@@ -1,4 +1,4 @@
-// Inquire: each question about each kind of object, and the order in which its inputs are refused.
+//! Inquire: each question about each kind of object, and the order in which its inputs are refused.
 use crate::answers::{Answer, answers};
 use crate::described::{Body, Entry, Items, copied, last_of};
 use crate::made::{Sample, value};

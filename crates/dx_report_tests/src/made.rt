@@ -1,4 +1,4 @@
-// Values that are handed to modules.
+//! Values that are handed to modules.
 use crate::described::{Body, Items, alone, field};
 use dx_arrays::ElemType;
 use dx_objects::{Outs, Value};

@@ -1,4 +1,4 @@
-// What Print shows of objects within objects, and of the component or the member that is asked for.
+//! What Print shows of objects within objects, and of the component or the member that is asked for.
 use crate::described::{Body, Entry, Items, last_of};
 use crate::printed::{printed, prints};
 use dx_arrays::ElemType;

@@ -1,4 +1,4 @@
-// What Print writes of a value.
+//! What Print writes of a value.
 use crate::described::{Body, alone, copied};
 use dx_base::{Bytes, Code};
 use dx_objects::{Outs, Value};

@@ -1,4 +1,4 @@
-// What Statistics answers of numbers, and what it refuses.
+//! What Statistics answers of numbers, and what it refuses.
 use crate::answers::{are_numbers, fail_name};
 use crate::made::{Sample, inputs_of};
 use dx_arrays::ElemType;

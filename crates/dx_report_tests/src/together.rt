@@ -1,4 +1,4 @@
-// Calls one behind the other, and what a session prints of their answers.
+//! Calls one behind the other, and what a session prints of their answers.
 use crate::described::{Body, Entry, Items, copied, last_of};
 use crate::made::{Sample, inputs_of, value};
 use crate::printed::prints;

@@ -1,4 +1,4 @@
-// What is true of looking, breaking off and getting.
+//! What is true of looking, breaking off and getting.
 ghost use Rattle.dx_resuming.specs.Covering.{AllClosedCover, ClosedCovers};
 ghost use Rattle.dx_resuming.specs.Formed.{FormedSame};
 ghost use Rattle.dx_resuming.specs.Halting.{AllHaltsAlike, HaltsAlike};

@@ -1,7 +1,7 @@
 //! Tables of scripts with the effects of their statements, and the sizes of graphs.
 
 use crate::effects::{count_nodes, read};
-use crate::session::take;
+use crate::session::taken;
 use crate::texts::{put, put_numbered, put_repeated};
 use dx_macros::Dictionary;
 use std::alloc::{AllocError, Global};
@@ -140,9 +140,10 @@ fn order_and_sites(rt: HostRuntime) -> Result<(), Fail> {
 
 /// Behind a script whose macros and definitions join unchecked, the graph of a statement has so many nodes.
 fn nodes_are(alloc: Global, before: &[u8], text: &str, want: u32) -> Result<bool, AllocError> {
-    let mut d = Dictionary::new(alloc);
-    take(alloc, &mut d, before)?;
-    Ok(count_nodes(alloc, &d, text.as_bytes())? == want)
+    match taken(alloc, before)? {
+        Some(d) => Ok(count_nodes(alloc, &d, text.as_bytes())? == want),
+        None => Ok(false),
+    }
 }
 
 #[test]
@@ -217,8 +218,9 @@ fn effects_behind_are(
     text: &str,
     want: &str,
 ) -> Result<bool, AllocError> {
-    let mut d = Dictionary::new(alloc);
-    take(alloc, &mut d, before)?;
+    let Some(mut d) = taken(alloc, before)? else {
+        return Ok(false);
+    };
     let mut out = Vec::new(alloc);
     read(alloc, &mut d, text.as_bytes(), &mut out)?;
     Ok(out.as_slice() == want.as_bytes())

@@ -6,7 +6,7 @@ ghost use Rattle.dx_ast.specs.Plain.{plain_stmt, plain_stmts};
 use crate::session::{is_executed, join, statements_of};
 use crate::shown::write_effects;
 use dx_ast::{Frames, Stmt, Stmts};
-use dx_expansion::{check_and_expand, expand};
+use dx_expansion::{check_and_expand, expand, expand_silent};
 use dx_macros::{CheckFail, Dictionary};
 use std::alloc::{AllocError, Global};
 
@@ -62,7 +62,7 @@ pub fn read(
     text: &[u8],
     out: &mut Vec<u8>,
 ) -> Result<(), AllocError> {
-    match statements_of(alloc, text) {
+    match statements_of(alloc, text)? {
         Some(statements) => perform_all(alloc, d, statements, out),
         None => out.extend_from_slice(b"no script\n"),
     }
@@ -76,13 +76,14 @@ fn nodes_of(alloc: Global, d: &Dictionary, s: &Stmt) -> Result<u32, AllocError>
             let g = expand(alloc, d, s, &frames())?;
             Ok(g.len())
         }
-        Err(_) => Ok(0),
+        Err(CheckFail::Fault(_, _)) => Ok(0),
+        Err(CheckFail::Memory) => Err(AllocError),
     }
 }
 
 /// How many nodes the graph of the first statement of a text has, if that is executed and has no fault.
 pub fn count_nodes(alloc: Global, d: &Dictionary, text: &[u8]) -> Result<u32, AllocError> {
-    match statements_of(alloc, text) {
+    match statements_of(alloc, text)? {
         None => Ok(0),
         Some(statements) => match statements.as_slice().first() {
             None => Ok(0),
@@ -94,5 +95,28 @@ pub fn count_nodes(alloc: Global, d: &Dictionary, text: &[u8]) -> Result<u32, Al
                 }
             }
         },
+    }
+}
+
+fn is_silent(alloc: Global, d: &Dictionary, s: &Stmt) -> bool {
+    match expand_silent(alloc, d, s, &frames()) {
+        Some(g) => g.effects().is_empty(),
+        None => false,
+    }
+}
+
+/// Whether the first statement of a text is expanded as one that can have no effect, to a graph without effects; None where there is
+/// no statement.
+pub fn is_first_silent(
+    alloc: Global,
+    d: &Dictionary,
+    text: &[u8],
+) -> Result<Option<bool>, AllocError> {
+    let Some(statements) = statements_of(alloc, text)? else {
+        return Ok(None);
+    };
+    match statements.as_slice().first() {
+        None => Ok(None),
+        Some(s) => Ok(Some(is_silent(alloc, d, s))),
     }
 }

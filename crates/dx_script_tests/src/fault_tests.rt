@@ -1,7 +1,7 @@
 //! Tables of scripts with the answers of the checks, and of what the dictionary has behind them.
 
 use crate::faults::read;
-use crate::session::take;
+use crate::session::taken;
 use crate::texts::{put, put_number, put_repeated};
 use dx_macros::Dictionary;
 use std::alloc::{AllocError, Global};
@@ -92,9 +92,10 @@ fn put_parts(alloc: Global, d: &Dictionary, out: &mut Vec<u8>) -> Result<(), All
 
 /// Writes what the dictionary has when all macros and definitions of a script have joined.
 fn parts_after(alloc: Global, text: &str, out: &mut Vec<u8>) -> Result<(), AllocError> {
-    let mut d = Dictionary::new(alloc);
-    take(alloc, &mut d, text.as_bytes())?;
-    put_parts(alloc, &d, out)
+    match taken(alloc, text.as_bytes())? {
+        Some(d) => put_parts(alloc, &d, out),
+        None => put(out, "no script"),
+    }
 }
 
 fn parts_are(alloc: Global, text: &str, want: &str) -> Result<bool, AllocError> {
@@ -592,9 +593,10 @@ fn answers_behind(
     text: &str,
     out: &mut Vec<u8>,
 ) -> Result<(), AllocError> {
-    let mut d = Dictionary::new(alloc);
-    take(alloc, &mut d, before)?;
-    read(alloc, &mut d, text.as_bytes(), out)
+    match taken(alloc, before)? {
+        Some(mut d) => read(alloc, &mut d, text.as_bytes(), out),
+        None => put(out, "no script"),
+    }
 }
 
 /// These are the answers to a script behind a chain of definitions.

@@ -67,7 +67,7 @@ pub fn read(
     text: &[u8],
     out: &mut Vec<u8>,
 ) -> Result<(), AllocError> {
-    match statements_of(alloc, text) {
+    match statements_of(alloc, text)? {
         Some(statements) => perform_all(alloc, d, statements, out),
         None => {
             out.extend_from_slice(b"no script")?;

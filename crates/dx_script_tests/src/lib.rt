@@ -10,6 +10,8 @@ mod fault_tests;
 #[cfg(test)]
 mod faults;
 #[cfg(test)]
+mod meaning_tests;
+#[cfg(test)]
 mod session;
 #[cfg(test)]
 mod shown;

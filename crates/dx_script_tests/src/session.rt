@@ -1,13 +1,13 @@
 //! Statements of a text, and how they join a dictionary.
 
-ghost use Rattle.std.specs.Prelude.{◌≡◌, true, IfSome};
+ghost use Rattle.std.specs.Prelude.{◌≡◌, true, IfOk, IfSome};
 ghost use Rattle.dx_ast.specs.Lawful.{IsLawful, AreLawful};
 ghost use Rattle.dx_ast.specs.Plain.{plain_stmt, plain_stmts};
 ghost use Rattle.dx_macros.specs.Dictionary.{IsExecuted};
 
 use dx_ast::{Expr, Stmt, Stmts};
 use dx_macros::Dictionary;
-use dx_parser::parse;
+use dx_parser::{ParseFail, parse};
 use std::alloc::{AllocError, Global};
 
 /// A call, a sequence call, or an assignment whose text has a call.
@@ -47,22 +47,25 @@ fn join_all(d: &mut Dictionary, statements: Stmts) -> Result<(), AllocError>
 }
 
 /// The statements of a text that is a script, and isn't too long.
-pub fn statements_of(alloc: Global, text: &[u8]) -> Option<Stmts>
-    ensures { IfSome result (λ statements. AreLawful (plain_stmts statements)) }
+pub fn statements_of(alloc: Global, text: &[u8]) -> Result<Option<Stmts>, AllocError>
+    ensures { IfOk result (λ found. IfSome found (λ statements. AreLawful (plain_stmts statements))) }
 {
     if text.len() > 16_777_216 {
-        return None;
+        return Ok(None);
     }
     match parse(alloc, text) {
-        Ok(statements) => Some(statements),
-        Err(_) => None,
+        Ok(statements) => Ok(Some(statements)),
+        Err(ParseFail::Refused(_)) => Ok(None),
+        Err(ParseFail::Memory) => Err(AllocError),
     }
 }
 
-/// The macros and definitions of a text join, and nothing is checked or expanded.
-pub fn take(alloc: Global, d: &mut Dictionary, text: &[u8]) -> Result<(), AllocError> {
-    match statements_of(alloc, text) {
-        Some(statements) => join_all(d, statements),
-        None => Ok(()),
-    }
+/// The dictionary that has the macros and definitions of a text, which join unchecked; None where that is no script.
+pub fn taken(alloc: Global, text: &[u8]) -> Result<Option<Dictionary>, AllocError> {
+    let Some(statements) = statements_of(alloc, text)? else {
+        return Ok(None);
+    };
+    let mut d = Dictionary::new(alloc);
+    join_all(&mut d, statements)?;
+    Ok(Some(d))
 }

@@ -6,7 +6,7 @@ use dx_graph::{Graph, Input};
 use std::alloc::{AllocError, Global};
 
 /// Writes a constant; of an integer its distance from zero, of a list that it is one.
-fn write_const(alloc: Global, c: &Const, out: &mut Vec<u8>) -> Result<(), AllocError> {
+pub fn write_const(alloc: Global, c: &Const, out: &mut Vec<u8>) -> Result<(), AllocError> {
     match c {
         Const::Null => out.extend_from_slice(b"NULL"),
         Const::Int(n) => put_number(alloc, out, n.unsigned_abs() as usize),

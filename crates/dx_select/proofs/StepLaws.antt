@@ -7,14 +7,17 @@ use Rattle.std.specs.Cmp.Derive.{both_true}
 use Rattle.dx_base.specs.declared.code.Code.{Code}
 use Rattle.dx_base.specs.declared.code.Code.TheVariants.{BadArgument, TooLarge, NoMember, NoComponent}
 use Rattle.dx_base.specs.Object.{Tree, PartList, array, text, field, group, composite, series, no_parts, part, parts, attributes, append}
-use Rattle.dx_base.specs.ObjectLimits.{fits, differ, is_field, all_fields}
+use Rattle.dx_base.specs.ObjectLimits.{fits, differ, is_field}
 use Rattle.dx_base.specs.ObjectMembers.{placed, composite_or_group}
 use Rattle.dx_base.specs.ObjectNames.{same_name, find, component, member, put, without, with_component, without_component}
-use Rattle.dx_base.specs.ObjectNumbers.{steps_by_ints, all_step_by_ints, has_int_steps, as_number}
+use Rattle.dx_base.specs.ObjectNumbers.{steps_by_ints, all_step_by_ints, as_number}
 use Rattle.dx_objects.specs.Kinds.{text_of}
 use Rattle.dx_objects.specs.Runs.{Values}
 use Rattle.dx_objects.specs.Values.{value_at}
 use Rattle.dx_object_laws.proofs.PutLaws.{by_bool}
+use Rattle.dx_steps.specs.Steps.{value_steps, all_step, KeepsSteps}
+use Rattle.dx_steps.proofs.ValueLaws.{at_steps, input_steps}
+use Rattle.dx_steps.proofs.PartLaws.{parts_steps, attributes_steps, find_steps, put_steps, placed_steps, with_steps, either_steps}
 use Rattle.dx_select.specs.Answered.{Answered, ◌>>=◌, or_refused, needed, in_limits, one_result}
 use Rattle.dx_select.specs.Inputs.{data_name, saved_name, field_in, text_in, name_or_data}
 use Rattle.dx_select.specs.Select.{at_place, at_number, chosen_by, chosen, unless_used, has_members, can_choose, selected, select_answer}
@@ -25,7 +28,6 @@ use Rattle.dx_select.specs.Collect as collect
 use Rattle.dx_select.specs.Collect.{members, place, pair, paired, named_group, collect_answer, collect_named_answer, collect_series_answer}
 use Rattle.dx_select.specs.declared.collect.Beside.{Beside}
 use Rattle.dx_select.specs.declared.collect.Beside.TheVariants.{Name, Position}
-use Rattle.dx_select.specs.Steps.{value_steps, all_step, KeepsSteps}
 use Rattle.dx_select.proofs.Answering.{bound}
 
 -- ---- what an answer tells
@@ -45,36 +47,7 @@ one_steps : (there : Answered Tree) (results : Values) → one_result there ≡ 
 one_steps (Ok t) results e h = let same : Some t ∷ [] ≡ results = cc in rw (← same, h t refl) refl
 one_steps (Err code) results e h = absurd (cc e)
 
--- ---- inputs and parts
-
-input_steps : (vs : Values) (i : ℕ) (t : Tree) → all_step vs ≡ true → value_at vs i ≡ Some t → steps_by_ints t ≡ true
-input_steps [] i t h e = absurd (cc e)
-input_steps (v ∷ vs) zero t h e = let first = (and_parts (value_steps v) (all_step vs) h).0 in rw e at first
-input_steps (v ∷ vs) (suc i) t h e = input_steps vs i t ((and_parts (value_steps v) (all_step vs) h).1) e
-
-parts_steps : (t : Tree) → steps_by_ints t ≡ true → all_step_by_ints (parts t) ≡ true
-parts_steps (array a xs) h = refl
-parts_steps (text b xs) h = refl
-parts_steps (field ps xs) h = (and_parts (all_step_by_ints ps) (all_step_by_ints xs) h).0
-parts_steps (group ps xs) h = (and_parts (all_step_by_ints ps) (all_step_by_ints xs) h).0
-parts_steps (composite ps xs) h = (and_parts (all_step_by_ints ps) (all_step_by_ints xs) h).0
-parts_steps (series ps xs) h = (and_parts (all_step_by_ints ps) (all_step_by_ints xs) h).0
-
-attributes_steps : (t : Tree) → steps_by_ints t ≡ true → all_step_by_ints (attributes t) ≡ true
-attributes_steps (array a xs) h = (and_parts (has_int_steps a.class) (all_step_by_ints xs) h).1
-attributes_steps (text b xs) h = h
-attributes_steps (field ps xs) h = (and_parts (all_step_by_ints ps) (all_step_by_ints xs) h).1
-attributes_steps (group ps xs) h = (and_parts (all_step_by_ints ps) (all_step_by_ints xs) h).1
-attributes_steps (composite ps xs) h = (and_parts (all_step_by_ints ps) (all_step_by_ints xs) h).1
-attributes_steps (series ps xs) h = (and_parts (all_step_by_ints ps) (all_step_by_ints xs) h).1
-
-find_steps : (n : List ℕ) (ps : PartList) (t : Tree) → all_step_by_ints ps ≡ true → find n ps ≡ Some t → steps_by_ints t ≡ true
-find_steps n no_parts t h e = absurd (cc e)
-find_steps n (part m p u ps) t h e =
-    let hs = and_parts (steps_by_ints u) (all_step_by_ints ps) h in
-    by_bool (same_name n m) _
-    (λ s. let same : u ≡ t = (let is : Some u ≡ Some t = rw s at e in cc) in rw (← same) hs.0)
-    (λ s. find_steps n ps t hs.1 (rw s at e))
+-- ---- parts
 
 component_steps : (n : List ℕ) (whole t : Tree) → steps_by_ints whole ≡ true → component n whole ≡ Some t → steps_by_ints t ≡ true
 component_steps n (array a xs) t h e = absurd (cc e)
@@ -97,14 +70,6 @@ place_steps no_parts i t h e = absurd (cc e)
 place_steps (part n p u ps) zero t h e = let same : u ≡ t = cc in rw (← same) ((and_parts (steps_by_ints u) (all_step_by_ints ps) h).0)
 place_steps (part n p u ps) (suc i) t h e = place_steps ps i t ((and_parts (steps_by_ints u) (all_step_by_ints ps) h).1) e
 
-put_steps : (n : List ℕ) (t : Tree) (ps : PartList) → steps_by_ints t ≡ true → all_step_by_ints ps ≡ true → all_step_by_ints (put n t ps) ≡ true
-put_steps n t no_parts k h = both_true k refl
-put_steps n t (part m p u ps) k h =
-    let hs = and_parts (steps_by_ints u) (all_step_by_ints ps) h in
-    by_bool (same_name n m) _
-    (λ e. rw e (both_true k hs.1))
-    (λ e. rw e (both_true hs.0 (put_steps n t ps k hs.1)))
-
 without_steps : (n : List ℕ) (ps : PartList) → all_step_by_ints ps ≡ true → all_step_by_ints (without n ps) ≡ true
 without_steps n no_parts h = refl
 without_steps n (part m p u ps) h =
@@ -118,14 +83,6 @@ append_steps no_parts qs h k = k
 append_steps (part n p t ps) qs h k =
     let hs = and_parts (steps_by_ints t) (all_step_by_ints ps) h in
     both_true hs.0 (append_steps ps qs hs.1 k)
-
-placed_steps : (ps : PartList) (ts : List Tree) → all_step_by_ints ps ≡ true → list_all steps_by_ints ts ≡ true → all_step_by_ints (placed ps ts) ≡ true
-placed_steps no_parts ts h k = refl
-placed_steps (part n p t ps) [] h k = h
-placed_steps (part n p t ps) (u ∷ ts) h k =
-    let hs = and_parts (steps_by_ints t) (all_step_by_ints ps) h in
-    let ks = and_parts (steps_by_ints u) (list_all steps_by_ints ts) k in
-    both_true ks.0 (placed_steps ps ts hs.1 ks.1)
 
 -- ---- Select
 
@@ -153,20 +110,12 @@ selected_steps (Some whole) which except t h e =
     let found = unused except (or_refused NoMember (chosen which whole)) t used in
     chosen_steps which whole t h (given NoMember (chosen which whole) t found)
 
-at_steps : (vs : Values) (i : ℕ) → all_step vs ≡ true → value_steps (value_at vs i) ≡ true
-at_steps [] i h = refl
-at_steps (v ∷ vs) zero h = (and_parts (value_steps v) (all_step vs) h).0
-at_steps (v ∷ vs) (suc i) h = at_steps vs i ((and_parts (value_steps v) (all_step vs) h).1)
-
 pub select_steps : KeepsSteps select_answer
 select_steps inputs results h e =
     one_steps (selected (value_at inputs 0) (value_at inputs 1) (value_at inputs 2)) results e
     (λ t is. selected_steps (value_at inputs 0) (value_at inputs 1) (value_at inputs 2) t (at_steps inputs 0 h) is)
 
 -- ---- Extract
-
-either_steps : (ps xs : PartList) → all_step_by_ints ps ≡ true → all_step_by_ints xs ≡ true → steps_by_ints (composite_or_group ps xs) ≡ true
-either_steps ps xs h k = by_bool (all_fields ps) _ (λ e. rw e (both_true h k)) (λ e. rw e (both_true h k))
 
 mutual
   extracted_steps : (n : List ℕ) (whole t : Tree) → steps_by_ints whole ≡ true → extracted n whole ≡ Ok t → steps_by_ints t ≡ true
@@ -222,17 +171,6 @@ taken_steps (field ps xs) n c h e = find_steps n ps c (parts_steps (field ps xs)
 taken_steps (group ps xs) n c h e = absurd (cc e)
 taken_steps (composite ps xs) n c h e = absurd (cc e)
 taken_steps (series ps xs) n c h e = absurd (cc e)
-
-with_steps : (n : List ℕ) (c whole u : Tree) → steps_by_ints c ≡ true → steps_by_ints whole ≡ true → with_component n c whole ≡ Some u → steps_by_ints u ≡ true
-with_steps n c (array a xs) u k h e = absurd (cc e)
-with_steps n c (text b xs) u k h e = absurd (cc e)
-with_steps n c (field ps xs) u k h e =
-    let hs = and_parts (all_step_by_ints ps) (all_step_by_ints xs) h in
-    let same : field (put n c ps) xs ≡ u = cc in
-    subst (λ t. steps_by_ints t ≡ true) same (both_true (put_steps n c ps k hs.0) hs.1)
-with_steps n c (group ps xs) u k h e = absurd (cc e)
-with_steps n c (composite ps xs) u k h e = absurd (cc e)
-with_steps n c (series ps xs) u k h e = absurd (cc e)
 
 taken_away_steps : (n : List ℕ) (whole u : Tree) → steps_by_ints whole ≡ true → without_component n whole ≡ Some u → steps_by_ints u ≡ true
 taken_away_steps n (array a xs) u h e = absurd (cc e)

@@ -7,4 +7,3 @@ pub mod Extract
 pub mod Replace
 pub mod Mark
 pub mod Collect
-pub mod Steps

@@ -1,4 +1,4 @@
-// Collect, CollectNamed and CollectSeries.
+//! Collect, CollectNamed and CollectSeries.
 ghost use Rattle.std.specs.Prelude.{◌≡◌, ◌≤◌, length, IfOk, OnOk};
 ghost use Rattle.dx_base.specs.Object.{append};
 ghost use Rattle.dx_base.specs.Modules.{Takes};

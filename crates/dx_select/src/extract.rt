@@ -1,4 +1,4 @@
-// Extract.
+//! Extract.
 ghost use Rattle.std.specs.Prelude.{◌≡◌, length, true, false, IfSome};
 ghost use Rattle.dx_base.specs.Modules.{Takes};
 ghost use Rattle.dx_base.specs.declared.function.Module.TheVariants.{Extract};

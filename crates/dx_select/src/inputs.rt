@@ -1,4 +1,4 @@
-// What inputs need to be.
+//! What inputs need to be.
 ghost use Rattle.std.specs.Prelude.{◌≡◌, Some, None, true, MatchOption, IfSome};
 ghost use Rattle.dx_base.specs.ObjectLimits.{is_field, IsLawful};
 ghost use Rattle.dx_objects.specs.Values.{value_at};

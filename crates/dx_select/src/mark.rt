@@ -1,4 +1,4 @@
-// Mark and Unmark.
+//! Mark and Unmark.
 ghost use Rattle.std.specs.Prelude.{◌≡◌, length, true, IfOk, MatchResult, Ok, Err};
 ghost use Rattle.dx_base.specs.Modules.{Takes};
 ghost use Rattle.dx_base.specs.Object.{parts};

@@ -1,4 +1,4 @@
-// Replace.
+//! Replace.
 ghost use Rattle.std.specs.Prelude.{◌≡◌, length, true, IfOk, MatchResult, Ok, Err};
 ghost use Rattle.dx_base.specs.Modules.{Takes};
 ghost use Rattle.dx_base.specs.ObjectLimits.{is_field, is_array};

@@ -1,4 +1,4 @@
-// Results of one object.
+//! Results of one object.
 ghost use Rattle.std.specs.Prelude.{◌≡◌, ◌∷◌, [], Some, None, Ok, Err, IfOk};
 ghost use Rattle.dx_objects.specs.Runs.{Gives};
 

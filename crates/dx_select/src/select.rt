@@ -1,4 +1,4 @@
-// Select.
+//! Select.
 ghost use Rattle.std.specs.Prelude.{◌≡◌, length, Ok, Err, MatchResult};
 ghost use Rattle.dx_base.specs.Modules.{Takes};
 ghost use Rattle.dx_base.specs.Object.{parts};

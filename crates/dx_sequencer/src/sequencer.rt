@@ -1,4 +1,4 @@
-// The sequencer: its variables and switches, and the steps of a play.
+//! The sequencer: its variables and switches, and the steps of a play.
 ghost use Rattle.std.specs.Prelude.{◌≡◌, ◌<◌, ◌≤◌, ◌-◌, ◌*◌, ◌^◌, ◌+ℤ◌, ◌≤ℤ◌, ℕ, pos, negsuc, IsTrue, true, false, not, ◌||◌, int_lt, IfSome, IfNone, if◌then◌else◌};
 ghost use Rattle.dx_sequencer.specs.Sequencer as spec;
 ghost use Rattle.dx_sequencer.specs.Sequencer.{IsPlay};
@@ -31,7 +31,7 @@ pub struct Sequencer {
     start: i32,
     end: i32,
     delta: i32,
-    /// May lie outside the ints, by one delta at most.
+    /// May lie outside the ints, by at most the greatest delta.
     next: i64,
     frame: i32,
     forward: bool,

@@ -1,17 +1,19 @@
 -- What ends as an outcome, part by part.
-use Rattle.std.proofs.Common.{◌≡◌, ◌⊎◌, inl, inr, ℕ, List, [], ◌++◌, Bool, true, false, ◌||◌, ◌==◌, refl, sym, ap, ◌∙◌, subst, append_assoc}
+use Rattle.std.proofs.Common.{◌≡◌, ◌⊎◌, inl, inr, ℕ, List, [], ◌∷◌, ◌++◌, Bool, true, false, ◌||◌, ◌==◌, refl, sym, ap, ◌∙◌, subst, append_assoc, append-nil}
 use Rattle.std.specs.Bool.{MatchBool}
 use Rattle.std.proofs.lemmas.Bool.{eqb-true}
 use Rattle.dx_engine.specs.Executing.{Devices}
 use Rattle.dx_engine.specs.Fronts.{AddsFront}
 use Rattle.dx_engine.proofs.Fronts.{front_later}
-use Rattle.dx_getting.specs.Told.{TellsRuns, Adds}
+use Rattle.dx_getting.specs.Told.{Told, TellsRuns, Adds, AddsSome, IsNext, told}
 use Rattle.dx_include.specs.Loading.{Name}
-use Rattle.dx_io.specs.Devices.{Grows, GrowsInto}
-use Rattle.dx_getting.proofs.TellLaws.{tells_none}
-use Rattle.dx_machine.specs.Machine.{Task, runs_in}
+use Rattle.dx_io.specs.Devices.{Grows, GrowsInto, with_more}
+use Rattle.dx_io.proofs.Growing.{grows_on_into}
+use Rattle.dx_getting.proofs.TellLaws.{tells_none, grows_more, reads-append}
+use Rattle.dx_machine.specs.Machine.{Task, runs_in, reads_in}
 use Rattle.dx_outcome.specs.Ends.{IsWhole, IsCutShort, IsFront, in_loading, behind_loading, with_reads, is_cut, may_read_ahead, EndsAs, PrintsAs, RunsAs, ReadsAs, CompletesAs}
 use Rattle.dx_outcome.specs.Outcome.{Seen, Outcome, texts_of, runs_of}
+use Rattle.dx_outcome.specs.Reads.{asked_behind, names_asked, AsksAs}
 use Rattle.dx_session.proofs.Meaning.{front_texts, runs_append}
 use Rattle.dx_sessions.proofs.Folding.{adds_front_on}
 
@@ -58,6 +60,35 @@ reads_as status o was now h = by (is_cut status) h
     by true (in_loading front rest e is) = inl (front, rest, e, ap (λ (d : Devices). d.told) is)
     by true (behind_loading cut) = inr (cut_told (may_read_ahead status) o.seen (with_reads was o.reads) now cut)
     by false whole = whole.1.told
+
+-- ---- the files asked for
+
+-- the next run is the first of the rest
+next_first : (front next rest : List Task) → IsNext next rest → (more : List Task) × (front ++ rest ≡ (front ++ next) ++ more)
+next_first front [] rest h = (rest, ap (λ ts. ts ++ rest) (sym (append-nil front)))
+next_first front (t ∷ []) [] h = absurd h
+next_first front (t ∷ []) (u ∷ rest) h = (rest, ap (λ (v : Task). front ++ v ∷ rest) (sym h) ∙ sym (append_assoc front (t ∷ []) rest))
+next_first front (t ∷ u ∷ ts) rest h = absurd h
+
+-- with the name that may be read ahead, what is read is a front of what all read
+some_asked : (base now : Told) (tasks : List Task) → AddsSome base now tasks → GrowsInto base.asked now.asked (reads_in tasks)
+some_asked base now tasks h =
+    let first = next_first h.front h.next h.rest h.is_next in
+    (reads_in (h.front ++ h.next), reads_in first.0, ap reads_in (h.whole ∙ first.1) ∙ reads-append (h.front ++ h.next) first.0, h.asked)
+
+pub asks_as : (status : ℕ) (o : Outcome) (was now : Told) → reads_in (runs_of o.seen) ≡ asked_behind [] o.seen → ReadsAs status o was now → AsksAs status o was.asked now.asked
+asks_as status o was now e h = by (is_cut status) h
+  where
+    by : (b : Bool) → MatchBool b (((front rest : List Name) × (o.reads ≡ front ++ rest) × (now ≡ told was.done (with_more was.asked front))) ⊎ AddsFront (may_read_ahead status) (told was.done (with_more was.asked o.reads)) now (runs_of o.seen)) (Adds (told was.done (with_more was.asked o.reads)) now (runs_of o.seen))
+        → MatchBool b (GrowsInto was.asked now.asked (names_asked o)) (Grows was.asked now.asked (names_asked o))
+    by true (inl (front, rest, all, is)) =
+        (front, rest ++ asked_behind [] o.seen, ap (λ ns. ns ++ asked_behind [] o.seen) all ∙ append_assoc front rest (asked_behind [] o.seen), ap (λ (t : Told). t.asked) is)
+    by true (inr some) =
+        grows_on_into was.asked (with_more was.asked o.reads) now.asked o.reads (asked_behind [] o.seen) refl
+        (subst (GrowsInto (with_more was.asked o.reads) now.asked) e (some_asked (told was.done (with_more was.asked o.reads)) now (runs_of o.seen) some.some))
+    by false whole =
+        subst (λ ns. Grows was.asked now.asked (o.reads ++ ns)) e
+        (grows_more was.asked (with_more was.asked o.reads) now.asked o.reads (reads_in (runs_of o.seen)) refl whole.asked)
 
 -- ---- where no device failed
 

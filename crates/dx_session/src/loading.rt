@@ -1,5 +1,5 @@
 //! The loading of a session, or of the text of a workload.
-ghost use Rattle.std.specs.Prelude.{◌≡◌, ◌≤◌, Some, IfOk, IsErrOf};
+ghost use Rattle.std.specs.Prelude.{◌≡◌, ◌≤◌, Some, IfOk};
 ghost use Rattle.dx_ast.specs.Lawful.{AreLawful};
 ghost use Rattle.dx_ast.specs.Plain.{plain_stmts};
 ghost use Rattle.dx_io.specs.Devices.{FileMap};

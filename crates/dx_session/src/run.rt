@@ -1,19 +1,19 @@
 //! What the program does with its words, and the status with which it ends.
-ghost use Rattle.std.specs.Prelude.{◌≡◌, ◌⊎◌, ◌∷◌, [], None, Some, IfOk, IsErrOf, IsTrue, map as each};
+ghost use Rattle.std.specs.Prelude.{◌≡◌, ◌⊎◌, None, Some, IfOk, IsErrOf, IsTrue, map as each};
 ghost use Rattle.dx_ast.specs.Lawful.{AreLawful};
 ghost use Rattle.dx_ast.specs.Plain.{plain_stmts};
 ghost use Rattle.dx_io.specs.Devices.{Cause, FileMap, Rose, Writes};
-ghost use Rattle.dx_looking.specs.Setting.{fixed};
 ghost use Rattle.dx_making.specs.declared.end.End.TheVariants.{ReadFault, WriteFault, ExportFault};
 ghost use Rattle.dx_outcome.specs.Budget.{StaysWithin};
 ghost use Rattle.dx_outcome.specs.Computed.{job_loading, of_loading, plan_of};
 ghost use Rattle.dx_getting.specs.Told.{told};
 ghost use Rattle.dx_outcome.specs.Ends.{CompletesAs, EndsAs, IsWholeStatus, PrintsAs, ReadsAs, RunsAs, is_cut};
-ghost use Rattle.dx_outcome.specs.Lines.{refusal_line, usage_line};
+ghost use Rattle.dx_outcome.specs.Lines.{refusal_line};
 ghost use Rattle.dx_outcome.specs.Meaning.{AreDemanded, EndsAsMeant, IsMeaning, Meaning};
-ghost use Rattle.dx_outcome.specs.Outcome.{IsOutcome, Outcome, line_alone, listings_of, outcome, seen_of, shown_of, status_of};
+ghost use Rattle.dx_outcome.specs.Outcome.{IsOutcome, Outcome, listings_of, outcome, seen_of, shown_of, status_of};
 ghost use Rattle.dx_outcome.specs.Plan.{IsPlan, Plan};
-ghost use Rattle.dx_session.specs.Ends.{Ends, SeesSo, end_of, end_status};
+ghost use Rattle.dx_outcome.specs.Reads.{AsksAs};
+ghost use Rattle.dx_session.specs.Ends.{Ends, SeesSo, end_of};
 ghost use Rattle.dx_words.specs.Range.{IsInRange};
 ghost use Rattle.dx_sessions.specs.Does.{devices};
 ghost use Rattle.dx_shown.specs.Listed.{any_error};
@@ -66,10 +66,15 @@ pub fn run_dxi<F: Files, X: Exports, O: Sink, L: Library>(
     ensures runs { (map : FileMap) → F.content files.old ≡ Some map →
         (o : Outcome) × IsOutcome (texts words.now.items) map L.answer o × RunsAs result o.seen (L.done lib.old) (L.done lib.new) }
 
-    // The files asked for: those of loading, and then one for each run of Import whose name isn't written yet; a front of these where the
-    // call was cut short, with the next run's name at most where the status is 4 or 7.
+    // The files asked for beside the runs: those of loading, and then one for each run of Import whose call has no file of its own; a front
+    // of these where the call was cut short, with the next run's name at most where the status is 4 or 7.
     ensures reads { (map : FileMap) → F.content files.old ≡ Some map →
         (o : Outcome) × IsOutcome (texts words.now.items) map L.answer o × ReadsAs result o (told (L.done lib.old) (F.asked files.old)) (told (L.done lib.new) (F.asked files.new)) }
+
+    // Which names these are: those of loading, and then, execution by execution, the texts that its runs of Import have as first inputs, but
+    // for those under which earlier executions have put a file; a front of these where the call was cut short.
+    ensures asks { (map : FileMap) → F.content files.old ≡ Some map →
+        (o : Outcome) × IsOutcome (texts words.now.items) map L.answer o × AsksAs result o (F.asked files.old) (F.asked files.new) }
 
     // And so the files put and the status, and on a line without `--trace` the bytes printed, are those of the language's meaning,
     // evaluated afresh.

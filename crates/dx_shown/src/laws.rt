@@ -1,4 +1,4 @@
-// What is true of sessions.
+//! What is true of sessions.
 ghost use Rattle.dx_shown.specs.Alike.{StatementsAreMeant, SessionsAreMeant};
 
 /// The sessions of the cache machine show the executions of the meaning, which are made afresh from the definitions, links, written

@@ -16,12 +16,13 @@ use Rattle.dx_fields.specs.Grids.{point_counts}
 use Rattle.dx_objects.specs.Runs.{Values}
 use Rattle.dx_objects.specs.Values.{value_at}
 use Rattle.dx_object_laws.proofs.PutLaws.{by_bool}
+use Rattle.dx_steps.specs.Steps.{all_step, KeepsStepsOfValues}
+use Rattle.dx_steps.proofs.ValueLaws.{input_steps, input_lawful}
 use Rattle.dx_slab.specs.Answer.{slab_answer, slab_asked}
 use Rattle.dx_slab.specs.Answered.{Answered, ◌>>=◌, needed, in_limits, one_result}
 use Rattle.dx_slab.specs.Components.{role, cut_array, cut_component, cut_parts, slab, slabs}
 use Rattle.dx_slab.specs.Cuts.{cut_class, moved}
 use Rattle.dx_slab.specs.Inputs.{field_in, counts_in, asked_in}
-use Rattle.dx_slab.specs.Laws.{value_steps, all_step, AreValues, KeepsSteps}
 use Rattle.dx_slab.specs.Lawful.{AreCounts, IsCutOf, IsAskedOf, PlaysRole, PlayRoles}
 use Rattle.dx_slab.specs.declared.cut.Cut.{Cut}
 use Rattle.dx_slab.specs.declared.inputs.Asked.{Asked}
@@ -113,18 +114,6 @@ asked_steps whole cs (Each d t) f cut l p s =
 
 -- ---- the call
 
-at_steps : (vs : Values) (i : ℕ) (t : Tree) → all_step vs ≡ true → value_at vs i ≡ Some t → steps_by_ints t ≡ true
-at_steps [] i t h e = absurd (cc e)
-at_steps (v ∷ vs) zero t h e = subst (λ w. value_steps w ≡ true) e (and_parts (value_steps v) (all_step vs) h).0
-at_steps (v ∷ vs) (suc i) t h e = at_steps vs i t (and_parts (value_steps v) (all_step vs) h).1 e
-
-at_lawful : (vs : Values) (i : ℕ) (t : Tree) → AreValues vs → value_at vs i ≡ Some t → IsLawful t
-at_lawful [] i t h e = absurd (cc e)
-at_lawful (None ∷ vs) zero t h e = absurd (cc e)
-at_lawful (Some u ∷ vs) zero t h e = let same : u ≡ t = cc in subst IsLawful same h.0
-at_lawful (None ∷ vs) (suc i) t h e = at_lawful vs i t h e
-at_lawful (Some u ∷ vs) (suc i) t h e = at_lawful vs i t h.1 e
-
 field_is : (v : Option Tree) (whole : Tree) → field_in v ≡ Some whole → (v ≡ Some whole) × (is_field whole ≡ true)
 field_is None whole e = absurd (cc e)
 field_is (Some t) whole e =
@@ -136,7 +125,7 @@ one_steps : (there : Answered Tree) (results : Values) → one_result there ≡ 
 one_steps (Ok t) results e h = let same : Some t ∷ [] ≡ results = cc in subst (λ vs. all_step vs ≡ true) same (both_true (h t refl) refl)
 one_steps (Err code) results e h = absurd (cc e)
 
-pub slab_answer_steps : KeepsSteps slab_answer
+pub slab_answer_steps : KeepsStepsOfValues slab_answer
 slab_answer_steps inputs results lawful h e =
     let asked_for : Tree → List ℕ → Answered Tree = λ whole cs. needed (asked_in cs inputs) >>= λ asked. in_limits (slab_asked whole cs asked) in
     let of_field : Tree → Answered Tree = λ whole. counts_in whole >>= λ cs. asked_for whole cs in
@@ -146,8 +135,8 @@ slab_answer_steps inputs results lawful h e =
     let field_of = field_is (value_at inputs 0) whole.0 (given (field_in (value_at inputs 0)) whole.0 whole.1) in
     let cs = bound (counts_in whole.0) (λ ks. asked_for whole.0 ks) t whole.2 in
     let asked = bound (needed (asked_in cs.0 inputs)) (λ a. in_limits (slab_asked whole.0 cs.0 a)) t cs.2 in
-    let own : IsLawful whole.0 = at_lawful inputs 0 whole.0 lawful field_of.0 in
-    let steps : steps_by_ints whole.0 ≡ true = at_steps inputs 0 whole.0 h field_of.0 in
+    let own : IsLawful whole.0 = input_lawful inputs 0 whole.0 lawful field_of.0 in
+    let steps : steps_by_ints whole.0 ≡ true = input_steps inputs 0 whole.0 h field_of.0 in
     let known = counts_of whole.0 cs.0 field_of.1 own cs.1 in
     let cut = asked_of cs.0 inputs asked.0 known.0 (given (asked_in cs.0 inputs) asked.0 asked.1) in
     let made : t ≡ slab_asked whole.0 cs.0 asked.0 = limited (slab_asked whole.0 cs.0 asked.0) t asked.2 in

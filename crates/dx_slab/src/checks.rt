@@ -1,4 +1,4 @@
-// Whether a field is a grid that can be cut.
+//! Whether a field is a grid that can be cut.
 ghost use Rattle.std.specs.Prelude.{◌≡◌, None, Some, Ok, Err, MatchOption, MatchResult};
 ghost use Rattle.dx_base.specs.ObjectNames.{component};
 ghost use Rattle.dx_fields.specs.Grids.{positions_name, grid_counts};

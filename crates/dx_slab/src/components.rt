@@ -1,4 +1,4 @@
-// The slab of a field, component by component.
+//! The slab of a field, component by component.
 ghost use Rattle.std.specs.Prelude.{◌≡◌, ◌≢◌, false, OnOk, IfOk};
 ghost use Rattle.dx_base.specs.Object.{array as array_tree, attributes, no_parts, part as one_part, append};
 ghost use Rattle.dx_objects.specs.Shown.{parts_of};

@@ -1,4 +1,4 @@
-// What becomes of the arrays of a field: its points and cells, and what depends on them.
+//! What becomes of the arrays of a field: its points and cells, and what depends on them.
 ghost use Rattle.std.specs.Prelude.{◌≡◌, ◌<◌, ◌≤◌, length, None, Some, IfOk, IsTrue};
 ghost use Rattle.std.specs.List.{All};
 ghost use Rattle.dx_base.specs.Array.{items, product, origin_of, deltas_of, array_size};

@@ -1,4 +1,4 @@
-// What the inputs need to be: which slabs are asked for.
+//! What the inputs need to be: which slabs are asked for.
 ghost use Rattle.std.specs.Prelude.{◌≡◌, ◌<◌, length, Some, None, true, MatchOption, IfSome};
 ghost use Rattle.dx_base.specs.ObjectLimits.{is_field, IsLawful};
 ghost use Rattle.dx_objects.specs.Values.{value_at};

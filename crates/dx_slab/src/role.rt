@@ -1,4 +1,4 @@
-// What a component of a field is to a slab of the field.
+//! What a component of a field is to a slab of the field.
 ghost use Rattle.std.specs.Prelude.{◌≡◌, None, Some, MatchOption};
 ghost use Rattle.dx_base.specs.Object.{attributes};
 ghost use Rattle.dx_base.specs.ObjectNames.{same_name, find};

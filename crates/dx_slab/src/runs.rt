@@ -1,4 +1,4 @@
-// Items of a grid that a slab keeps, as runs of items in a row.
+//! Items of a grid that a slab keeps, as runs of items in a row.
 ghost use Rattle.std.specs.Prelude.{◌≡◌, ◌<◌, ◌≤◌, ◌+◌, ◌++◌, length, slice_index, Some, IfOk};
 ghost use Rattle.std.specs.List.{All};
 ghost use Rattle.std.specs.Vec.{vec_len, vec_capacity};

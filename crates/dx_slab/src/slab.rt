@@ -1,4 +1,4 @@
-// Slab.
+//! Slab.
 ghost use Rattle.std.specs.Prelude.{◌≡◌, ◌<◌, ◌≤◌, ◌+◌, ◌-◌, true, pos, None, length, slice_index, OnOk};
 ghost use Rattle.dx_base.specs.Modules.{Takes};
 ghost use Rattle.dx_base.specs.Object.{field, parts, attributes, no_parts, part as one_part, append};

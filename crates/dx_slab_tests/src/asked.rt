@@ -1,4 +1,4 @@
-// What Slab answers, as a text.
+//! What Slab answers, as a text.
 use dx_base::Bytes;
 use dx_native_read::read_object;
 use dx_native_write::write_object;

@@ -1,4 +1,4 @@
-// What becomes of components that depend on cells, and of those of every class.
+//! What becomes of components that depend on cells, and of those of every class.
 use crate::asked::{Given, all_give};
 use crate::fields::{CELLS, CLASSES, FLAT, PLANE};
 use std::test::Fail;

@@ -1,4 +1,4 @@
-// Fields as native text.
+//! Fields as native text.
 
 // Four by three points.
 pub(crate) const PLANE: &str =

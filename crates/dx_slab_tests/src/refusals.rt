@@ -1,4 +1,4 @@
-// The order of the checks: of what is wrong at once, the code of the first; and the largest series.
+//! The order of the checks: of what is wrong at once, the code of the first; and the largest series.
 use crate::asked::{Given, all_give, slabs};
 use crate::fields::{
     APART, ARRAY, BENT, CLASSES, COMPOSITE, FULL, GROUP, LINE, LOOSE, LOST, PLANE, POINT, REFERS,

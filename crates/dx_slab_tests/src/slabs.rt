@@ -1,4 +1,4 @@
-// Rows of a field, a dimension, a position and a thickness, and what they give.
+//! Rows of a field, a dimension, a position and a thickness, and what they give.
 use crate::asked::{Given, all_give};
 use crate::fields::{
     APART, JOINED, LINE, LONG, ODD, PLANE, POINT, REFERS, SHORT, SOLID, VECTORS, WIDE,

@@ -4,31 +4,23 @@ use Rattle.std.specs.Prelude.{Option, Some, None, Result, Ok, Err, cond}
 use Rattle.std.specs.Cmp.Derive.{both_true}
 use Rattle.dx_base.specs.declared.code.Code.{Code}
 use Rattle.dx_base.specs.declared.code.Code.TheVariants.{TooLarge}
-use Rattle.dx_base.specs.declared.elem.ElemType.TheVariants.{Int}
-use Rattle.dx_base.specs.Elem.{in_range}
 use Rattle.dx_base.specs.Array.{ArrayData}
 use Rattle.dx_base.specs.Object.{Tree, PartList, array, no_parts}
 use Rattle.dx_base.specs.ObjectLimits.{fits}
-use Rattle.dx_base.specs.ObjectNumbers.{steps_by_ints, int_number, number_value}
+use Rattle.dx_base.specs.ObjectNumbers.{steps_by_ints, number_value}
 use Rattle.dx_arrays.specs.declared.array.ArrayError.{ArrayError}
 use Rattle.dx_arrays.specs.Makes.{refusal}
 use Rattle.dx_objects.specs.Runs.{Values}
 use Rattle.dx_objects.specs.Values.{value_at}
+use Rattle.dx_steps.specs.Steps.{value_steps, all_step, MakesSteps}
+use Rattle.dx_steps.proofs.ValueLaws.{number_steps}
 use Rattle.dx_stats.specs.declared.bins.Bins.{Bins}
 use Rattle.dx_stats.specs.Bins.{median}
 use Rattle.dx_stats.specs.Histogram.{bins_asked, connections, positions, counts, if_fits, if_made, made_field, made_positions, made_connections, made_counts, field_of, histogram, median_value, both, by_bins, histogram_over, histogram_answer}
-use Rattle.dx_stats.specs.Laws.{value_steps, all_step, MakesSteps}
 use Rattle.dx_stats.specs.Numbers.{numbers, numbers_in}
 use Rattle.dx_stats.specs.Statistics.{mean, deviation, variance, least, greatest, answer_over, statistics_answer}
 
 -- ---- numbers
-
-number_steps_by : (b : Bool) (n : ℤ) → value_steps (cond b (Some (int_number n)) None) ≡ true
-number_steps_by true n = refl
-number_steps_by false n = refl
-
-number_steps : (n : ℤ) → value_steps (number_value n) ≡ true
-number_steps n = number_steps_by (in_range Int n) n
 
 median_steps : (m : Option ℤ) → value_steps (median_value m) ≡ true
 median_steps None = refl

@@ -1,17 +1,12 @@
--- Laws: the sums of the largest arrays are in 128 bits, and the origins and deltas of what the modules make are ints.
-use Rattle.std.specs.Prelude.{◌≡◌, ℕ, ◌-◌, ◌*◌, ◌^◌, ◌≤◌, ℤ, pos, ◌-ℤ◌, ◌*ℤ◌, List, length, Bool, true, Option, Some, None, Ok}
-use Rattle.std.specs.List.{All, list_all}
+-- Laws of sums: those of the largest arrays are in 128 bits.
+use Rattle.std.specs.Prelude.{ℕ, ◌-◌, ◌*◌, ◌^◌, ◌≤◌, ℤ, pos, ◌-ℤ◌, ◌*ℤ◌, List, length}
+use Rattle.std.specs.List.{All}
 use Rattle.dx_base.specs.Array.{ArrayData}
 use Rattle.dx_base.specs.ArrayLimits.{IsLawfulArray, max_values}
-use Rattle.dx_base.specs.Object.{Tree}
-use Rattle.dx_base.specs.ObjectNumbers.{steps_by_ints}
 use Rattle.dx_arrays.specs.Block.{IsSmall}
 use Rattle.dx_arrays.specs.Reach.{IsWithin}
-use Rattle.dx_objects.specs.Runs.{Values, Answer}
 use Rattle.dx_stats.specs.Numbers.{numbers}
 use Rattle.dx_stats.specs.Statistics.{total, total_of_squares}
-
--- ---- sums
 
 -- the greatest number of 128 bits
 abbrev pub greatest_wide : ℕ
@@ -33,16 +28,3 @@ SumsOfNumbersFit = (vs : List ℤ) → length vs ≤ max_values → All IsSmall 
 -- and so of the numbers of each array
 abbrev pub SumsOfArraysFit : Type 0
 SumsOfArraysFit = (a : ArrayData) → IsLawfulArray a → SumsFit (numbers a)
-
--- ---- origins and deltas
-
-abbrev pub value_steps : Option Tree → Bool
-value_steps None = true
-value_steps (Some t) = steps_by_ints t
-
-abbrev pub all_step : Values → Bool
-all_step vs = list_all value_steps vs
-
--- whatever the inputs are, all origins and deltas of the results are ints
-abbrev pub MakesSteps : (Values → Answer) → Type 0
-MakesSteps answer = (inputs results : Values) → answer inputs ≡ Ok results → all_step results ≡ true

@@ -1,4 +1,4 @@
-// Bins of equal width over the whole numbers from one to another.
+//! Bins of equal width over the whole numbers from one to another.
 ghost use Rattle.std.specs.Prelude.{◌≡◌, ◌+◌, ◌*◌, ◌<◌, ◌≤◌, ◌≤ℤ◌, pos, length, replicate, All, vec_len, IsTrue, IfOk};
 ghost use Rattle.dx_stats.specs.Bins as spec;
 ghost use Rattle.dx_stats.specs.Bins.{AreBins, IsSlope};

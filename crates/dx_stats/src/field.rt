@@ -1,4 +1,4 @@
-// The field of a histogram: its borders as positions on a line, its bins as the cells between them, its counts as data.
+//! The field of a histogram: its borders as positions on a line, its bins as the cells between them, its counts as data.
 ghost use Rattle.std.specs.Prelude.{◌≡◌, ◌≤◌, ◌&&◌, ◌+◌, ◌∷◌, [], pos, length, Some, OnOk, IfOk, IsTrue, true};
 ghost use Rattle.dx_base.specs.Answers.{Answers};
 ghost use Rattle.dx_base.specs.Array.{ArrayData};

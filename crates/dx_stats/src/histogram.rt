@@ -1,4 +1,4 @@
-// Histogram.
+//! Histogram.
 ghost use Rattle.std.specs.Prelude.{◌≡◌, ◌<◌, ◌≤◌, ◌∷◌, [], length, All, Some, IfOk, IfSome, Ok, Err, MatchResult};
 ghost use Rattle.dx_base.specs.Array.{items};
 ghost use Rattle.dx_base.specs.Modules.{Takes};
@@ -70,7 +70,7 @@ fn histogram_of(alloc: Global, values: &[i64], inputs: &Outs) -> Result<Outs, Ru
     requires small { All IsSmall values.now }
     ensures { Gives (spec.by_bins values.now (spec.bins_asked values.now inputs.now)) result }
 {
-    let bins = match bins_asked(inputs, least_of(values), greatest_of(values)) {
+    let bins = match bins_asked(inputs, values) {
         Err(code) => return Err(RunFail::Code(code)),
         Ok(bins) => bins,
     };
@@ -125,20 +125,20 @@ fn greatest_of(values: &[i64]) -> i64
     greatest
 }
 
-// The bins that the inputs ask for, over numbers from the least to the greatest.
-fn bins_asked(inputs: &Outs, least: i64, greatest: i64) -> Result<Bins, Code>
-    requires least { IsSmall least }
-    requires greatest { IsSmall greatest }
-    ensures bins { MatchResult result (λ b. spec.bins_by (spec.count_asked (value_at inputs.now 1)) (spec.end_asked least (value_at inputs.now 2)) (spec.end_asked greatest (value_at inputs.now 3)) (value_at inputs.now 4) ≡ Ok b) (λ code. spec.bins_by (spec.count_asked (value_at inputs.now 1)) (spec.end_asked least (value_at inputs.now 2)) (spec.end_asked greatest (value_at inputs.now 3)) (value_at inputs.now 4) ≡ Err code) }
+// The bins that the inputs ask for, over these numbers.
+fn bins_asked(inputs: &Outs, values: &[i64]) -> Result<Bins, Code>
+    requires some { 0 < length values.now }
+    requires small { All IsSmall values.now }
+    ensures bins { MatchResult result (λ b. spec.bins_asked values.now inputs.now ≡ Ok b) (λ code. spec.bins_asked values.now inputs.now ≡ Err code) }
     ensures lawful { IfOk result (λ b. AreBins b) }
 {
     let Some(count) = count_asked(inputs) else {
         return Err(Code::BadArgument);
     };
-    let Some(low) = end_asked(inputs, 2, least) else {
+    let Some(low) = low_asked(inputs, values) else {
         return Err(Code::BadArgument);
     };
-    let Some(high) = end_asked(inputs, 3, greatest) else {
+    let Some(high) = high_asked(inputs, values) else {
         return Err(Code::BadArgument);
     };
     if inputs.value(4).is_some() {
@@ -175,14 +175,28 @@ fn as_count(n: Option<i64>) -> Option<u64>
     }
 }
 
-// An end of the range: a number, or where NULL stands the end of the numbers themselves.
-fn end_asked(inputs: &Outs, place: usize, own: i64) -> Option<i64>
-    requires { IsSmall own }
-    ensures end { result ≡ spec.end_asked own (value_at inputs.now place) }
+// Where the range begins: at a number, or where NULL stands at the least of the numbers themselves, which is looked for only then.
+fn low_asked(inputs: &Outs, values: &[i64]) -> Option<i64>
+    requires some { 0 < length values.now }
+    requires small { All IsSmall values.now }
+    ensures end { result ≡ spec.end_asked (statistics.least values.now) (value_at inputs.now 2) }
     ensures small { IfSome result (λ n. IsSmall n) }
 {
-    match inputs.value(place) {
-        None => Some(own),
+    match inputs.value(2) {
+        None => Some(least_of(values)),
+        Some(object) => number_in(object),
+    }
+}
+
+// Where the range ends: at a number, or where NULL stands at the greatest of them.
+fn high_asked(inputs: &Outs, values: &[i64]) -> Option<i64>
+    requires some { 0 < length values.now }
+    requires small { All IsSmall values.now }
+    ensures end { result ≡ spec.end_asked (statistics.greatest values.now) (value_at inputs.now 3) }
+    ensures small { IfSome result (λ n. IsSmall n) }
+{
+    match inputs.value(3) {
+        None => Some(greatest_of(values)),
         Some(object) => number_in(object),
     }
 }

@@ -1,7 +1,8 @@
-// Laws of the definitions, each as a function that does nothing and ensures it.
+//! Laws of the definitions, each as a function that does nothing and ensures it.
 ghost use Rattle.dx_stats.specs.Histogram.{histogram_answer};
-ghost use Rattle.dx_stats.specs.Laws.{MakesSteps, SumsOfArraysFit, SumsOfNumbersFit};
+ghost use Rattle.dx_stats.specs.Laws.{SumsOfArraysFit, SumsOfNumbersFit};
 ghost use Rattle.dx_stats.specs.Statistics.{statistics_answer};
+ghost use Rattle.dx_steps.specs.Steps.{MakesSteps};
 
 /// 128 bits are enough for Statistics: of as many numbers as an array may have values, each of which some type of values
 /// holds, the sum, the sum of the squares, and the products and the difference that the variance takes of them. Since each

@@ -1,4 +1,4 @@
-// The median of the numbers that count, which is selected from a copy of them: in linear time on average, without a sort of all.
+//! The median of the numbers that count, which is selected from a copy of them: in linear time on average, without a sort of all.
 ghost use Rattle.std.specs.Prelude.{◌≡◌, IfOk};
 ghost use Rattle.dx_stats.specs.Bins as spec;
 

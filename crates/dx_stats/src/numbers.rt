@@ -1,4 +1,4 @@
-// The array of numbers that an input stands for.
+//! The array of numbers that an input stands for.
 ghost use Rattle.std.specs.Prelude.{◌≡◌, ◌<◌, [], IfOk, MatchResult, Ok, Err};
 ghost use Rattle.dx_base.specs.Array.{items};
 ghost use Rattle.dx_objects.specs.Values.{value_at};

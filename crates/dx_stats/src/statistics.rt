@@ -1,4 +1,4 @@
-// Statistics.
+//! Statistics.
 ghost use Rattle.std.specs.Prelude.{◌≡◌, ◌≤◌, ◌<◌, ◌^◌, [], pos, ◌*ℤ◌, ◌-ℤ◌, length, IfOk};
 ghost use Rattle.dx_base.specs.Array.{items};
 ghost use Rattle.dx_base.specs.Modules.{Takes};

@@ -1,4 +1,4 @@
-// Sums of numbers, in one pass.
+//! Sums of numbers, in one pass.
 ghost use Rattle.std.specs.Prelude.{◌≡◌, ◌+◌, ◌-◌, ◌<◌, ◌≤◌, [], pos, ◌*ℤ◌, length, OnOk, IfOk, All};
 ghost use Rattle.dx_base.specs.Array.{items as items_of};
 ghost use Rattle.dx_arrays.specs.Block.{IsSmall, values_from};

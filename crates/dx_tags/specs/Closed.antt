@@ -98,9 +98,29 @@ AreDistinct ts = (i j : ℕ) (t : Term) → slice_get ts i ≡ Some t → slice_
 abbrev pub NamesExactly : List Term → Type 0
 NamesExactly ts = (i j : ℕ) → i < length ts → j < length ts → head_at (heads_of ts) i ≡ head_at (heads_of ts) j → i ≡ j
 
--- one list of terms goes on as another
+-- a term that stands for a held value has a number below this
+abbrev pub IsHeldBelow : ℕ → Term → Type 0
+IsHeldBelow n (Constant c) = Unit {0}
+IsHeldBelow n (Held k) = k < n
+IsHeldBelow n (Call m ts) = Unit {0}
+IsHeldBelow n (File b) = Unit {0}
+
+-- so has each of these that stands for one
+abbrev pub HeldBelow : ℕ → List Term → Type 0
+HeldBelow n [] = Unit {0}
+HeldBelow n (t ∷ ts) = IsHeldBelow n t × HeldBelow n ts
+
+-- none of these stands for a held value
+abbrev pub NoneHeld : List Term → Type 0
+NoneHeld ts = HeldBelow 0 ts
+
+-- a list of terms, and behind it any others
+abbrev pub HasMore : List Term → List Term → Type 0
+HasMore old new = (more : List Term) × (new ≡ old ++ more)
+
+-- a list of terms goes on as another, with constants, calls and files
 abbrev pub GoesOn : List Term → List Term → Type 0
-GoesOn old new = (more : List Term) × (new ≡ old ++ more)
+GoesOn old new = (more : List Term) × (new ≡ old ++ more) × NoneHeld more
 
 -- the tag of a value that is there
 pub record Fits (terms : List Term) (t : ValueTag) : Type 0 where

@@ -1,4 +1,4 @@
-// The bytes of a written file.
+//! The bytes of a written file.
 ghost use Rattle.std.specs.Prelude.{◌≡◌, IfOk};
 ghost use Rattle.dx_tags.specs.Digest.{digest};
 

@@ -1,4 +1,4 @@
-// The tags of the ints that were named last.
+//! The tags of the ints that were named last.
 ghost use Rattle.std.specs.Prelude.{◌<◌};
 
 use crate::term::{Tag, Term};

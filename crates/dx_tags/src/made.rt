@@ -1,4 +1,4 @@
-// The objects of constants that have a term: each is made once, and stands in as many places as ask for it.
+//! The objects of constants that have a term: each is made once, and stands in as many places as ask for it.
 ghost use Rattle.std.specs.Prelude.{◌≡◌, ◌<◌, ℕ, List, Some, true, slice_get, IfSome};
 ghost use Rattle.dx_ast.specs.Lawful.{IsLawfulConst};
 ghost use Rattle.dx_ast.specs.declared.constants.Const.{Const};

@@ -1,4 +1,4 @@
-// The tags of the constants whose objects were made last.
+//! The tags of the constants whose objects were made last.
 use crate::term::Tag;
 use std::alloc::Global;
 

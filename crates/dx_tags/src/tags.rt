@@ -1,4 +1,4 @@
-// The table of terms, which is list and index at once.
+//! The table of terms, which is list and index at once.
 ghost use Rattle.std.specs.Prelude.{◌≡◌, ◌<◌, ◌++◌, ◌∷◌, [], ◌⊎◌, Some, slice_get, length, IfOk, IfSome, OnOk, OnErr};
 ghost use Rattle.dx_ast.specs.Lawful.{IsLawfulConst};
 ghost use Rattle.dx_ast.specs.declared.constants.Const.{Const};
@@ -122,7 +122,7 @@ impl Tags {
         }
     }
 
-    // The tag of a term that is among the constants which were named last.
+    // The tag of a term that is among the constants whose objects were made last.
     #[tactic(auto, using(crate::proofs::SameTerm::one_place))]
     fn lately(&self, t: &Term, is_large: bool) -> Option<Tag>
         ensures named { IfSome result (λ tag. slice_get self.now tag ≡ Some t.now) }

@@ -1,4 +1,4 @@
-// Terms and their numbers.
+//! Terms and their numbers.
 
 use crate::content::Content;
 use dx_ast::Const;

@@ -1,4 +1,4 @@
-// The files that a session has written: a list in the order of the names, which is searched by halving.
+//! The files that a session has written: a list in the order of the names, which is searched by halving.
 
 ghost use Rattle.std.specs.Prelude.{◌≡◌, ◌<◌, ◌≤◌, ◌+◌, [], None, Some, length, MatchOption, OnOk};
 ghost use Rattle.std.specs.List.Sorted.{IsBinarySearchResult, IsSearchInRange};

@@ -1,4 +1,4 @@
-// An option, as the parser of command lines reads it.
+//! An option, as the parser of command lines reads it.
 ghost use Rattle.std.specs.Prelude.{◌≡◌, [], length, None, Some, IfOk, OnErr, IsErrOf, option_map, false, true};
 ghost use Rattle.clap.specs.Words.{app_of, fault_of, found_of, matches_of, rows_of, rule_of};
 ghost use Rattle.dx_words.specs.Command.{flag_rule, is_long, named_of, options, value_rule};

@@ -1,4 +1,4 @@
-// A line as far as it was read.
+//! A line as far as it was read.
 ghost use Rattle.std.specs.Prelude.{◌≡◌, ◌∷◌, [], None, Some, Option, List, ℕ, IfOk, OnOk, OnErr, IsErrOf, length};
 ghost use Rattle.dx_words.specs.declared.line.Line.{Line as Lines};
 ghost use Rattle.dx_words.specs.declared.line.Reading.{Reading};

@@ -1,4 +1,4 @@
-// The numbers that options take: decimal digits, with no sign.
+//! The numbers that options take: decimal digits, with no sign.
 ghost use Rattle.std.specs.Prelude.{◌≡◌, ◌-◌, ◌^◌, min, option_map};
 ghost use Rattle.std.specs.List.{list_all};
 ghost use Rattle.dx_base.specs.Tokens.Classes.{is_digit};
@@ -17,7 +17,7 @@ const EXECUTION_DIGITS: usize = 6;
 /// The largest number of executions.
 const MOST_EXECUTIONS: u64 = 100_000;
 
-/// The budget that a value says, in units of the sizes of objects; None where it is no budget.
+/// The budget that a value says, in bytes of stated sizes; None where it is no budget.
 pub(crate) fn budget(value: &[u8]) -> Option<u64>
     ensures { result ≡ budget_of value.now }
 {

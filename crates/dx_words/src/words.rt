@@ -1,4 +1,4 @@
-// What a list of words says to the program.
+//! What a list of words says to the program.
 ghost use Rattle.std.specs.Prelude.{◌≡◌, None, Some, IfOk, IsErrOf};
 ghost use Rattle.dx_words.specs.Line.{line_from, texts, words_of};
 ghost use Rattle.dx_words.specs.Range.{IsInRange};
@@ -10,7 +10,7 @@ use std::alloc::{AllocError, Global};
 /// What a line of `dxi` says.
 #[derive(Debug, Drop)]
 pub struct Words {
-    /// The budget of the cache, in units of the sizes of objects.
+    /// The budget of the cache, in bytes of stated sizes.
     pub budget: u64,
     /// A line for each event of an execution.
     pub trace: bool,

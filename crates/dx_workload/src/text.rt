@@ -1,4 +1,4 @@
-// The text of the workload, line by line in one buffer.
+//! The text of the workload, line by line in one buffer.
 ghost use Rattle.std.specs.Prelude.{◌≡◌, ◌≤◌, ◌++◌, IfOk, OnOk};
 ghost use Rattle.dx_workload.specs.Workload as spec;
 

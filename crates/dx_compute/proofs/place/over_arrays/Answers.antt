@@ -1,4 +1,4 @@
-use Rattle.std.proofs.Common.{◌≡◌, Ok, sym, ap, subst, ◌∙◌}
+use Rattle.std.proofs.Common.{◌≡◌, sym, ap, subst, ◌∙◌}
 use Rattle.dx_base.specs.Answers.{Answers}
 use Rattle.dx_compute_meaning.specs.Arrays.{arrays_for, computed, item_count}
 use Rattle.dx_compute_meaning.specs.Compute.{finished, first_field}

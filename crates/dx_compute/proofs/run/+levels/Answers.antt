@@ -1,4 +1,4 @@
-use Rattle.std.proofs.Common.{rules, arith, ◌≡◌, ◌+◌, ◌-◌, ◌++◌, ◌∷◌, [], ℕ, true, Ok, Err, length, refl, sym, ap, subst, ◌∙◌, length-append}
+use Rattle.std.proofs.Common.{rules, arith, ◌≡◌, ◌+◌, ◌-◌, ◌++◌, ◌∷◌, [], ℕ, Ok, Err, length, sym, ap, subst, ◌∙◌, length-append}
 use Rattle.std.specs.Prelude.{map}
 use Rattle.std.specs.List.{range_with_len}
 use Rattle.dx_base.specs.Answers.{Answers}
@@ -6,7 +6,7 @@ use Rattle.dx_base.specs.Object.{Tree, part_count}
 use Rattle.dx_objects.proofs.PartsLaws.{part_count_is}
 use Rattle.dx_expr_eval.proofs.Answering.{passed_on}
 use Rattle.dx_compute_meaning.specs.Answered.{Answered, collected}
-use Rattle.dx_compute_meaning.specs.Compute.{answer_within, over_arrays, in_limits, remade}
+use Rattle.dx_compute_meaning.specs.Compute.{answer_within, in_limits, remade}
 use Rattle.dx_compute_meaning.specs.Operands.{all_given, are_all, groups, member_count, all_at_place}
 use Rattle.dx_compute_meaning.specs.Shown.{shown, shown_one, objects_of, behind, code_in}
 use Rattle.dx_compute_meaning.proofs.Codes.{answered_first, refused_first, collected_next, collected_fails, either_err, some_to}
@@ -40,8 +40,8 @@ answer_within-returns-in_err-members t c =
     (λ code is. step ∙ refused_first (member_list (c.args.levels - 1) e vs (member_count g)) (λ ts. in_limits (remade g ts)) code (ap (λ n. member_list (c.args.levels - 1) e vs n) count ∙ is))
     c.in_err-members.ensures.answers
 
-pub answer_within-remade-requires-clause-group : goal.answer_within-remade-requires-clause-group
-answer_within-remade-requires-clause-group t c = first_group_is (shown c.args.operands.now) c.in-Some.group.now (sym c.in-Some.ensures)
+pub answer_within-remade-requires : goal.answer_within-remade-requires
+answer_within-remade-requires t c = first_group_is (shown c.args.operands.now) c.in-Some.group.now (sym c.in-Some.ensures)
 
 pub answer_within-returns : goal.answer_within-returns
 answer_within-returns t c =

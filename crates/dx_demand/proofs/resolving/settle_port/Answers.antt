@@ -919,3 +919,15 @@ returns-in-Needs-clause-seen_met g c =
       selectors = chosen;
       stack = subst (StackValued nodes (answers_of memo2)) (sym pushed) (subst (λ (x : Answers). StackValued nodes x (fs ++ now ∷ [])) (sym same) (valued_join nodes (answers_of memo1) fs now parts.0 taken));
     }
+
+pub returns-in_err-a-clause-goes_on : goal.returns-in_err-a-clause-goes_on
+returns-in_err-a-clause-goes_on g c = goes_on_then c.args.tags.now c.steps.tags c.next_step.new.tags c.steps.invariant.goes_on c.next_step.ensures.goes_on
+
+pub returns-in_err-settle-in-Settles-clause-goes_on : goal.returns-in_err-settle-in-Settles-clause-goes_on
+returns-in_err-settle-in-Settles-clause-goes_on g c = goes_on_then c.args.tags.now c.steps.tags c.next_step.new.tags c.steps.invariant.goes_on c.in_ok-a.ensures.goes_on
+
+pub returns-in_err-push_frame-in-Awaits-clause-goes_on : goal.returns-in_err-push_frame-in-Awaits-clause-goes_on
+returns-in_err-push_frame-in-Awaits-clause-goes_on g c = goes_on_then c.args.tags.now c.steps.tags c.next_step.new.tags c.steps.invariant.goes_on c.in_ok-a.ensures.goes_on
+
+pub returns-in_err-push_frame-in-Needs-clause-goes_on : goal.returns-in_err-push_frame-in-Needs-clause-goes_on
+returns-in_err-push_frame-in-Needs-clause-goes_on g c = goes_on_then c.args.tags.now c.steps.tags c.next_step.new.tags c.steps.invariant.goes_on c.in_ok-a.ensures.goes_on

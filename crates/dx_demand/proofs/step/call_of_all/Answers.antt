@@ -7,7 +7,7 @@ use Rattle.std.proofs.Common.{ap, [], ◌∷◌}
 use Rattle.dx_graph.specs.Graph.{node_at}
 use Rattle.dx_tags.specs.Closed.{CallHead, CallOf, heads_of, value_terms}
 use Rattle.dx_tags.proofs.ClosedTerms.{head_unfolds}
-use Rattle.dx_tags.proofs.Growth.{values_on}
+use Rattle.dx_tags.proofs.Growth.{goes_on_then, values_on}
 use Rattle.dx_meaning.specs.Forming.{FormsCall, forming, file_forms, call_formed}
 use Rattle.dx_meaning.proofs.Formed.{after_append}
 use Rattle.dx_demand.specs.Forming.{formings, IsCallTag}
@@ -53,3 +53,12 @@ returns-clause-forms c = λ nodes calls.
     two ∙ ap (λ us. forming (FormsCall (record { place = place; call = CallOf m us })) (formings nodes mid memo)) c.in_ok-all.ensures.named
     ∙ ap (forming (call_formed place m c.args.file (value_terms (heads_of old) c.args.arguments))) one
     ∙ sym (after_append (file_forms c.args.file) (call_formed place m c.args.file (value_terms (heads_of old) c.args.arguments) ∷ []) was)
+
+pub returns-in_err-t-clause-goes_on : goal.returns-in_err-t-clause-goes_on
+returns-in_err-t-clause-goes_on c = goes_on_then c.args.tags.now c.arguments_with.new.tags c.call_tag.new.tags c.in_ok-all.ensures.goes_on c.call_tag.ensures.goes_on
+
+pub returns-in_err-form-clause-goes_on : goal.returns-in_err-form-clause-goes_on
+returns-in_err-form-clause-goes_on c = goes_on_then c.args.tags.now c.arguments_with.new.tags c.call_tag.new.tags c.in_ok-all.ensures.goes_on c.in_ok-t.ensures.goes_on
+
+pub returns-clause-goes_on : goal.returns-clause-goes_on
+returns-clause-goes_on c = goes_on_then c.args.tags.now c.arguments_with.new.tags c.call_tag.new.tags c.in_ok-all.ensures.goes_on c.in_ok-t.ensures.goes_on

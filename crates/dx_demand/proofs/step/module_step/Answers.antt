@@ -456,3 +456,24 @@ returns-clause-met c = λ s v.
     let long = ap length same in
     let count : length c.loop-inputs.arguments ≡ length inputs = omega (arith, long, c.loop-inputs-test.false, c.len.ensures, c.loop-inputs.invariant.few) in
     module_met s nodes answers c.args.port c.args.called None c.in_ok-t-2.t c.requires.what (subst (AreValued answers inputs) count (c.loop-inputs.invariant.valued v))
+
+pub returns-in_err-t-clause-goes_on : goal.returns-in_err-t-clause-goes_on
+returns-in_err-t-clause-goes_on c = goes_on_then c.args.tags.now c.loop-inputs.tags c.known_of.new.tags c.loop-inputs.invariant.goes_on c.known_of.ensures.goes_on
+
+pub returns-in_err-push-in-Settled-Value-clause-goes_on : goal.returns-in_err-push-in-Settled-Value-clause-goes_on
+returns-in_err-push-in-Settled-Value-clause-goes_on c = goes_on_then c.args.tags.now c.loop-inputs.tags c.known_of.new.tags c.loop-inputs.invariant.goes_on c.in_ok-t.ensures.goes_on
+
+pub returns-in-Settled-Off-clause-goes_on : goal.returns-in-Settled-Off-clause-goes_on
+returns-in-Settled-Off-clause-goes_on c = goes_on_then c.args.tags.now c.loop-inputs.tags c.known_of.new.tags c.loop-inputs.invariant.goes_on c.in_ok-t.ensures.goes_on
+
+pub returns-in-Settled-Halt-clause-goes_on : goal.returns-in-Settled-Halt-clause-goes_on
+returns-in-Settled-Halt-clause-goes_on c = goes_on_then c.args.tags.now c.loop-inputs.tags c.known_of.new.tags c.loop-inputs.invariant.goes_on c.in_ok-t.ensures.goes_on
+
+pub returns-in-Open-clause-goes_on : goal.returns-in-Open-clause-goes_on
+returns-in-Open-clause-goes_on c = goes_on_then c.args.tags.now c.loop-inputs.tags c.known_of.new.tags c.loop-inputs.invariant.goes_on c.in_ok-t.ensures.goes_on
+
+pub returns-in_err-t-2-clause-goes_on : goal.returns-in_err-t-2-clause-goes_on
+returns-in_err-t-2-clause-goes_on c = goes_on_then c.args.tags.now c.loop-inputs.tags c.call_of_all.new.tags c.loop-inputs.invariant.goes_on c.call_of_all.ensures.goes_on
+
+pub returns-clause-goes_on : goal.returns-clause-goes_on
+returns-clause-goes_on c = goes_on_then c.args.tags.now c.loop-inputs.tags c.call_of_all.new.tags c.loop-inputs.invariant.goes_on c.in_ok-t-2.ensures.goes_on

@@ -8,7 +8,7 @@ pub returns-clause-formed : goal.returns-clause-formed
 returns-clause-formed c = interned_exact c.intern.result c.args.tags.now c.intern.new.self c.args.t c.requires.formed c.requires.within c.requires.whole c.intern.ensures.kept c.intern.ensures.err c.intern.ensures.distinct
 
 pub returns-clause-goes_on : goal.returns-clause-goes_on
-returns-clause-goes_on c = always_on c.intern.result c.args.tags.now c.intern.new.self (interned_goes_on c.intern.result c.args.tags.now c.intern.new.self c.args.t c.intern.ensures.kept) c.intern.ensures.err
+returns-clause-goes_on c = λ none. always_on c.intern.result c.args.tags.now c.intern.new.self (interned_goes_on c.intern.result c.args.tags.now c.intern.new.self c.args.t none c.intern.ensures.kept) c.intern.ensures.err
 
 pub returns-clause-named : goal.returns-clause-named
 returns-clause-named c = interned_named c.intern.result c.args.tags.now c.intern.new.self c.args.t c.requires.formed.formed c.requires.within c.intern.ensures.kept c.intern.ensures.named

@@ -256,3 +256,18 @@ returns-in-Refused-clause-alike g c =
     let alike = subst (λ how. NeedsAlike setup x k tree (Ok how) at2) c.in-Refused.is (by_budget setup g.L.Library.answer (g.F.Files.content c.loop-i.files) at1 now (λ x k base s f. NeedsAlike setup x k tree (Ok c.in_ok-t.field-0) at2) c.in_ok-t.ensures.alike map (c.loop-i.invariant.same ∙ told_map) b c.loop-i.invariant.budget k links base here.0 so.formings here.1) in
     ended_scans setup x k base whole rest tree s f c.loop-i.terms at1 now so at2 now' (Needs (site_of (nodes_in setup) c.in-Refused.n) sees.0) (alike ∙ sees.1)
     ∙ sym (halts_behind (sight_in setup at2) (nodes_in setup) at2.tags at2.seen.memo c.in_ok-t.ensures.looking.right.memo inputs i valued c.i-item.result (Needs (site_of (nodes_in setup) c.in-Refused.n) sees.0) (slot inputs inputs i i c.i-item.result refl refl c.loop-i-test.true c.i-item.is) sees.1).0
+
+pub returns-in_err-t-clause-goes_on : goal.returns-in_err-t-clause-goes_on
+returns-in_err-t-clause-goes_on g c = goes_on_then c.args.at.now.tags c.loop-i.at.tags c.look.new.at.tags c.loop-i.invariant.goes_on c.look.ensures.goes_on
+
+pub returns-in_err-push-in-Value-clause-goes_on : goal.returns-in_err-push-in-Value-clause-goes_on
+returns-in_err-push-in-Value-clause-goes_on g c = goes_on_then c.args.at.now.tags c.loop-i.at.tags c.look.new.at.tags c.loop-i.invariant.goes_on c.in_ok-t.ensures.goes_on
+
+pub returns-in-Off-clause-goes_on : goal.returns-in-Off-clause-goes_on
+returns-in-Off-clause-goes_on g c = goes_on_then c.args.at.now.tags c.loop-i.at.tags c.look.new.at.tags c.loop-i.invariant.goes_on c.in_ok-t.ensures.goes_on
+
+pub returns-in-Halt-clause-goes_on : goal.returns-in-Halt-clause-goes_on
+returns-in-Halt-clause-goes_on g c = goes_on_then c.args.at.now.tags c.loop-i.at.tags c.look.new.at.tags c.loop-i.invariant.goes_on c.in_ok-t.ensures.goes_on
+
+pub returns-in-Refused-clause-goes_on : goal.returns-in-Refused-clause-goes_on
+returns-in-Refused-clause-goes_on g c = goes_on_then c.args.at.now.tags c.loop-i.at.tags c.look.new.at.tags c.loop-i.invariant.goes_on c.in_ok-t.ensures.goes_on

@@ -13,4 +13,4 @@ returns-in_ok-empty_of-in-true-true-clause-prepared c =
       | then-failed w ↦ ap (λ (b : Bool). links_behind links b changes) (sym w.if-failed.true)
       | else-failed w ↦ sym (none_after links changes (sym w.is_empty-unchanged.ensures ∙ sym w.unchanged-is ∙ c.in-true-true.is-1)) ∙ ap (λ (b : Bool). links_behind links b changes) (sym w.if-failed.false)
     ] in
-    (search rules, subst (λ (ls : LinkMap). EmptySo ls c.in_ok-empty_of-in-true-true.field-0) same c.in_ok-empty_of-in-true-true.ensures)
+    (search rules, subst (λ (ls : LinkMap). EmptySo ls c.in_ok-empty_of-in-true-true.field-0) (c.in_ok-copy-in-true-true.ensures ∙ same) c.in_ok-empty_of-in-true-true.ensures)

@@ -161,3 +161,12 @@ loop-n-preserved g c =
           subst (λ y. OnCourse setup x k base all rest s f before y at' now' (g.O.Sink.written c.take.new.out)) (sym c.in-Ok.ensures.gathered)
           (goes_on setup x k base all rest s f before got at now written n e o c.in_ok-done.done at' now' so c.in_ok-done.ensures.goes_on c.loop-n.invariant.fits (sym c.in-Ok.ensures.ends ∙ c.if-ends.false) (g.O.Sink.written c.take.new.out) c.in-Ok.ensures.writes);
     }
+
+pub returns-in_err-done-clause-goes_on : goal.returns-in_err-done-clause-goes_on
+returns-in_err-done-clause-goes_on g c = goes_on_then c.args.at.now.tags c.loop-n.at.tags c.perform.new.at.tags c.loop-n.invariant.goes_on c.perform.ensures.goes_on
+
+pub returns-in-Err-clause-goes_on : goal.returns-in-Err-clause-goes_on
+returns-in-Err-clause-goes_on g c = goes_on_then c.args.at.now.tags c.loop-n.at.tags c.perform.new.at.tags c.loop-n.invariant.goes_on c.in_ok-done.ensures.goes_on
+
+pub returns-then-ends-clause-goes_on : goal.returns-then-ends-clause-goes_on
+returns-then-ends-clause-goes_on g c = goes_on_then c.args.at.now.tags c.loop-n.at.tags c.perform.new.at.tags c.loop-n.invariant.goes_on c.in_ok-done.ensures.goes_on

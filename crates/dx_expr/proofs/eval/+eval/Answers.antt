@@ -3,6 +3,7 @@ use Rattle.std.specs.Prelude.{slice_index_or, map}
 use mir.Val.{SFits}
 use Rattle.std.proofs.Common.{w32, to_z-of_z}
 use Rattle.dx_expr.specs.Shape.{shape_of}
+use Rattle.dx_expr_grammar.specs.declared.tree.Expression.TheVariants as expression
 use Rattle.dx_expr.specs.declared.operators.Sides.TheVariants as sides
 use Rattle.dx_expr.specs.Value.{value_of, values_by, dot_product, side_by_side, binary_value, after, each, unary_value, alone, joined, ◌>>=◌}
 use Rattle.dx_expr.proofs.Equations.{value_number, value_input, value_unary, value_part, value_vector}
@@ -19,78 +20,14 @@ pub single_value-single_value-requires : goal.single_value-single_value-requires
 single_value-single_value-requires g t c =
     λ κs lives. (omega (arith, c.decreases, nodes.in_unary c.args.e.now c.in-Unary.operator c.in-Unary.a c.get.result.now c.in-Unary.is c.get.ensures), (search rules, (fitting.fit_unary (g.I.Inputs.given c.args.inputs.now).shape c.args.e.now c.in-Unary.operator c.in-Unary.a c.get.result.now c.in-Unary.is c.get.ensures c.requires.single, c.requires.item)))
 
-pub single_value-single_value-requires-in-UnlessTrue : goal.single_value-single_value-requires-in-UnlessTrue
-single_value-single_value-requires-in-UnlessTrue g t c =
-    λ κs lives. (omega (arith, c.decreases, nodes.in_left c.args.e.now c.in-Binary.operator c.in-Binary.a c.in-Binary.b c.get-in-UnlessTrue.result.now c.in-Binary.is c.get-in-UnlessTrue.ensures), (search rules, (fitting.fit_left (g.I.Inputs.given c.args.inputs.now).shape c.args.e.now sides.UnlessTrue c.in-Binary.operator c.in-Binary.a c.in-Binary.b c.get-in-UnlessTrue.result.now c.in-Binary.is c.in-UnlessTrue.ensures refl c.get-in-UnlessTrue.ensures c.requires.single, c.requires.item)))
+pub single_value-operator_value-requires : goal.single_value-operator_value-requires
+single_value-operator_value-requires g t c =
+    let this = evaluating.same_binary c.args.e.now c.in-Binary.operator c.in-Binary.operator c.in-Binary.a c.in-Binary.b c.get-in-Binary.result.now c.get-in-Binary-2.result.now c.in-Binary.is refl c.get-in-Binary.ensures c.get-in-Binary-2.ensures in
+    λ κs lives. (omega (arith, c.decreases, ap nodes.nodes this), (search rules, (ap (shape_of (g.I.Inputs.given c.args.inputs.now).shape) this ∙ c.requires.single, c.requires.item)))
 
-pub single_value-single_value-requires-in-UnlessTrue-2 : goal.single_value-single_value-requires-in-UnlessTrue-2
-single_value-single_value-requires-in-UnlessTrue-2 g t c =
-    λ κs lives. (omega (arith, c.decreases, nodes.in_right c.args.e.now c.in-Binary.operator c.in-Binary.a c.in-Binary.b c.get-in-UnlessTrue-2.result.now c.in-Binary.is c.get-in-UnlessTrue-2.ensures), (search rules, (fitting.fit_right (g.I.Inputs.given c.args.inputs.now).shape c.args.e.now sides.UnlessTrue c.in-Binary.operator c.in-Binary.a c.in-Binary.b c.get-in-UnlessTrue-2.result.now c.in-Binary.is c.in-UnlessTrue.ensures refl c.get-in-UnlessTrue-2.ensures c.requires.single, c.requires.item)))
-
-pub single_value-single_value-requires-in-IfTrue : goal.single_value-single_value-requires-in-IfTrue
-single_value-single_value-requires-in-IfTrue g t c =
-    λ κs lives. (omega (arith, c.decreases, nodes.in_left c.args.e.now c.in-Binary.operator c.in-Binary.a c.in-Binary.b c.get-in-IfTrue.result.now c.in-Binary.is c.get-in-IfTrue.ensures), (search rules, (fitting.fit_left (g.I.Inputs.given c.args.inputs.now).shape c.args.e.now sides.IfTrue c.in-Binary.operator c.in-Binary.a c.in-Binary.b c.get-in-IfTrue.result.now c.in-Binary.is c.in-IfTrue.ensures refl c.get-in-IfTrue.ensures c.requires.single, c.requires.item)))
-
-pub single_value-single_value-requires-in-IfTrue-2 : goal.single_value-single_value-requires-in-IfTrue-2
-single_value-single_value-requires-in-IfTrue-2 g t c =
-    λ κs lives. (omega (arith, c.decreases, nodes.in_right c.args.e.now c.in-Binary.operator c.in-Binary.a c.in-Binary.b c.get-in-IfTrue-2.result.now c.in-Binary.is c.get-in-IfTrue-2.ensures), (search rules, (fitting.fit_right (g.I.Inputs.given c.args.inputs.now).shape c.args.e.now sides.IfTrue c.in-Binary.operator c.in-Binary.a c.in-Binary.b c.get-in-IfTrue-2.result.now c.in-Binary.is c.in-IfTrue.ensures refl c.get-in-IfTrue-2.ensures c.requires.single, c.requires.item)))
-
-pub single_value-single_value-requires-in-Both : goal.single_value-single_value-requires-in-Both
-single_value-single_value-requires-in-Both g t c =
-    λ κs lives. (omega (arith, c.decreases, nodes.in_left c.args.e.now c.in-Binary.operator c.in-Binary.a c.in-Binary.b c.get-in-Both.result.now c.in-Binary.is c.get-in-Both.ensures), (search rules, (fitting.fit_left (g.I.Inputs.given c.args.inputs.now).shape c.args.e.now sides.Both c.in-Binary.operator c.in-Binary.a c.in-Binary.b c.get-in-Both.result.now c.in-Binary.is c.in-Both.ensures refl c.get-in-Both.ensures c.requires.single, c.requires.item)))
-
-pub single_value-single_value-requires-in-Both-2 : goal.single_value-single_value-requires-in-Both-2
-single_value-single_value-requires-in-Both-2 g t c =
-    λ κs lives. (omega (arith, c.decreases, nodes.in_right c.args.e.now c.in-Binary.operator c.in-Binary.a c.in-Binary.b c.get-in-Both-2.result.now c.in-Binary.is c.get-in-Both-2.ensures), (search rules, (fitting.fit_right (g.I.Inputs.given c.args.inputs.now).shape c.args.e.now sides.Both c.in-Binary.operator c.in-Binary.a c.in-Binary.b c.get-in-Both-2.result.now c.in-Binary.is c.in-Both.ensures refl c.get-in-Both-2.ensures c.requires.single, c.requires.item)))
-
-pub single_value-returns-in_err-x-in-UnlessTrue : goal.single_value-returns-in_err-x-in-UnlessTrue
-single_value-returns-in_err-x-in-UnlessTrue g t c =
-    evaluating.single_fails c.from_residual.result _ c.in_err-x-in-UnlessTrue.field-0.0 (search rules) (evaluating.fails_along _ _ c.in_err-x-in-UnlessTrue.field-0.0 (evaluating.at_binary (g.I.Inputs.given c.args.inputs.now) c.args.item c.args.e.now sides.UnlessTrue c.in-Binary.operator c.in-Binary.a c.in-Binary.b c.get-in-UnlessTrue.result.now c.in-Binary.b c.in-Binary.is c.in-UnlessTrue.ensures c.get-in-UnlessTrue.ensures refl) (evaluating.fails_by sides.UnlessTrue c.in-Binary.operator ((value_of (g.I.Inputs.given c.args.inputs.now) c.args.item) c.get-in-UnlessTrue.result.now) ((value_of (g.I.Inputs.given c.args.inputs.now) c.args.item) c.in-Binary.b) c.in_err-x-in-UnlessTrue.field-0.0 c.in_err-x-in-UnlessTrue.ensures))
-
-pub single_value-returns-in_err-x-in-IfTrue : goal.single_value-returns-in_err-x-in-IfTrue
-single_value-returns-in_err-x-in-IfTrue g t c =
-    evaluating.single_fails c.from_residual-in_err-x-in-IfTrue.result _ c.in_err-x-in-IfTrue.field-0.0 (search rules) (evaluating.fails_along _ _ c.in_err-x-in-IfTrue.field-0.0 (evaluating.at_binary (g.I.Inputs.given c.args.inputs.now) c.args.item c.args.e.now sides.IfTrue c.in-Binary.operator c.in-Binary.a c.in-Binary.b c.get-in-IfTrue.result.now c.in-Binary.b c.in-Binary.is c.in-IfTrue.ensures c.get-in-IfTrue.ensures refl) (evaluating.fails_by sides.IfTrue c.in-Binary.operator ((value_of (g.I.Inputs.given c.args.inputs.now) c.args.item) c.get-in-IfTrue.result.now) ((value_of (g.I.Inputs.given c.args.inputs.now) c.args.item) c.in-Binary.b) c.in_err-x-in-IfTrue.field-0.0 c.in_err-x-in-IfTrue.ensures))
-
-pub single_value-returns-in_err-x-in-Vectors : goal.single_value-returns-in_err-x-in-Vectors
-single_value-returns-in_err-x-in-Vectors g t c =
-    evaluating.single_fails c.from_residual-in_err-x-in-Vectors.result _ c.in_err-x-in-Vectors.field-0.0 (search rules) (evaluating.fails_along _ _ c.in_err-x-in-Vectors.field-0.0 (evaluating.at_binary (g.I.Inputs.given c.args.inputs.now) c.args.item c.args.e.now sides.Vectors c.in-Binary.operator c.in-Binary.a c.in-Binary.b c.get-in-Vectors.result.now c.in-Binary.b c.in-Binary.is c.in-Vectors.ensures c.get-in-Vectors.ensures refl) (evaluating.fails_by sides.Vectors c.in-Binary.operator ((value_of (g.I.Inputs.given c.args.inputs.now) c.args.item) c.get-in-Vectors.result.now) ((value_of (g.I.Inputs.given c.args.inputs.now) c.args.item) c.in-Binary.b) c.in_err-x-in-Vectors.field-0.0 c.in_err-x-in-Vectors.ensures))
-
-pub single_value-returns-in_err-x-in-Both : goal.single_value-returns-in_err-x-in-Both
-single_value-returns-in_err-x-in-Both g t c =
-    evaluating.single_fails c.from_residual-in_err-x-in-Both.result _ c.in_err-x-in-Both.field-0.0 (search rules) (evaluating.fails_along _ _ c.in_err-x-in-Both.field-0.0 (evaluating.at_binary (g.I.Inputs.given c.args.inputs.now) c.args.item c.args.e.now sides.Both c.in-Binary.operator c.in-Binary.a c.in-Binary.b c.get-in-Both.result.now c.in-Binary.b c.in-Binary.is c.in-Both.ensures c.get-in-Both.ensures refl) (evaluating.fails_by sides.Both c.in-Binary.operator ((value_of (g.I.Inputs.given c.args.inputs.now) c.args.item) c.get-in-Both.result.now) ((value_of (g.I.Inputs.given c.args.inputs.now) c.args.item) c.in-Binary.b) c.in_err-x-in-Both.field-0.0 c.in_err-x-in-Both.ensures))
-
-pub single_value-returns-then-x-ne0 : goal.single_value-returns-then-x-ne0
-single_value-returns-then-x-ne0 g t c =
-    evaluating.at_binary (g.I.Inputs.given c.args.inputs.now) c.args.item c.args.e.now sides.UnlessTrue c.in-Binary.operator c.in-Binary.a c.in-Binary.b c.get-in-UnlessTrue.result.now c.in-Binary.b c.in-Binary.is c.in-UnlessTrue.ensures c.get-in-UnlessTrue.ensures refl ∙ evaluating.then_unless c.in-Binary.operator ((value_of (g.I.Inputs.given c.args.inputs.now) c.args.item) c.get-in-UnlessTrue.result.now) ((value_of (g.I.Inputs.given c.args.inputs.now) c.args.item) c.in-Binary.b) c.in_ok-x-in-UnlessTrue.x c.in_ok-x-in-UnlessTrue.ensures (search rules)
-
-pub single_value-returns-then-x-eq0 : goal.single_value-returns-then-x-eq0
-single_value-returns-then-x-eq0 g t c =
-    evaluating.at_binary (g.I.Inputs.given c.args.inputs.now) c.args.item c.args.e.now sides.IfTrue c.in-Binary.operator c.in-Binary.a c.in-Binary.b c.get-in-IfTrue.result.now c.in-Binary.b c.in-Binary.is c.in-IfTrue.ensures c.get-in-IfTrue.ensures refl ∙ evaluating.then_if c.in-Binary.operator ((value_of (g.I.Inputs.given c.args.inputs.now) c.args.item) c.get-in-IfTrue.result.now) ((value_of (g.I.Inputs.given c.args.inputs.now) c.args.item) c.in-Binary.b) c.in_ok-x-in-IfTrue.x c.in_ok-x-in-IfTrue.ensures (search rules)
-
-pub single_value-returns-else-x-ne0 : goal.single_value-returns-else-x-ne0
-single_value-returns-else-x-ne0 g t c =
-    evaluating.single_along c.decided.result _ _ (evaluating.at_binary (g.I.Inputs.given c.args.inputs.now) c.args.item c.args.e.now sides.UnlessTrue c.in-Binary.operator c.in-Binary.a c.in-Binary.b c.get-in-UnlessTrue.result.now c.get-in-UnlessTrue-2.result.now c.in-Binary.is c.in-UnlessTrue.ensures c.get-in-UnlessTrue.ensures c.get-in-UnlessTrue-2.ensures ∙ evaluating.else_unless c.in-Binary.operator ((value_of (g.I.Inputs.given c.args.inputs.now) c.args.item) c.get-in-UnlessTrue.result.now) ((value_of (g.I.Inputs.given c.args.inputs.now) c.args.item) c.get-in-UnlessTrue-2.result.now) c.in_ok-x-in-UnlessTrue.x c.in_ok-x-in-UnlessTrue.ensures (search rules)) (c.decided.ensures ((value_of (g.I.Inputs.given c.args.inputs.now) c.args.item) c.get-in-UnlessTrue-2.result.now) c.single_value-in-UnlessTrue-2.ensures)
-
-pub single_value-returns-else-x-eq0 : goal.single_value-returns-else-x-eq0
-single_value-returns-else-x-eq0 g t c =
-    evaluating.single_along c.decided-in-IfTrue.result _ _ (evaluating.at_binary (g.I.Inputs.given c.args.inputs.now) c.args.item c.args.e.now sides.IfTrue c.in-Binary.operator c.in-Binary.a c.in-Binary.b c.get-in-IfTrue.result.now c.get-in-IfTrue-2.result.now c.in-Binary.is c.in-IfTrue.ensures c.get-in-IfTrue.ensures c.get-in-IfTrue-2.ensures ∙ evaluating.else_if c.in-Binary.operator ((value_of (g.I.Inputs.given c.args.inputs.now) c.args.item) c.get-in-IfTrue.result.now) ((value_of (g.I.Inputs.given c.args.inputs.now) c.args.item) c.get-in-IfTrue-2.result.now) c.in_ok-x-in-IfTrue.x c.in_ok-x-in-IfTrue.ensures (search rules)) (c.decided-in-IfTrue.ensures ((value_of (g.I.Inputs.given c.args.inputs.now) c.args.item) c.get-in-IfTrue-2.result.now) c.single_value-in-IfTrue-2.ensures)
-
-pub single_value-all_values-requires : goal.single_value-all_values-requires
-single_value-all_values-requires g t c =
-    λ κs lives. (omega (arith, c.decreases, nodes.in_left c.args.e.now c.in-Binary.operator c.in-Binary.a c.in-Binary.b c.get-in-Vectors.result.now c.in-Binary.is c.get-in-Vectors.ensures), (search rules, (fitting.fits_left (g.I.Inputs.given c.args.inputs.now).shape c.args.e.now c.in-Binary.operator c.in-Binary.a c.in-Binary.b c.get-in-Vectors.result.now c.in-Binary.is c.get-in-Vectors.ensures (fitting.fit_some (g.I.Inputs.given c.args.inputs.now).shape c.args.e.now c.requires.single), c.requires.item)))
-
-pub single_value-all_values-requires-in-Vectors : goal.single_value-all_values-requires-in-Vectors
-single_value-all_values-requires-in-Vectors g t c =
-    λ κs lives. (omega (arith, c.decreases, nodes.in_right c.args.e.now c.in-Binary.operator c.in-Binary.a c.in-Binary.b c.get-in-Vectors-2.result.now c.in-Binary.is c.get-in-Vectors-2.ensures), (search rules, (fitting.fits_right (g.I.Inputs.given c.args.inputs.now).shape c.args.e.now c.in-Binary.operator c.in-Binary.a c.in-Binary.b c.get-in-Vectors-2.result.now c.in-Binary.is c.get-in-Vectors-2.ensures (fitting.fit_some (g.I.Inputs.given c.args.inputs.now).shape c.args.e.now c.requires.single), c.requires.item)))
-
-pub single_value-returns-in_ok-x-in-Vectors : goal.single_value-returns-in_ok-x-in-Vectors
-single_value-returns-in_ok-x-in-Vectors g t c =
-    evaluating.single_along c.dot_product.result _ _ (evaluating.at_binary (g.I.Inputs.given c.args.inputs.now) c.args.item c.args.e.now sides.Vectors c.in-Binary.operator c.in-Binary.a c.in-Binary.b c.get-in-Vectors.result.now c.get-in-Vectors-2.result.now c.in-Binary.is c.in-Vectors.ensures c.get-in-Vectors.ensures c.get-in-Vectors-2.ensures ∙ ap (λ q. values_by sides.Vectors c.in-Binary.operator q ((value_of (g.I.Inputs.given c.args.inputs.now) c.args.item) c.get-in-Vectors-2.result.now)) c.in_ok-x-in-Vectors.ensures ∙ ap (λ l. ((value_of (g.I.Inputs.given c.args.inputs.now) c.args.item) c.get-in-Vectors-2.result.now) >>= λ y. dot_product l y) (sym c.as_slice.ensures)) (c.dot_product.ensures ((value_of (g.I.Inputs.given c.args.inputs.now) c.args.item) c.get-in-Vectors-2.result.now) c.all_values-in-Vectors.ensures)
-
-pub single_value-returns-in_ok-x-in-Both : goal.single_value-returns-in_ok-x-in-Both
-single_value-returns-in_ok-x-in-Both g t c =
-    let fits : SFits w32 c.in_ok-x-in-Both.x = search rules in
-    evaluating.single_along c.on_two.result _ _ (evaluating.at_binary (g.I.Inputs.given c.args.inputs.now) c.args.item c.args.e.now sides.Both c.in-Binary.operator c.in-Binary.a c.in-Binary.b c.get-in-Both.result.now c.get-in-Both-2.result.now c.in-Binary.is c.in-Both.ensures c.get-in-Both.ensures c.get-in-Both-2.ensures ∙ ap (λ q. values_by sides.Both c.in-Binary.operator q ((value_of (g.I.Inputs.given c.args.inputs.now) c.args.item) c.get-in-Both-2.result.now)) c.in_ok-x-in-Both.ensures ∙ ap (λ z. (value_of (g.I.Inputs.given c.args.inputs.now) c.args.item c.get-in-Both-2.result.now) >>= λ y. side_by_side (binary_value c.in-Binary.operator) (z ∷ []) y) (sym (to_z-of_z fits))) (c.on_two.ensures ((value_of (g.I.Inputs.given c.args.inputs.now) c.args.item) c.get-in-Both-2.result.now) c.single_value-in-Both-2.ensures)
+pub single_value-returns-in-Binary : goal.single_value-returns-in-Binary
+single_value-returns-in-Binary g t c =
+    evaluating.single_along c.operator_value.result _ _ (ap (value_of (g.I.Inputs.given c.args.inputs.now) c.args.item) (sym (evaluating.same_binary c.args.e.now c.in-Binary.operator c.in-Binary.operator c.in-Binary.a c.in-Binary.b c.get-in-Binary.result.now c.get-in-Binary-2.result.now c.in-Binary.is refl c.get-in-Binary.ensures c.get-in-Binary-2.ensures))) c.operator_value.ensures
 
 pub single_value-single_value-requires-in-Choice : goal.single_value-single_value-requires-in-Choice
 single_value-single_value-requires-in-Choice g t c =
@@ -98,7 +35,7 @@ single_value-single_value-requires-in-Choice g t c =
 
 pub single_value-returns-in_err-c-in-Choice : goal.single_value-returns-in_err-c-in-Choice
 single_value-returns-in_err-c-in-Choice g t c =
-    evaluating.single_fails c.from_residual-in_err-c-in-Choice.result _ c.in_err-c-in-Choice.field-0.0 (search rules) (evaluating.fails_choice (g.I.Inputs.given c.args.inputs.now) c.args.item c.args.e.now c.in-Choice.condition c.in-Choice.a c.in-Choice.b c.get-in-Choice.result.now c.in_err-c-in-Choice.field-0.0 c.in-Choice.is c.get-in-Choice.ensures c.in_err-c-in-Choice.ensures)
+    evaluating.single_fails c.from_residual.result _ c.in_err-c-in-Choice.field-0.0 (search rules) (evaluating.fails_choice (g.I.Inputs.given c.args.inputs.now) c.args.item c.args.e.now c.in-Choice.condition c.in-Choice.a c.in-Choice.b c.get-in-Choice.result.now c.in_err-c-in-Choice.field-0.0 c.in-Choice.is c.get-in-Choice.ensures c.in_err-c-in-Choice.ensures)
 
 pub single_value-single_value-requires-then-c-eq0 : goal.single_value-single_value-requires-then-c-eq0
 single_value-single_value-requires-then-c-eq0 g t c =
@@ -116,8 +53,8 @@ pub single_value-returns-else-c-eq0 : goal.single_value-returns-else-c-eq0
 single_value-returns-else-c-eq0 g t c =
     evaluating.single_along c.single_value-else-c-eq0.result _ _ (evaluating.at_one (g.I.Inputs.given c.args.inputs.now) c.args.item c.args.e.now c.in-Choice.condition c.in-Choice.a c.in-Choice.b c.get-in-Choice.result.now c.get-else-c-eq0.result.now c.in_ok-c-in-Choice.c c.in-Choice.is c.get-in-Choice.ensures c.get-else-c-eq0.ensures c.in_ok-c-in-Choice.ensures (evaluating.is_zero-not c.in_ok-c-in-Choice.c (search rules))) c.single_value-else-c-eq0.ensures
 
-pub single_value-all_values-requires-in-Part : goal.single_value-all_values-requires-in-Part
-single_value-all_values-requires-in-Part g t c =
+pub single_value-all_values-requires : goal.single_value-all_values-requires
+single_value-all_values-requires g t c =
     λ κs lives. (omega (arith, c.decreases, nodes.in_part c.args.e.now c.in-Part.a c.in-Part.k c.get-in-Part.result.now c.in-Part.is c.get-in-Part.ensures), (search rules, (fitting.fits_part (g.I.Inputs.given c.args.inputs.now).shape c.args.e.now c.in-Part.a c.in-Part.k c.get-in-Part.result.now c.in-Part.is c.get-in-Part.ensures (fitting.fit_some (g.I.Inputs.given c.args.inputs.now).shape c.args.e.now c.requires.single), c.requires.item)))
 
 pub single_value-unreachable-requires : goal.single_value-unreachable-requires
@@ -138,7 +75,80 @@ single_value-returns-in-Unary g t c =
 
 pub single_value-returns-in-Part : goal.single_value-returns-in-Part
 single_value-returns-in-Part g t c =
-    evaluating.single_along c.part_of.result _ _ (ap (value_of (g.I.Inputs.given c.args.inputs.now) c.args.item) c.in-Part.is ∙ value_part (g.I.Inputs.given c.args.inputs.now) c.args.item c.in-Part.a c.in-Part.k ∙ ap (after (λ x. alone (slice_index_or x c.in-Part.k (pos 0)))) (ap (value_of (g.I.Inputs.given c.args.inputs.now) c.args.item) (sym c.get-in-Part.ensures))) (c.part_of.ensures ((value_of (g.I.Inputs.given c.args.inputs.now) c.args.item) c.get-in-Part.result.now) c.all_values-in-Part.ensures)
+    evaluating.single_along c.part_of.result _ _ (ap (value_of (g.I.Inputs.given c.args.inputs.now) c.args.item) c.in-Part.is ∙ value_part (g.I.Inputs.given c.args.inputs.now) c.args.item c.in-Part.a c.in-Part.k ∙ ap (after (λ x. alone (slice_index_or x c.in-Part.k (pos 0)))) (ap (value_of (g.I.Inputs.given c.args.inputs.now) c.args.item) (sym c.get-in-Part.ensures))) (c.part_of.ensures ((value_of (g.I.Inputs.given c.args.inputs.now) c.args.item) c.get-in-Part.result.now) c.all_values.ensures)
+
+pub operator_value-single_value-requires : goal.operator_value-single_value-requires
+operator_value-single_value-requires g t c =
+    λ κs lives. (omega (arith, c.decreases, nodes.in_left (expression.Binary c.args.operator c.args.a.now c.args.b.now) c.args.operator c.args.a.now c.args.b.now c.args.a.now refl refl), (search rules, (fitting.fit_left (g.I.Inputs.given c.args.inputs.now).shape (expression.Binary c.args.operator c.args.a.now c.args.b.now) sides.UnlessTrue c.args.operator c.args.a.now c.args.b.now c.args.a.now refl c.in-UnlessTrue.ensures refl refl c.requires.single, c.requires.item)))
+
+pub operator_value-single_value-requires-in-UnlessTrue : goal.operator_value-single_value-requires-in-UnlessTrue
+operator_value-single_value-requires-in-UnlessTrue g t c =
+    λ κs lives. (omega (arith, c.decreases, nodes.in_right (expression.Binary c.args.operator c.args.a.now c.args.b.now) c.args.operator c.args.a.now c.args.b.now c.args.b.now refl refl), (search rules, (fitting.fit_right (g.I.Inputs.given c.args.inputs.now).shape (expression.Binary c.args.operator c.args.a.now c.args.b.now) sides.UnlessTrue c.args.operator c.args.a.now c.args.b.now c.args.b.now refl c.in-UnlessTrue.ensures refl refl c.requires.single, c.requires.item)))
+
+pub operator_value-single_value-requires-in-IfTrue : goal.operator_value-single_value-requires-in-IfTrue
+operator_value-single_value-requires-in-IfTrue g t c =
+    λ κs lives. (omega (arith, c.decreases, nodes.in_left (expression.Binary c.args.operator c.args.a.now c.args.b.now) c.args.operator c.args.a.now c.args.b.now c.args.a.now refl refl), (search rules, (fitting.fit_left (g.I.Inputs.given c.args.inputs.now).shape (expression.Binary c.args.operator c.args.a.now c.args.b.now) sides.IfTrue c.args.operator c.args.a.now c.args.b.now c.args.a.now refl c.in-IfTrue.ensures refl refl c.requires.single, c.requires.item)))
+
+pub operator_value-single_value-requires-in-IfTrue-2 : goal.operator_value-single_value-requires-in-IfTrue-2
+operator_value-single_value-requires-in-IfTrue-2 g t c =
+    λ κs lives. (omega (arith, c.decreases, nodes.in_right (expression.Binary c.args.operator c.args.a.now c.args.b.now) c.args.operator c.args.a.now c.args.b.now c.args.b.now refl refl), (search rules, (fitting.fit_right (g.I.Inputs.given c.args.inputs.now).shape (expression.Binary c.args.operator c.args.a.now c.args.b.now) sides.IfTrue c.args.operator c.args.a.now c.args.b.now c.args.b.now refl c.in-IfTrue.ensures refl refl c.requires.single, c.requires.item)))
+
+pub operator_value-single_value-requires-in-Both : goal.operator_value-single_value-requires-in-Both
+operator_value-single_value-requires-in-Both g t c =
+    λ κs lives. (omega (arith, c.decreases, nodes.in_left (expression.Binary c.args.operator c.args.a.now c.args.b.now) c.args.operator c.args.a.now c.args.b.now c.args.a.now refl refl), (search rules, (fitting.fit_left (g.I.Inputs.given c.args.inputs.now).shape (expression.Binary c.args.operator c.args.a.now c.args.b.now) sides.Both c.args.operator c.args.a.now c.args.b.now c.args.a.now refl c.in-Both.ensures refl refl c.requires.single, c.requires.item)))
+
+pub operator_value-single_value-requires-in-Both-2 : goal.operator_value-single_value-requires-in-Both-2
+operator_value-single_value-requires-in-Both-2 g t c =
+    λ κs lives. (omega (arith, c.decreases, nodes.in_right (expression.Binary c.args.operator c.args.a.now c.args.b.now) c.args.operator c.args.a.now c.args.b.now c.args.b.now refl refl), (search rules, (fitting.fit_right (g.I.Inputs.given c.args.inputs.now).shape (expression.Binary c.args.operator c.args.a.now c.args.b.now) sides.Both c.args.operator c.args.a.now c.args.b.now c.args.b.now refl c.in-Both.ensures refl refl c.requires.single, c.requires.item)))
+
+pub operator_value-returns-in_err-x-in-UnlessTrue : goal.operator_value-returns-in_err-x-in-UnlessTrue
+operator_value-returns-in_err-x-in-UnlessTrue g t c =
+    evaluating.single_fails c.from_residual.result _ c.in_err-x-in-UnlessTrue.field-0.0 (search rules) (evaluating.fails_along _ _ c.in_err-x-in-UnlessTrue.field-0.0 (evaluating.at_binary (g.I.Inputs.given c.args.inputs.now) c.args.item (expression.Binary c.args.operator c.args.a.now c.args.b.now) sides.UnlessTrue c.args.operator c.args.a.now c.args.b.now c.args.a.now c.args.b.now refl c.in-UnlessTrue.ensures refl refl) (evaluating.fails_by sides.UnlessTrue c.args.operator ((value_of (g.I.Inputs.given c.args.inputs.now) c.args.item) c.args.a.now) ((value_of (g.I.Inputs.given c.args.inputs.now) c.args.item) c.args.b.now) c.in_err-x-in-UnlessTrue.field-0.0 c.in_err-x-in-UnlessTrue.ensures))
+
+pub operator_value-returns-in_err-x-in-IfTrue : goal.operator_value-returns-in_err-x-in-IfTrue
+operator_value-returns-in_err-x-in-IfTrue g t c =
+    evaluating.single_fails c.from_residual-in_err-x-in-IfTrue.result _ c.in_err-x-in-IfTrue.field-0.0 (search rules) (evaluating.fails_along _ _ c.in_err-x-in-IfTrue.field-0.0 (evaluating.at_binary (g.I.Inputs.given c.args.inputs.now) c.args.item (expression.Binary c.args.operator c.args.a.now c.args.b.now) sides.IfTrue c.args.operator c.args.a.now c.args.b.now c.args.a.now c.args.b.now refl c.in-IfTrue.ensures refl refl) (evaluating.fails_by sides.IfTrue c.args.operator ((value_of (g.I.Inputs.given c.args.inputs.now) c.args.item) c.args.a.now) ((value_of (g.I.Inputs.given c.args.inputs.now) c.args.item) c.args.b.now) c.in_err-x-in-IfTrue.field-0.0 c.in_err-x-in-IfTrue.ensures))
+
+pub operator_value-returns-in_err-x-in-Vectors : goal.operator_value-returns-in_err-x-in-Vectors
+operator_value-returns-in_err-x-in-Vectors g t c =
+    evaluating.single_fails c.from_residual-in_err-x-in-Vectors.result _ c.in_err-x-in-Vectors.field-0.0 (search rules) (evaluating.fails_along _ _ c.in_err-x-in-Vectors.field-0.0 (evaluating.at_binary (g.I.Inputs.given c.args.inputs.now) c.args.item (expression.Binary c.args.operator c.args.a.now c.args.b.now) sides.Vectors c.args.operator c.args.a.now c.args.b.now c.args.a.now c.args.b.now refl c.in-Vectors.ensures refl refl) (evaluating.fails_by sides.Vectors c.args.operator ((value_of (g.I.Inputs.given c.args.inputs.now) c.args.item) c.args.a.now) ((value_of (g.I.Inputs.given c.args.inputs.now) c.args.item) c.args.b.now) c.in_err-x-in-Vectors.field-0.0 c.in_err-x-in-Vectors.ensures))
+
+pub operator_value-returns-in_err-x-in-Both : goal.operator_value-returns-in_err-x-in-Both
+operator_value-returns-in_err-x-in-Both g t c =
+    evaluating.single_fails c.from_residual-in_err-x-in-Both.result _ c.in_err-x-in-Both.field-0.0 (search rules) (evaluating.fails_along _ _ c.in_err-x-in-Both.field-0.0 (evaluating.at_binary (g.I.Inputs.given c.args.inputs.now) c.args.item (expression.Binary c.args.operator c.args.a.now c.args.b.now) sides.Both c.args.operator c.args.a.now c.args.b.now c.args.a.now c.args.b.now refl c.in-Both.ensures refl refl) (evaluating.fails_by sides.Both c.args.operator ((value_of (g.I.Inputs.given c.args.inputs.now) c.args.item) c.args.a.now) ((value_of (g.I.Inputs.given c.args.inputs.now) c.args.item) c.args.b.now) c.in_err-x-in-Both.field-0.0 c.in_err-x-in-Both.ensures))
+
+pub operator_value-returns-then-x-ne0 : goal.operator_value-returns-then-x-ne0
+operator_value-returns-then-x-ne0 g t c =
+    evaluating.at_binary (g.I.Inputs.given c.args.inputs.now) c.args.item (expression.Binary c.args.operator c.args.a.now c.args.b.now) sides.UnlessTrue c.args.operator c.args.a.now c.args.b.now c.args.a.now c.args.b.now refl c.in-UnlessTrue.ensures refl refl ∙ evaluating.then_unless c.args.operator ((value_of (g.I.Inputs.given c.args.inputs.now) c.args.item) c.args.a.now) ((value_of (g.I.Inputs.given c.args.inputs.now) c.args.item) c.args.b.now) c.in_ok-x-in-UnlessTrue.x c.in_ok-x-in-UnlessTrue.ensures (search rules)
+
+pub operator_value-returns-then-x-eq0 : goal.operator_value-returns-then-x-eq0
+operator_value-returns-then-x-eq0 g t c =
+    evaluating.at_binary (g.I.Inputs.given c.args.inputs.now) c.args.item (expression.Binary c.args.operator c.args.a.now c.args.b.now) sides.IfTrue c.args.operator c.args.a.now c.args.b.now c.args.a.now c.args.b.now refl c.in-IfTrue.ensures refl refl ∙ evaluating.then_if c.args.operator ((value_of (g.I.Inputs.given c.args.inputs.now) c.args.item) c.args.a.now) ((value_of (g.I.Inputs.given c.args.inputs.now) c.args.item) c.args.b.now) c.in_ok-x-in-IfTrue.x c.in_ok-x-in-IfTrue.ensures (search rules)
+
+pub operator_value-returns-else-x-ne0 : goal.operator_value-returns-else-x-ne0
+operator_value-returns-else-x-ne0 g t c =
+    evaluating.single_along c.decided.result _ _ (evaluating.at_binary (g.I.Inputs.given c.args.inputs.now) c.args.item (expression.Binary c.args.operator c.args.a.now c.args.b.now) sides.UnlessTrue c.args.operator c.args.a.now c.args.b.now c.args.a.now c.args.b.now refl c.in-UnlessTrue.ensures refl refl ∙ evaluating.else_unless c.args.operator ((value_of (g.I.Inputs.given c.args.inputs.now) c.args.item) c.args.a.now) ((value_of (g.I.Inputs.given c.args.inputs.now) c.args.item) c.args.b.now) c.in_ok-x-in-UnlessTrue.x c.in_ok-x-in-UnlessTrue.ensures (search rules)) (c.decided.ensures ((value_of (g.I.Inputs.given c.args.inputs.now) c.args.item) c.args.b.now) c.single_value-in-UnlessTrue.ensures)
+
+pub operator_value-returns-else-x-eq0 : goal.operator_value-returns-else-x-eq0
+operator_value-returns-else-x-eq0 g t c =
+    evaluating.single_along c.decided-in-IfTrue.result _ _ (evaluating.at_binary (g.I.Inputs.given c.args.inputs.now) c.args.item (expression.Binary c.args.operator c.args.a.now c.args.b.now) sides.IfTrue c.args.operator c.args.a.now c.args.b.now c.args.a.now c.args.b.now refl c.in-IfTrue.ensures refl refl ∙ evaluating.else_if c.args.operator ((value_of (g.I.Inputs.given c.args.inputs.now) c.args.item) c.args.a.now) ((value_of (g.I.Inputs.given c.args.inputs.now) c.args.item) c.args.b.now) c.in_ok-x-in-IfTrue.x c.in_ok-x-in-IfTrue.ensures (search rules)) (c.decided-in-IfTrue.ensures ((value_of (g.I.Inputs.given c.args.inputs.now) c.args.item) c.args.b.now) c.single_value-in-IfTrue-2.ensures)
+
+pub operator_value-all_values-requires : goal.operator_value-all_values-requires
+operator_value-all_values-requires g t c =
+    λ κs lives. (omega (arith, c.decreases, nodes.in_left (expression.Binary c.args.operator c.args.a.now c.args.b.now) c.args.operator c.args.a.now c.args.b.now c.args.a.now refl refl), (search rules, (fitting.fits_left (g.I.Inputs.given c.args.inputs.now).shape (expression.Binary c.args.operator c.args.a.now c.args.b.now) c.args.operator c.args.a.now c.args.b.now c.args.a.now refl refl (fitting.fit_some (g.I.Inputs.given c.args.inputs.now).shape (expression.Binary c.args.operator c.args.a.now c.args.b.now) c.requires.single), c.requires.item)))
+
+pub operator_value-all_values-requires-in-Vectors : goal.operator_value-all_values-requires-in-Vectors
+operator_value-all_values-requires-in-Vectors g t c =
+    λ κs lives. (omega (arith, c.decreases, nodes.in_right (expression.Binary c.args.operator c.args.a.now c.args.b.now) c.args.operator c.args.a.now c.args.b.now c.args.b.now refl refl), (search rules, (fitting.fits_right (g.I.Inputs.given c.args.inputs.now).shape (expression.Binary c.args.operator c.args.a.now c.args.b.now) c.args.operator c.args.a.now c.args.b.now c.args.b.now refl refl (fitting.fit_some (g.I.Inputs.given c.args.inputs.now).shape (expression.Binary c.args.operator c.args.a.now c.args.b.now) c.requires.single), c.requires.item)))
+
+pub operator_value-returns-in_ok-x-in-Vectors : goal.operator_value-returns-in_ok-x-in-Vectors
+operator_value-returns-in_ok-x-in-Vectors g t c =
+    evaluating.single_along c.dot_product.result _ _ (evaluating.at_binary (g.I.Inputs.given c.args.inputs.now) c.args.item (expression.Binary c.args.operator c.args.a.now c.args.b.now) sides.Vectors c.args.operator c.args.a.now c.args.b.now c.args.a.now c.args.b.now refl c.in-Vectors.ensures refl refl ∙ ap (λ q. values_by sides.Vectors c.args.operator q ((value_of (g.I.Inputs.given c.args.inputs.now) c.args.item) c.args.b.now)) c.in_ok-x-in-Vectors.ensures ∙ ap (λ l. ((value_of (g.I.Inputs.given c.args.inputs.now) c.args.item) c.args.b.now) >>= λ y. dot_product l y) (sym c.as_slice.ensures)) (c.dot_product.ensures ((value_of (g.I.Inputs.given c.args.inputs.now) c.args.item) c.args.b.now) c.all_values-in-Vectors.ensures)
+
+pub operator_value-returns-in_ok-x-in-Both : goal.operator_value-returns-in_ok-x-in-Both
+operator_value-returns-in_ok-x-in-Both g t c =
+    let fits : SFits w32 c.in_ok-x-in-Both.x = search rules in
+    evaluating.single_along c.on_two.result _ _ (evaluating.at_binary (g.I.Inputs.given c.args.inputs.now) c.args.item (expression.Binary c.args.operator c.args.a.now c.args.b.now) sides.Both c.args.operator c.args.a.now c.args.b.now c.args.a.now c.args.b.now refl c.in-Both.ensures refl refl ∙ ap (λ q. values_by sides.Both c.args.operator q ((value_of (g.I.Inputs.given c.args.inputs.now) c.args.item) c.args.b.now)) c.in_ok-x-in-Both.ensures ∙ ap (λ z. (value_of (g.I.Inputs.given c.args.inputs.now) c.args.item c.args.b.now) >>= λ y. side_by_side (binary_value c.args.operator) (z ∷ []) y) (sym (to_z-of_z fits))) (c.on_two.ensures ((value_of (g.I.Inputs.given c.args.inputs.now) c.args.item) c.args.b.now) c.single_value-in-Both-2.ensures)
 
 pub all_values-single_value-requires : goal.all_values-single_value-requires
 all_values-single_value-requires g t c =

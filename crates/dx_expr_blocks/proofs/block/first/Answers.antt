@@ -1,4 +1,4 @@
-use Rattle.std.proofs.Common.{◌≡◌, ◌-◌, sym, ap, ◌∙◌}
+use Rattle.std.proofs.Common.{◌-◌, ap, ◌∙◌}
 use Rattle.std.specs.List.{range_with_len}
 use Rattle.dx_expr_blocks.proofs.Ranges.{below_first, first_range}
 use Rattle.dx_expr_blocks.proofs.block.first.Goals as goal

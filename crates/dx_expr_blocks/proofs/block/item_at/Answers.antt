@@ -1,4 +1,4 @@
-use Rattle.std.proofs.Common.{arith, sym, ◌∙◌}
+use Rattle.std.proofs.Common.{arith, ◌∙◌}
 use Rattle.dx_expr_blocks.proofs.Ranges.{below_range, at_range}
 use Rattle.dx_expr_blocks.proofs.block.item_at.Goals as goal
 

@@ -1,5 +1,4 @@
-use Rattle.std.proofs.Common.{◌<◌, length, arith, sym, subst, ◌∙◌}
-use Rattle.std.specs.Prelude.{slice_index}
+use Rattle.std.proofs.Common.{◌<◌, length, arith, sym, subst}
 use Rattle.dx_expr_blocks.specs.Items.{items_of}
 use Rattle.dx_expr_blocks.proofs.Ranges.{below_at}
 use Rattle.dx_expr_blocks.proofs.eval.one_by_one.Goals as goal

@@ -1,10 +1,10 @@
-use Rattle.std.proofs.Common.{◌≡◌, ◌+◌, ◌-◌, ◌*◌, ◌<◌, length, pos, slice_index_or, arith, ap, sym, ◌∙◌}
+use Rattle.std.proofs.Common.{◌+◌, ◌-◌, ◌*◌, ◌<◌, length, pos, slice_index_or, arith, ap, sym, ◌∙◌}
 use Rattle.std.specs.Prelude.{slice_index}
 use Rattle.std.specs.List.{range_with_len}
 use Rattle.dx_expr.specs.Value.{checked}
 use Rattle.dx_expr_blocks.specs.Block.{up_to}
 use Rattle.dx_expr_blocks.proofs.Looping.{steps_map}
-use Rattle.dx_expr_blocks.proofs.Ranges.{in_range, row_in_range}
+use Rattle.dx_expr_blocks.proofs.Ranges.{row_in_range}
 use Rattle.dx_expr_blocks.proofs.int_rows.spanned.Goals as goal
 
 pub filled-requires : goal.filled-requires

@@ -1,4 +1,4 @@
-use Rattle.std.proofs.Common.{◌≡◌, ◌+◌, ◌-◌, ◌<◌, length, pos, slice_index_or, arith, ap, sym, ◌∙◌}
+use Rattle.std.proofs.Common.{◌+◌, ◌-◌, ◌<◌, length, pos, slice_index_or, arith, ap, sym, ◌∙◌}
 use Rattle.std.specs.Prelude.{slice_index}
 use Rattle.std.specs.List.{range_with_len}
 use Rattle.dx_expr.specs.Value.{checked}

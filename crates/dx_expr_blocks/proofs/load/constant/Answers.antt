@@ -1,4 +1,4 @@
-use Rattle.std.proofs.Common.{◌≡◌, rules, arith, sym, ◌∙◌}
+use Rattle.std.proofs.Common.{rules}
 use Rattle.dx_expr.specs.Value.{checked}
 use Rattle.dx_expr_blocks.proofs.Laws.{constant_values}
 use Rattle.dx_expr_blocks.proofs.load.constant.Goals as goal

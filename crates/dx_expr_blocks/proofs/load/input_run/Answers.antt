@@ -1,4 +1,4 @@
-use Rattle.std.proofs.Common.{◌≡◌, ℕ, ◌<◌, length, pos, replicate, slice_index_or, refl, arith, rules, ap, sym, subst, ◌∙◌}
+use Rattle.std.proofs.Common.{◌≡◌, length, pos, replicate, slice_index_or, rules, ap, sym, subst, ◌∙◌}
 use mir.Val.{SFits}
 use Rattle.std.proofs.Common.{w64, to_z-of_z}
 use Rattle.std.specs.Prelude.{IfOk, map}

@@ -1,4 +1,4 @@
-use Rattle.std.proofs.Common.{◌≡◌, ◌<◌, length, pos, slice_index_or, refl, arith, ap, sym, ◌∙◌}
+use Rattle.std.proofs.Common.{◌<◌, length, pos, slice_index_or, refl, arith, ap, sym, ◌∙◌}
 use Rattle.std.specs.Prelude.{slice_index}
 use Rattle.dx_expr.specs.Value.{checked}
 use Rattle.dx_expr_blocks.specs.Block.{up_to}

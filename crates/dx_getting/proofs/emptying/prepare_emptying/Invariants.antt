@@ -5,7 +5,7 @@ use Rattle.dx_getting.proofs.emptying.prepare_emptying.Given as goal
 -- so many links are held
 abbrev pub invariant-loop-k : goal.invariant-loop-k
 invariant-loop-k l = record {
-  links : l.new_links.links ≡ front_held l.k 0 l.links.links;
+  links : l.links.links ≡ front_held l.k 0 l.fn.links.links;
   tags : l.tags ≡ held_terms l.k;
-  held : l.held ≡ values_held (take l.k l.links.links);
+  held : l.held ≡ values_held (take l.k l.fn.links.links);
 }

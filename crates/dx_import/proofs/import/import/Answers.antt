@@ -1,4 +1,4 @@
-use Rattle.std.proofs.Common.{List, ℕ, Option, ap, subst}
+use Rattle.std.proofs.Common.{List, ℕ, Option, subst}
 use Rattle.dx_import.specs.Import.{meaning, imported}
 use Rattle.dx_objects.specs.Runs.{Gives}
 use Rattle.dx_import.proofs.import.import.Goals as goal

@@ -228,3 +228,21 @@ returns-in_err-resolved-clause-alike g c = λ map ec k right base s f st.
 pub returns-in_err-refusal-in-Need-clause-alike : goal.returns-in_err-refusal-in-Need-clause-alike
 returns-in_err-refusal-in-Need-clause-alike g c = λ map ec k right base s f st.
     cut_alike c.args.setup.now (fixed g.L.Library.answer map c.args.at.now.work.cache.budget) k (input_tree c.args.setup.now c.args.i.now) c.from_residual-in_err-refusal-in-Need.result c.from_residual-in_err-refusal-in-Need.ensures.0 c.tell_selector.new.at
+
+pub returns-in_err-resolved-clause-goes_on : goal.returns-in_err-resolved-clause-goes_on
+returns-in_err-resolved-clause-goes_on g c = goes_on_then c.args.at.now.tags c.look.at.tags c.resolve_told.new.at.tags c.look.invariant.goes_on c.resolve_told.ensures.goes_on
+
+pub returns-in-Value-clause-goes_on : goal.returns-in-Value-clause-goes_on
+returns-in-Value-clause-goes_on g c = goes_on_then c.args.at.now.tags c.look.at.tags c.resolve_told.new.at.tags c.look.invariant.goes_on c.in_ok-resolved.ensures.goes_on
+
+pub returns-in-Off-clause-goes_on : goal.returns-in-Off-clause-goes_on
+returns-in-Off-clause-goes_on g c = goes_on_then c.args.at.now.tags c.look.at.tags c.resolve_told.new.at.tags c.look.invariant.goes_on c.in_ok-resolved.ensures.goes_on
+
+pub returns-in-Halt-clause-goes_on : goal.returns-in-Halt-clause-goes_on
+returns-in-Halt-clause-goes_on g c = goes_on_then c.args.at.now.tags c.look.at.tags c.resolve_told.new.at.tags c.look.invariant.goes_on c.in_ok-resolved.ensures.goes_on
+
+pub returns-in_err-refusal-in-Need-clause-goes_on : goal.returns-in_err-refusal-in-Need-clause-goes_on
+returns-in_err-refusal-in-Need-clause-goes_on g c = subst (GoesOn c.args.at.now.tags) (sym c.tell_selector.ensures.tags) (goes_on_then c.args.at.now.tags c.look.at.tags c.resolve_told.new.at.tags c.look.invariant.goes_on c.in_ok-resolved.ensures.goes_on)
+
+pub returns-in-Some-clause-goes_on : goal.returns-in-Some-clause-goes_on
+returns-in-Some-clause-goes_on g c = subst (GoesOn c.args.at.now.tags) (sym c.in_ok-refusal-in-Need.ensures.tags) (goes_on_then c.args.at.now.tags c.look.at.tags c.resolve_told.new.at.tags c.look.invariant.goes_on c.in_ok-resolved.ensures.goes_on)

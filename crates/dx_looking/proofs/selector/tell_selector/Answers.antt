@@ -15,12 +15,12 @@ returns-in_err-tell-in-Ok-clause-gets g c = λ map e k right base s f st later s
     (c.in-Ok.ensures.gets map e (links_denote c.args.setup.now c.args.at.now c.requires.looking x k st.kept right) base s st.work)
 
 pub returns-in_ok-tell-in-Ok-clause-looking : goal.returns-in_ok-tell-in-Ok-clause-looking
-returns-in_ok-tell-in-Ok-clause-looking g c = looking_on c.args.setup.now c.args.at.now c.tell.new.self c.get_value.new.work c.args.t (value_of c.in-Ok.value) c.requires.looking c.requires.value c.in_ok-tell-in-Ok.ensures (c.in-Ok.ensures.calls c.requires.looking.entries)
+returns-in_ok-tell-in-Ok-clause-looking g c = looking_on c.args.setup.now c.args.at.now c.tell.new.self c.get_value.new.work c.args.t (value_of c.in-Ok.value) c.requires.looking c.requires.value c.in_ok-tell-in-Ok.ensures.ok (c.in-Ok.ensures.calls c.requires.looking.entries)
 
 pub returns-in_ok-tell-in-Ok-clause-gets : goal.returns-in_ok-tell-in-Ok-clause-gets
 returns-in_ok-tell-in-Ok-clause-gets g c = λ map e k right base s f st later same.
     let x = fixed g.L.Library.answer map c.args.at.now.work.cache.budget in
-    tells_ok c.args.setup.now x k right base _ _ c.args.at.now s f c.requires.looking st c.args.t c.requires.value c.requires.found later same c.get_value.new.work c.tell.new.self c.in-Ok.value c.in_ok-tell-in-Ok.ensures
+    tells_ok c.args.setup.now x k right base _ _ c.args.at.now s f c.requires.looking st c.args.t c.requires.value c.requires.found later same c.get_value.new.work c.tell.new.self c.in-Ok.value c.in_ok-tell-in-Ok.ensures.ok
     (c.in-Ok.ensures.gets map e (links_denote c.args.setup.now c.args.at.now c.requires.looking x k st.kept right) base s st.work)
 
 pub returns-in-Err-clause-gets : goal.returns-in-Err-clause-gets

@@ -9,7 +9,7 @@ use Rattle.dx_native_head.proofs.data.decoded.Goals as goal
 pub split_at-requires : goal.split_at-requires
 split_at-requires c =
     let row = one_row c.args.n c.loop-i._i (byte_count c.args.t) (length c.loop-i.rest.now) c.loop-i-test.true c.loop-i.invariant.rest in
-    omega (arith, row, c.width.ensures.value)
+    omega (arith, row, c.byte_count-width.ensures)
 
 pub loop-i-preserved : goal.loop-i-preserved
 loop-i-preserved c =
@@ -18,8 +18,8 @@ loop-i-preserved c =
     let back = c.split_at.ensures.back in
     let front = c.split_at.ensures.front in
     record {
-      same = next_item c.args.t c.args.msb c.args.n c.loop-i._i c.loop-i.found (words.decoded c.args.t c.args.msb c.args.n c.args.bytes.now) c.push.new.self c.loop-i.rest.now c.split_at.result.0.now c.split_at.result.1.now _ c.loop-i.invariant.same c.loop-i-test.true (front ∙ ap (λ k. take k c.loop-i.rest.now) c.width.ensures.value) (back ∙ ap (λ k. drop k c.loop-i.rest.now) c.width.ensures.value) (to_z-of_z w64 _ f ∙ c.complement.ensures.value ∙ ap (words.complement c.args.t) c.joined.ensures.value) c.in_ok-push.ensures.ok;
-      rest = omega (arith, row, c.width.ensures.value, c.split_at.ensures.back_len);
+      same = next_item c.args.t c.args.msb c.args.n c.loop-i._i c.loop-i.found (words.decoded c.args.t c.args.msb c.args.n c.args.bytes.now) c.push.new.self c.loop-i.rest.now c.split_at.result.0.now c.split_at.result.1.now _ c.loop-i.invariant.same c.loop-i-test.true (front ∙ ap (λ k. take k c.loop-i.rest.now) c.byte_count-width.ensures) (back ∙ ap (λ k. drop k c.loop-i.rest.now) c.byte_count-width.ensures) (to_z-of_z w64 _ f ∙ c.complement.ensures.value ∙ ap (words.complement c.args.t) c.joined.ensures.value) c.in_ok-push.ensures.ok;
+      rest = omega (arith, row, c.byte_count-width.ensures, c.split_at.ensures.back_len);
     }
 
 pub returns : goal.returns

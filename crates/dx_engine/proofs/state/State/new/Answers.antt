@@ -7,6 +7,7 @@ use Rattle.dx_engine.proofs.state.State.new.Goals as goal
 pub returns-clause-fits : goal.returns-clause-fits
 returns-clause-fits c = record {
   exact = search rules;
+  held = search rules;
   links = search rules;
   bound = subst (λ (links : LinkMap). IsBound links c.new-7.result) (sym c.new-6.ensures) (first_bound c.new-7.result c.new-7.ensures.pairs c.new-7.ensures.counts);
   entries = search rules;

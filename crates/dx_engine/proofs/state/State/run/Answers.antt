@@ -19,11 +19,11 @@ run_effects-requires g c =
           c.requires.fits (n.fits c.args.self.now.at.tags) (n.closed _ c.args.self.now.at.tags) (n.right _ c.args.self.now.at.tags) (n.formed _ c.args.self.now.at.tags) (n.met _);
     }
 
-pub returns-clause-fits : goal.returns-clause-fits
-returns-clause-fits g c = state_fits _ c.args.self.now (record { links = refl; bound = refl; held = refl; written = refl }) c.run_effects.result c.run_effects.new.at c.run_effects.ensures.looking
-
 pub returns-clause-goes_on : goal.returns-clause-goes_on
 returns-clause-goes_on g c = subst (λ old. GoesOn old c.run_effects.new.at.tags) c.begin.ensures.tags c.run_effects.ensures.goes_on
+
+pub returns-clause-fits : goal.returns-clause-fits
+returns-clause-fits g c = state_fits _ c.args.self.now (record { links = refl; bound = refl; held = refl; written = refl }) c.requires.fits c.run_effects.result c.run_effects.new.at (returns-clause-goes_on g c) c.run_effects.ensures.looking
 
 pub returns-clause-gathers : goal.returns-clause-gathers
 returns-clause-gathers g c = gathers_fit _ c.args.self.now c.run_effects.result c.run_effects.new.at c.run_effects.ensures.fits

@@ -1,4 +1,4 @@
-use Rattle.std.proofs.Common.{◌≡◌, ◌*ℤ◌, FitsSigned, w64, ◌∙◌, arith, rules}
+use Rattle.std.proofs.Common.{◌*ℤ◌, FitsSigned, w64, ◌∙◌, arith, rules}
 use Rattle.std.proofs.lemmas.Int.{ints, to_z-of_z}
 use Rattle.dx_stats.proofs.Held.{square_up_to, held_next, plus_is}
 use Rattle.dx_stats.proofs.sums.Sums.and.Goals as goal
