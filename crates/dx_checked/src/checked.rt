@@ -20,7 +20,8 @@ use dx_macros::{CheckFail, Dictionary};
 use std::alloc::{AllocError, Global};
 use std::marker::Model;
 
-/// How many looks there may be for each definition that there is, and for each call that a walk may have.
+/// How many looks at definitions, calls and statements there may be for each definition that there is, and for each call that a
+/// walk may have.
 const MOST_LOOKS: u64 = 16;
 
 /// How many calls a walk may have.
@@ -30,7 +31,7 @@ const MOST_CALLS: u64 = 65_536;
 /// fault under the macros that there are. An assignment whose own calls have none, over definitions all of which are known, has no
 /// fault itself, as long as all these calls together are no more than a walk may have: so a script of many definitions that each
 /// use the one before isn't walked from the start at each of them. Definitions are looked at before an assignment that is executed,
-/// and no more than the length of the script warrants, since each macro that is defined makes all of them unknown.
+/// as long as looks are left: so many for each definition, since each macro that is defined makes all of them unknown.
 #[derive(Drop)]
 pub struct CheckedDictionary {
     alloc: Global,
@@ -88,22 +89,17 @@ impl CheckedDictionary {
         Ok(())
     }
 
-    // Looks at the definitions that aren't known yet, unless too much was looked at already.
+    // Looks at the definitions that aren't known yet, as far as looks are left.
     fn know_more(&mut self)
         ensures same { dictionary_of self.new ≡ dictionary_of self.old }
         ensures room { room_of self.new ≡ room_of self.old }
     {
-        let definitions = self.dictionary.len();
-        let most = (definitions as u64)
+        let most = (self.dictionary.len() as u64)
             .saturating_add(MOST_CALLS)
             .saturating_mul(MOST_LOOKS);
-        if self.looked < most {
-            let known = more_known(self.alloc, &self.dictionary, self.known);
-            self.looked = self
-                .looked
-                .saturating_add(looks(self.known, known, definitions));
-            self.known = known;
-        }
+        let mut left = most.saturating_sub(self.looked);
+        self.known = more_known(self.alloc, &self.dictionary, self.known, &mut left);
+        self.looked = most.saturating_sub(left);
     }
 
     /// The definition joins behind the others. Where memory runs out the dictionary stays as it was; where there is room it
@@ -127,7 +123,16 @@ impl CheckedDictionary {
         if self.known.definitions != self.dictionary.len() {
             return false;
         }
-        definition_calls(self.alloc, &self.dictionary, a, self.known.calls).is_some()
+        // (a walk looks at as much)
+        let mut looks = u64::MAX;
+        definition_calls(
+            self.alloc,
+            &self.dictionary,
+            a,
+            self.known.calls,
+            &mut looks,
+        )
+        .is_some()
     }
 
     /// The first static fault of a statement; where there is none its expansion: the graph whose effects are those of the
@@ -147,16 +152,4 @@ impl CheckedDictionary {
         }
         check_and_expand(alloc, &self.dictionary, s, f)
     }
-}
-
-// How much was looked at: each definition and each of its own calls, and as much as a walk may have where one stays unknown.
-fn looks(before: Known, now: Known, definitions: usize) -> u64 {
-    let seen = now.definitions.saturating_sub(before.definitions) as u64;
-    let calls = now.calls.saturating_sub(before.calls) as u64;
-    let stopped = if now.definitions < definitions {
-        MOST_CALLS
-    } else {
-        0
-    };
-    seen.saturating_add(calls).saturating_add(stopped)
 }
