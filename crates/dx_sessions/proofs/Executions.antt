@@ -138,9 +138,10 @@ objects_same a b (l ∷ ls) = ap (λ (rest : Links). (l.0, l.1.value) ∷ rest) 
 links_same : (st st' : State) → st'.links.links ≡ st.links.links → (current (kept_of st')).links ≡ (current (kept_of st)).links
 links_same st st' same = ap (λ (y : LinkMap). objects_of (links_of (heads_of st'.at.tags) y)) same ∙ objects_same (heads_of st'.at.tags) (heads_of st.at.tags) st.links.links
 
-before_unput : (l : Listings) (c : Coursed) (st st' : State) (was now : Devices) → st'.links.links ≡ st.links.links → NonePut st was st' now → IsLeftIn l c was now (current (kept_of st)) (current (kept_of st'))
-before_unput l c st st' was now same none =
+before_unput : (l : Listings) (c : Coursed) (st st' : State) (was now : Devices) → st'.links.links ≡ st.links.links → GrowsInto was.written now.written c.execution.printed → NonePut st was st' now → IsLeftIn l c was now (current (kept_of st)) (current (kept_of st'))
+before_unput l c st st' was now same printed none =
     before_puts (record {
+      printed = printed;
       puts = none.puts;
       current = ap₂ (λ (links : Links) (files : FileMap). let y : Current = record { links = links; written = files } in y) (links_same st st' same) none.files;
     })
@@ -160,10 +161,10 @@ before_put l c st st' was now same late =
     })
 
 left_by : (x : Fixed) (l : Listings) (st st' : State) (made : Coursed × Kept) (was now : Devices) (end : End) → st'.links.links ≡ st.links.links → MakesSo x st made was (Err end) st' now → IsLeftIn l made.0 was now (current (kept_of st)) (current (kept_of st'))
-left_by x l st st' made was now ReadFault same (early, none) = before_unput l made.0 st st' was now same none
-left_by x l st st' made was now WriteFault same (early, none) = before_unput l made.0 st st' was now same none
+left_by x l st st' made was now ReadFault same (early, none) = before_unput l made.0 st st' was now same early.printed none
+left_by x l st st' made was now WriteFault same (early, none) = before_unput l made.0 st st' was now same early.printed none
 left_by x l st st' made was now ExportFault same late = before_put l made.0 st st' was now same late
-left_by x l st st' made was now Memory same (inl (early, none)) = before_unput l made.0 st st' was now same none
+left_by x l st st' made was now Memory same (inl (early, none)) = before_unput l made.0 st st' was now same early.printed none
 left_by x l st st' made was now Memory same (inr late) = before_put l made.0 st st' was now same late
 
 pub cut_in : (x : Fixed) (l : Listings) (st st' : State) (made : Coursed × Kept) (was now : Devices) (end : End)

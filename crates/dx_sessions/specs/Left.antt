@@ -5,7 +5,7 @@ use Rattle.dx_ast.specs.declared.sequencing.Word.TheVariants as word
 use Rattle.dx_ast.specs.Syntax.{Stmt, Says}
 use Rattle.dx_engine.specs.Executing.{Devices}
 use Rattle.dx_getting.specs.Told.{Adds}
-use Rattle.dx_io.specs.Devices.{Grows}
+use Rattle.dx_io.specs.Devices.{Grows, GrowsInto}
 use Rattle.dx_machine.specs.Machine.{tasks_of}
 use Rattle.dx_performing.specs.Execution.{Current, Export, after_exports}
 use Rattle.dx_performing.specs.Kept.{Kept, current}
@@ -15,8 +15,10 @@ use Rattle.dx_shown.specs.Session.{Shown, Executes, PlayTooLong, FrameRange, Sta
 use Rattle.dx_telling.specs.Shown.{behind_of}
 use Rattle.dx_telling.specs.declared.listings.Listings.{Listings}
 
--- before its first put: nothing was put, and links and written files are those before
-pub record IsUnput (was now : Devices) (at left : Current) : Type 0 where
+-- before its first put: of what its effects print a front was printed, and nothing behind it; nothing was put, and links and written
+-- files are those before
+pub record IsUnput (c : Coursed) (was now : Devices) (at left : Current) : Type 0 where
+  pub printed : GrowsInto was.written now.written c.execution.printed
   pub puts : now.puts ≡ was.puts
   pub current : left ≡ at
 
@@ -46,7 +48,7 @@ pub record IsBehind (listings : Listings) (c : Coursed) (was now : Devices) (lef
 
 -- where an execution was cut short
 pub data IsLeftIn (listings : Listings) (c : Coursed) (was now : Devices) (at left : Current) : Type 0 where
-  before_puts : IsUnput was now at left → IsLeftIn listings c was now at left
+  before_puts : IsUnput c was now at left → IsLeftIn listings c was now at left
   at_a_put : IsAtPut c was now at left → IsLeftIn listings c was now at left
   behind_puts : IsBehind listings c was now left → IsLeftIn listings c was now at left
 

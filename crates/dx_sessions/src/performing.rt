@@ -28,7 +28,7 @@ use std::alloc::Global;
 ///
 /// # Errors
 ///
-/// `ReadFault`, `WriteFault`, `ExportFault`: only where that device's count of faults rose. `Memory`: only where memory ran out.
+/// `ReadFault`, `WriteFault`, `ExportFault`: only where that device's count of faults rose. `Memory`: want of memory.
 pub fn perform<F: Files, X: Exports, O: Sink, L: Library>(
     alloc: Global,
     statements: Stmts,
