@@ -1,11 +1,11 @@
 -- Parts in the order of their names, as the parts of objects.
-use Rattle.std.proofs.Common.{◌≡◌, ◌<◌, ◌≤◌, ℕ, zero, suc, List, [], ◌∷◌, Option, Some, None, true, false, length, get_or, refl, sym, subst, arith}
+use Rattle.std.proofs.Common.{◌≡◌, ◌<◌, ◌≤◌, ℕ, zero, suc, List, [], ◌∷◌, Option, Some, None, true, false, ◌&&◌, length, get_or, refl, sym, subst, arith}
 use Rattle.std.specs.Prelude.{IsPermutation}
 use Rattle.std.specs.List.{range_with_len}
 use Rattle.std.specs.List.Sorted.{IsSortedBy}
 use Rattle.std.proofs.lemmas.Bool.{and_parts}
 use Rattle.std.proofs.lemmas.Slice.Eq.{bytes_eq-Decides}
-use Rattle.dx_base.specs.Object.{Tree}
+use Rattle.dx_base.specs.Object.{Tree, PartList, field, group, composite, series}
 use Rattle.dx_base.specs.ObjectNames.{same_name, find}
 use Rattle.dx_base.specs.ObjectLimits.{lacks, differ, has_good_names}
 use Rattle.dx_object_laws.specs.Order.{name_at, comes_before, IsOrder}
@@ -57,4 +57,28 @@ name_below (p ∷ ps) (suc i) n e = let h = name_below ps i n e in omega (arith,
 pub refused : (t : Tree) → has_good_names t ≡ false → refusal t ≡ Some BadNames
 refused t h = rw h refl
 
-pub ruleset bad_names = (refused, array_attributes, text_attributes, field_attributes, group_attributes, composite_attributes, series_attributes, field_names, group_names, composite_names, series_names)
+pub ruleset bad_names = (refused, array_attributes, text_attributes)
+
+pub field_refused : (ps xs : PartList) → differ ps && differ xs ≡ false → refusal (field ps xs) ≡ Some BadNames
+field_refused ps xs h =
+    by_bool (differ ps) _
+    (λ e. refused (field ps xs) (field_attributes ps xs (rw e at h)))
+    (λ e. refused (field ps xs) (field_names ps xs e))
+
+pub group_refused : (ps xs : PartList) → differ ps && differ xs ≡ false → refusal (group ps xs) ≡ Some BadNames
+group_refused ps xs h =
+    by_bool (differ ps) _
+    (λ e. refused (group ps xs) (group_attributes ps xs (rw e at h)))
+    (λ e. refused (group ps xs) (group_names ps xs e))
+
+pub composite_refused : (ps xs : PartList) → differ ps && differ xs ≡ false → refusal (composite ps xs) ≡ Some BadNames
+composite_refused ps xs h =
+    by_bool (differ ps) _
+    (λ e. refused (composite ps xs) (composite_attributes ps xs (rw e at h)))
+    (λ e. refused (composite ps xs) (composite_names ps xs e))
+
+pub series_refused : (ps xs : PartList) → differ ps && differ xs ≡ false → refusal (series ps xs) ≡ Some BadNames
+series_refused ps xs h =
+    by_bool (differ ps) _
+    (λ e. refused (series ps xs) (series_attributes ps xs (rw e at h)))
+    (λ e. refused (series ps xs) (series_names ps xs e))

@@ -1,10 +1,12 @@
 //! The calls that make objects: arrays, texts, fields, groups and series.
-ghost use Rattle.std.specs.Prelude.{◌≡◌};
+ghost use Rattle.std.specs.Prelude.{◌≡◌, ◌&&◌, IfOk, MatchResult, None, Some, false};
 ghost use Rattle.dx_base.specs.Object as spec;
-ghost use Rattle.dx_base.specs.ObjectLimits.{unplaced, has_good_names as spec_good_names, has_array_components as spec_array_components, has_field_members as spec_field_members, HasNoPositions};
-ghost use Rattle.dx_objects.specs.View.{tree_of};
-ghost use Rattle.dx_objects.specs.Makes.{Makes};
+ghost use Rattle.dx_base.specs.ObjectLimits.{unplaced, differ, has_good_names as spec_good_names, has_array_components as spec_array_components, has_field_members as spec_field_members, HasNoPositions};
+ghost use Rattle.dx_objects.specs.View.{tree_of, IsKept};
+ghost use Rattle.dx_objects.specs.declared.makers.ObjectError.TheVariants.{BadNames};
+ghost use Rattle.dx_objects.specs.Makes.{Makes, refusal};
 
+use crate::measure::Measure;
 use crate::names::{are_all_arrays, are_all_fields, is_none_named};
 use crate::object::{Body, NamedParts, Object};
 use crate::parts::Parts;
@@ -48,44 +50,39 @@ impl Object {
     }
 
     /// A field of these components. Positions of components and attributes become 0.
-    #[tactic(auto, using(crate::proofs::OrderLaws::bad_names))]
+    #[tactic(auto, using(crate::proofs::OrderLaws::field_refused))]
     pub fn field(parts: Parts, attrs: Parts) -> Result<Object, ObjectError>
         ensures { Makes (spec.field (unplaced parts) (unplaced attrs)) result }
     {
-        Object::make(
-            Body::Field(parts.unplaced().named()?),
-            attrs.unplaced().named()?,
-        )
+        let (parts, attributes) = both_named(parts.unplaced(), attrs.unplaced())?;
+        Object::make(Body::Field(parts), attributes)
     }
 
     /// A group of these members. Positions of members and attributes become 0.
-    #[tactic(auto, using(crate::proofs::OrderLaws::bad_names))]
+    #[tactic(auto, using(crate::proofs::OrderLaws::group_refused))]
     pub fn group(parts: Parts, attrs: Parts) -> Result<Object, ObjectError>
         ensures { Makes (spec.group (unplaced parts) (unplaced attrs)) result }
     {
-        Object::make(
-            Body::Group(parts.unplaced().named()?),
-            attrs.unplaced().named()?,
-        )
+        let (parts, attributes) = both_named(parts.unplaced(), attrs.unplaced())?;
+        Object::make(Body::Group(parts), attributes)
     }
 
     /// A composite group of these members, each of which is a field. Positions of members and attributes become 0.
-    #[tactic(auto, using(crate::proofs::OrderLaws::bad_names))]
+    #[tactic(auto, using(crate::proofs::OrderLaws::composite_refused))]
     pub fn composite(parts: Parts, attrs: Parts) -> Result<Object, ObjectError>
         ensures { Makes (spec.composite (unplaced parts) (unplaced attrs)) result }
     {
-        Object::make(
-            Body::Composite(parts.unplaced().named()?),
-            attrs.unplaced().named()?,
-        )
+        let (parts, attributes) = both_named(parts.unplaced(), attrs.unplaced())?;
+        Object::make(Body::Composite(parts), attributes)
     }
 
     /// A series of these members. Positions of attributes become 0.
-    #[tactic(auto, using(crate::proofs::OrderLaws::bad_names))]
+    #[tactic(auto, using(crate::proofs::OrderLaws::series_refused))]
     pub fn series(parts: Parts, attrs: Parts) -> Result<Object, ObjectError>
         ensures { Makes (spec.series parts (unplaced attrs)) result }
     {
-        Object::make(Body::Series(parts.named()?), attrs.unplaced().named()?)
+        let (parts, attributes) = both_named(parts, attrs.unplaced())?;
+        Object::make(Body::Series(parts), attributes)
     }
 
     // The object of this body, where it is one.
@@ -93,19 +90,7 @@ impl Object {
         requires { HasNoPositions (tree_of body attributes) }
         ensures { Makes (tree_of body attributes) result }
     {
-        if !body.has_good_names(&attributes) {
-            return Err(ObjectError::BadNames);
-        }
-        if !body.has_array_components(&attributes) {
-            return Err(ObjectError::NotAnArray);
-        }
-        if !body.has_field_members(&attributes) {
-            return Err(ObjectError::MemberNotAField);
-        }
-        let measure = body.measure(&attributes);
-        if !measure.fits() {
-            return Err(ObjectError::TooLarge);
-        }
+        let measure = body.allowed(&attributes)?;
         Ok(Object {
             body,
             attributes,
@@ -116,7 +101,36 @@ impl Object {
     }
 }
 
+// The parts and the attributes with the orders of their names, or that a name stands twice among one of them.
+fn both_named(parts: Parts, attributes: Parts) -> Result<(NamedParts, NamedParts), ObjectError>
+    ensures { MatchResult result (λ both. (both.0 ≡ parts) × (both.1 ≡ attributes)) (λ error. (error ≡ BadNames) × (differ parts && differ attributes ≡ false)) }
+{
+    Ok((parts.named()?, attributes.named()?))
+}
+
 impl Body {
+    // The measure of the whole object, where it is one.
+    fn allowed(&self, attributes: &NamedParts) -> Result<Measure, ObjectError>
+        requires { HasNoPositions (tree_of self.now attributes.now) }
+        ensures refusal { MatchResult result (λ _. refusal (tree_of self.now attributes.now) ≡ None) (λ error. refusal (tree_of self.now attributes.now) ≡ Some error) }
+        ensures kept { IfOk result (λ m. IsKept (tree_of self.now attributes.now) m.size m.count m.levels) }
+    {
+        if !self.has_good_names(attributes) {
+            return Err(ObjectError::BadNames);
+        }
+        if !self.has_array_components(attributes) {
+            return Err(ObjectError::NotAnArray);
+        }
+        if !self.has_field_members(attributes) {
+            return Err(ObjectError::MemberNotAField);
+        }
+        let measure = self.measure(attributes);
+        if !measure.fits() {
+            return Err(ObjectError::TooLarge);
+        }
+        Ok(measure)
+    }
+
     // Whether the names of the parts and attributes are as the kind wants them.
     fn has_good_names(&self, attributes: &NamedParts) -> bool
         ensures { result ≡ spec_good_names (tree_of self.now attributes.now) }

@@ -105,10 +105,10 @@ impl NamedParts {
         let mut rest = objects;
         for part in &self.items {
             if let [object, after @ ..] = rest {
-                copy.push(part.copy_with(alloc, object)?)?;
+                copy.push_copy_with(alloc, part, object)?;
                 rest = after;
             } else {
-                copy.push(part.copy(alloc)?)?;
+                copy.push_copy(alloc, part)?;
             }
         }
         Ok(copy)

@@ -88,8 +88,8 @@ impl Parts {
     pub(crate) fn named(self) -> Result<NamedParts, ObjectError>
         ensures { MatchResult result (λ parts. (parts ≡ self) × (differ self ≡ true)) (λ error. (error ≡ BadNames) × (differ self ≡ false)) }
     {
-        let Parts { items, order } = self;
-        let order = in_order(&items, order);
+        let (items, places) = self.into_lists();
+        let order = in_order(&items, places);
         if !do_differ(&items, &order) {
             return Err(ObjectError::BadNames);
         }

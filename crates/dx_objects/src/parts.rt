@@ -11,11 +11,17 @@ use std::alloc::{AllocError, Global};
 use std::marker::Model;
 
 /// A list of parts in their order. It keeps the room in which its names are ordered when an object is made of it.
-#[derive(Drop)]
 pub struct Parts {
     pub(crate) items: Vec<Part>,
     // The places of the parts, ascending.
     pub(crate) order: Vec<usize>,
+}
+
+// A function of its own, so that whoever drops a list doesn't prove again how its two vectors are dropped.
+impl Drop for Parts {
+    fn drop(self) {
+        let Parts { items: _, order: _ } = self;
+    }
 }
 
 impl Model for Parts {
@@ -57,7 +63,17 @@ impl Parts {
     pub fn into_vec(self) -> Vec<Part>
         ensures { parts_of result.items ≡ self }
     {
-        self.items
+        let Parts { items, order: _ } = self;
+        items
+    }
+
+    /// The parts and their places, moved out.
+    pub(crate) fn into_lists(self) -> (Vec<Part>, Vec<usize>)
+        ensures parts { parts_of result.0.items ≡ self }
+        ensures places { result.1.items ≡ range_with_len 0 (length result.0.items) }
+    {
+        let Parts { items, order } = self;
+        (items, order)
     }
 
     pub fn as_slice(&self) -> &[Part]
@@ -97,12 +113,9 @@ impl Parts {
         ensures parts { result ≡ unplaced self }
         ensures done { unplaced result ≡ result }
     {
-        let mut items = self.items;
+        let Parts { mut items, order } = self;
         clear_positions(&mut items);
-        Parts {
-            items,
-            order: self.order,
-        }
+        Parts { items, order }
     }
 }
 

@@ -1,6 +1,7 @@
 //! Fields with another component, and without one.
-ghost use Rattle.std.specs.Prelude.{◌≡◌, IfOk};
+ghost use Rattle.std.specs.Prelude.{◌≡◌, IfOk, OnOk};
 ghost use Rattle.dx_base.specs.Object as spec;
+ghost use Rattle.dx_base.specs.Object.{append};
 ghost use Rattle.dx_base.specs.ObjectNames.{put, without};
 ghost use Rattle.dx_objects.specs.Shown.{parts_of};
 ghost use Rattle.dx_objects.specs.With.{GivesWith, GivesWithout};
@@ -103,11 +104,7 @@ impl Part {
     pub(crate) fn copy(&self, alloc: Global) -> Result<Part, AllocError>
         ensures { IfOk result (λ p. spec.part p.name p.position p.object.value spec.no_parts ≡ spec.part self.now.name self.now.position self.now.object.value spec.no_parts) }
     {
-        Ok(Part {
-            name: copy_of_name(alloc, &self.name)?,
-            position: self.position,
-            object: self.object.clone()?,
-        })
+        self.copy_with(alloc, &self.object)
     }
 
     // The same part with this object.
@@ -123,6 +120,25 @@ impl Part {
 }
 
 impl Parts {
+    // Puts a part at the end that is as this one and shares its object.
+    pub(crate) fn push_copy(&mut self, alloc: Global, part: &Part) -> Result<(), AllocError>
+        ensures { OnOk result (self.new ≡ append self.old (spec.part part.now.name part.now.position part.now.object.value spec.no_parts)) }
+    {
+        self.push(part.copy(alloc)?)
+    }
+
+    // Puts a part at the end that is as this one, but with this object.
+    pub(crate) fn push_copy_with(
+        &mut self,
+        alloc: Global,
+        part: &Part,
+        object: &Rc<Object>,
+    ) -> Result<(), AllocError>
+        ensures { OnOk result (self.new ≡ append self.old (spec.part part.now.name part.now.position object.now.value spec.no_parts)) }
+    {
+        self.push(part.copy_with(alloc, object)?)
+    }
+
     /// The same parts, which share their objects.
     #[tactic(auto, using(crate::proofs::PartsLaws::appending))]
     pub fn copy_of(alloc: Global, parts: &[Part]) -> Result<Parts, AllocError>
@@ -130,7 +146,7 @@ impl Parts {
     {
         let mut copy = Parts::new(alloc);
         for part in parts {
-            copy.push(part.copy(alloc)?)?;
+            copy.push_copy(alloc, part)?;
         }
         Ok(copy)
     }
@@ -150,10 +166,10 @@ impl Parts {
         let mut is_placed = false;
         for part in parts {
             if !is_placed && is_named(part, name) {
-                copy.push(part.copy_with(alloc, &object)?)?;
+                copy.push_copy_with(alloc, part, &object)?;
                 is_placed = true;
             } else {
-                copy.push(part.copy(alloc)?)?;
+                copy.push_copy(alloc, part)?;
             }
         }
         if !is_placed {
@@ -177,7 +193,7 @@ impl Parts {
             if !is_removed && is_named(part, name) {
                 is_removed = true;
             } else {
-                copy.push(part.copy(alloc)?)?;
+                copy.push_copy(alloc, part)?;
             }
         }
         Ok(copy)

@@ -10,7 +10,7 @@ use Rattle.dx_objects.specs.Shown.{parts_of}
 use Rattle.dx_objects.specs.declared.object.Part.{Part}
 use Rattle.dx_objects.proofs.PartsLaws.{append-no_parts, append_assoc, parts_of-drop}
 use Rattle.dx_objects.proofs.object.NamedParts.placed.Goals as goal
-use Rattle.dx_objects.proofs.object.NamedParts.placed.Goals.{in_default+in_ok-copy+in_ok-push, in-len1-up+in_ok-copy_with+in_ok-push-2}
+use Rattle.dx_objects.proofs.object.NamedParts.placed.Goals.{in_default+in_ok-push_copy, in-len1-up+in_ok-push_copy_with}
 
 none_given : (ps : PartList) → placed ps [] ≡ ps
 none_given no_parts = refl
@@ -41,13 +41,13 @@ loop-part-preserved c =
     let given = c.loop-part.rest.now in
     let next : parts_of (drop i ps) ≡ part p.name p.position p.object.value rest = parts_of-drop ps i p (omega arith) c.part-item.is in
     elim c.if-rest-lt1.branch [
-      | in_default+in_ok-copy+in_ok-push w ↦
-          let copied : c.if-rest-lt1.copy ≡ append c.loop-part.copy (part p.name p.position p.object.value no_parts) = w.copy-is ∙ w.in_ok-push.ensures.ok ∙ ap (append c.loop-part.copy) w.in_ok-copy.ensures in
+      | in_default+in_ok-push_copy w ↦
+          let copied : c.if-rest-lt1.copy ≡ append c.loop-part.copy (part p.name p.position p.object.value no_parts) = w.copy-is ∙ w.in_ok-push_copy.ensures in
           let left : c.if-rest-lt1.rest.now ≡ given = cc w.rest-is in
           rw (copied, left) (own_kept c.loop-part.copy (parts_of (drop i ps)) _ p rest given w.in_default.len_below next c.loop-part.invariant)
-      | in-len1-up+in_ok-copy_with+in_ok-push-2 w ↦
+      | in-len1-up+in_ok-push_copy_with w ↦
           let o = w.object-item.result in
-          let copied : c.if-rest-lt1.copy ≡ append c.loop-part.copy (part p.name p.position o.value no_parts) = w.copy-is ∙ w.in_ok-push-2.ensures.ok ∙ ap (append c.loop-part.copy) w.in_ok-copy_with.ensures in
+          let copied : c.if-rest-lt1.copy ≡ append c.loop-part.copy (part p.name p.position o.value no_parts) = w.copy-is ∙ w.in_ok-push_copy_with.ensures in
           let left : c.if-rest-lt1.rest.now ≡ take (length given - 1) (drop 1 given) = ap (λ r. r.now) w.rest-is in
           let all_left : take (length given - 1) (drop 1 given) ≡ drop 1 given = take_all (length given - 1) (drop 1 given) (simp length-drop (omega arith)) in
           rw (copied, left, all_left) (next_put c.loop-part.copy (parts_of (drop i ps)) _ p rest given o w.in-len1-up.len_at_least w.object-item.is next c.loop-part.invariant)
