@@ -1,0 +1,6 @@
+//! The laws of the tokens of native files: what stands between them, what they are, and how a line ends before raw data.
+#![tactic(auto)]
+
+mod laws;
+
+pub use laws::gap_law;
