@@ -1,1 +1,5 @@
 pub mod Gaps
+pub mod Standing
+pub mod Scripts
+pub mod LineEnds
+pub mod Numbers
