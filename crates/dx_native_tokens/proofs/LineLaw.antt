@@ -1,14 +1,13 @@
 -- How a line ends is what is read.
 use Rattle.std.specs.Prelude.{◌==◌}
-use Rattle.std.proofs.Common.{◌≡◌, ℕ, suc, ◌+◌, List, [], ◌∷◌, ◌++◌, length, Bool, true, false, refl, sym, ap, subst, arith, ◌⊎◌, inl, inr, ◌∙◌, Result, Ok, Err, add-zero}
+use Rattle.std.proofs.Common.{◌≡◌, ℕ, suc, ◌+◌, List, [], ◌∷◌, ◌++◌, length, Bool, true, false, refl, sym, ap, subst, arith, inl, inr, ◌∙◌, Ok, Err, add-zero}
 use Rattle.std.proofs.lemmas.Bool.{eqb-true, eqb-false, ne_eqb}
-use Rattle.dx_base.specs.declared.code.NativeKind.{NativeKind}
 use Rattle.dx_base.specs.declared.code.NativeKind.TheVariants as fault
 use Rattle.dx_places.specs.Grammar.{At, Outcome}
 use Rattle.dx_native_lex.specs.declared.fault.NativeError.{NativeError}
 use Rattle.dx_native_lex.specs.Token.{error}
 use Rattle.dx_native_lex.specs.Raw.{is_gap, line_end, line_end_by}
-use Rattle.dx_native_tokens.specs.LineEnds.{IsBlank, space, tab, carriage_return, AreBlank, IsLineEnd, IsCut, IsOther, IsNoLineEnd, StandsLineEnd}
+use Rattle.dx_native_tokens.specs.LineEnds.{IsBlank, space, tab, carriage_return, AreBlank, IsLineEnd, IsNoLineEnd, StandsLineEnd}
 
 blank_yes : (b : ℕ) → IsBlank b → is_gap b ≡ true
 blank_yes b space = refl

@@ -1,7 +1,7 @@
 -- Which words are numbers is what is read.
-use Rattle.std.specs.Prelude.{◌==◌, ◌&&◌, ◌≤ℤ◌, ◌<ℤ◌, replicate, neg_ℤ, pos, int_le, option_map}
-use Rattle.std.proofs.Common.{◌≡◌, ℕ, ℤ, zero, suc, ◌+◌, ◌<◌, List, [], ◌∷◌, ◌++◌, length, take, drop, Bool, true, false, refl, sym, ap, subst, arith, ◌∙◌, Option, Some, None}
-use Rattle.std.specs.List.{list_all, prefix_len}
+use Rattle.std.specs.Prelude.{◌==◌, ◌&&◌, ◌≤ℤ◌, ◌<ℤ◌, replicate, int_le, option_map}
+use Rattle.std.proofs.Common.{◌≡◌, ℕ, ℤ, zero, suc, ◌<◌, List, [], ◌∷◌, ◌++◌, length, Bool, true, false, refl, sym, ap, subst, arith, ◌∙◌, Option, Some, None}
+use Rattle.std.specs.List.{list_all}
 use Rattle.std.proofs.Math.Seq.{take-append_seam, drop-append_seam}
 use Rattle.std.proofs.lemmas.Bool.{eqb-true}
 use Rattle.std.proofs.lemmas.Bool.Decides.{nat_tests}

@@ -1,10 +1,8 @@
 -- What begins with a quote is in a native file what it is in a script.
-use Rattle.std.specs.Prelude.{◌==◌}
-use Rattle.std.proofs.Common.{◌≡◌, ℕ, suc, ◌+◌, List, [], ◌∷◌, ◌++◌, length, drop, Bool, true, false, refl, sym, ap, subst, arith, ◌⊎◌, inl, inr, ◌∙◌, Ok, Err, append_assoc, length-append}
+use Rattle.std.proofs.Common.{◌≡◌, ℕ, ◌+◌, List, [], ◌∷◌, ◌++◌, length, drop, true, false, refl, sym, ap, subst, arith, ◌⊎◌, inl, inr, ◌∙◌, Ok, append_assoc, length-append}
 use Rattle.std.proofs.Math.Seq.{drop-append_seam}
 use Rattle.std.proofs.lemmas.Bool.{eqb-true, eqb-false}
 use Rattle.dx_base.specs.declared.token.LexKind.TheVariants as script
-use Rattle.dx_base.specs.declared.token.SyntaxKind.TheVariants as fault
 use Rattle.dx_base.specs.Tokens.Classes.{begins}
 use Rattle.dx_base.specs.Tokens.Reading.{front}
 use Rattle.dx_base.specs.Tokens.Refusals.{IsOpen, HasBadBackslash}
@@ -14,8 +12,8 @@ use Rattle.dx_native_lex.specs.declared.scan.Kind.{Kind}
 use Rattle.dx_native_lex.specs.declared.scan.Kind.TheVariants as kind
 use Rattle.dx_native_lex.specs.Scan.{Found, is_white, meaning_of, token_at}
 use Rattle.dx_native_tokens.specs.Gaps.{IsWhite, EndsGap}
-use Rattle.dx_native_tokens.specs.Standing.{IsWord, IsWordHere, IsStringHere, IsWrongHere, IsHereOf, IsHere}
-use Rattle.dx_native_tokens.specs.Scripts.{IsText, IsSame}
+use Rattle.dx_native_tokens.specs.Standing.{IsWord, IsWordHere, IsStringHere, IsWrongHere, IsHereOf}
+use Rattle.dx_native_tokens.specs.Scripts.{IsSame}
 use Rattle.dx_native_tokens.proofs.GapLaw.{white_yes}
 use Rattle.dx_native_tokens.proofs.TokenLaw.{nothing_here, here_stands}
 

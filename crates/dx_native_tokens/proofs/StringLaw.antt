@@ -1,10 +1,10 @@
 -- Strings, by the relation of scripts, are what is read.
 use Rattle.std.specs.Prelude.{◌==◌}
-use Rattle.std.proofs.Common.{◌≡◌, ℕ, suc, ◌+◌, List, [], ◌∷◌, ◌++◌, length, take, drop, Bool, true, false, refl, sym, ap, arith, ◌∙◌, Option, Some, None, Result, Ok, Err, add-zero, zero-add}
+use Rattle.std.proofs.Common.{◌≡◌, ℕ, ◌+◌, List, [], ◌∷◌, ◌++◌, length, take, true, false, refl, sym, ap, arith, ◌∙◌, Option, Some, None, Result, Ok, Err, add-zero, zero-add}
 use Rattle.std.proofs.Math.Bool.{and-false}
 use Rattle.std.proofs.Math.Seq.{take-append_seam, drop-append_seam}
 use Rattle.std.proofs.lemmas.Bool.Decides.{nat_tests}
-use Rattle.dx_base.specs.Tokens.Classes.{is_in_line, is_escape}
+use Rattle.dx_base.specs.Tokens.Classes.{is_escape}
 use Rattle.dx_base.specs.Tokens.Spelling.{Item, Plain, Escaped, item_bytes, is_plain, AreItems, AreGood, unescaped, meaning}
 use Rattle.dx_base.specs.Tokens.Refusals.{IsOpen}
 use Rattle.dx_base.specs.declared.token.LexKind.{LexKind}
@@ -35,7 +35,7 @@ over_plain n b rest is = rw (is.no_newline, is.no_quote, is.no_backslash) refl
 
 over_escape : (n b : ℕ) (rest : List ℕ) → (b == 10) ≡ false → closed_at n false (92 ∷ b ∷ rest) ≡ closed_at (n + 1 + 1) false rest
 unfolding closed_at
-over_escape n b rest e = rw (e, and-false, and-false) refl
+over_escape n b rest e = rw (e, and-false (b == 34), and-false (b == 92)) refl
 
 at_quote : (n : ℕ) (rest : List ℕ) → closed_at n false (34 ∷ rest) ≡ Some n
 unfolding closed_at

@@ -1,21 +1,22 @@
 -- Exactly one token stands next, or exactly one string that is wrong: the one that is read.
-use Rattle.std.specs.Prelude.{◌==◌, ◌||◌, not, take_while}
-use Rattle.std.proofs.Common.{◌≡◌, ℕ, suc, ◌+◌, List, [], ◌∷◌, ◌++◌, length, take, drop, Bool, true, false, cond, refl, sym, ap, subst, arith, ◌⊎◌, inl, inr, ◌∙◌, add-zero, append_assoc}
+use Rattle.std.specs.Prelude.{◌==◌, ◌-◌, take_while}
+use Rattle.std.proofs.Common.{◌≡◌, ℕ, suc, ◌+◌, ◌≤◌, List, [], ◌∷◌, ◌++◌, length, drop, Bool, true, false, cond, refl, sym, ap, subst, arith, ◌⊎◌, inl, inr, ◌∙◌, add-zero, append_assoc, length-append}
 use Rattle.std.proofs.Math.Seq.{take-append_seam, drop-append_seam}
 use Rattle.std.proofs.lemmas.Bool.{eqb-true, eqb-false, ne_eqb}
 use Rattle.std.proofs.lemmas.List.{append_cancel_right}
 use Rattle.std.proofs.lemmas.List.Sums.{take_while-cons}
 use Rattle.dx_base.specs.Tokens.Classes.{Each, Stops}
-use Rattle.dx_base.specs.Tokens.Spelling.{Item, Escaped, item_bytes, AreItems}
+use Rattle.dx_base.specs.Tokens.Spelling.{Item, item_bytes, AreItems}
 use Rattle.dx_base.specs.Tokens.Refusals.{IsOpen, HasBadBackslash}
-use Rattle.dx_base.proofs.Tokens.Spans.{spanned, one_more}
-use Rattle.dx_base.proofs.Tokens.StringLaw.{Closes, IsBad, items_decided, closes_or_open}
+use Rattle.dx_base.proofs.Tokens.Spans.{spanned}
+use Rattle.dx_base.proofs.Tokens.StringLaw.{Closes, items_decided, closes_or_open}
 use Rattle.dx_places.specs.Grammar.{At}
 use Rattle.dx_native_lex.specs.declared.scan.Kind.{Kind}
 use Rattle.dx_native_lex.specs.declared.scan.Kind.TheVariants as kind
 use Rattle.dx_native_lex.specs.Scan.{Found, is_white, is_word_byte, unblanked, word_len, word_at, no_token, quoted_at, token_at, lexed}
-use Rattle.dx_native_tokens.specs.Gaps.{IsWhite, EndsGap}
-use Rattle.dx_native_tokens.specs.Standing.{IsWordByte, AreWordBytes, IsWord, EndsWord, IsEnd, IsWordHere, IsStringHere, IsWrongHere, IsHereOf, IsHere, IsNext}
+use Rattle.dx_native_lex.specs.Less.{IsSome_token}
+use Rattle.dx_native_tokens.specs.Gaps.{piece_bytes, EndsGap}
+use Rattle.dx_native_tokens.specs.Standing.{IsWordByte, AreWordBytes, IsWord, EndsWord, IsEnd, IsWordHere, IsStringHere, IsWrongHere, IsHereOf, IsHere, IsNext, IsInOrder}
 use Rattle.dx_native_tokens.proofs.GapLaw.{white_yes, no_white, gap_only, gap_stands}
 use Rattle.dx_native_tokens.proofs.StringLaw.{meaning_is, good_quoted, bad_quoted, open_quoted}
 
@@ -156,36 +157,36 @@ word_here n b rest is =
 
 closed_here : (n : ℕ) (inside : List ℕ) (c : Closes inside) → HasHere (at n (34 ∷ inside))
 closed_here n inside c = elim (items_decided c.items) [
-    | inl good ↦ record {
-        found = record { kind = kind.Quoted; at = n; content = item_bytes c.items; after = record { offset = n + length (item_bytes c.items) + 2; rest = c.rest } };
-        is = record {
-          parts = ap (λ (t : List ℕ). 34 ∷ t) c.parts;
-          string = record { items = c.items; spelled = refl; lawful = c.lawful; good = good; same = sym (meaning_is c.items c.lawful) };
-          at = refl;
-          offset = refl;
-        };
-      }
-    | inr bad ↦ let place = n + suc (length (item_bytes bad.front)) in record {
-        found = record { kind = kind.Wrong; at = place; content = []; after = record { offset = place; rest = [] } };
-        is = record {
-          before = 34 ∷ item_bytes bad.front;
-          refusal = inr (record {
-            front = bad.front;
-            bad = bad.bad;
-            back = bad.back;
-            behind = c.rest;
-            parts = ap (λ (t : List ℕ). 34 ∷ t) c.parts ∙ ap (λ (items : List Item). 34 ∷ (item_bytes items ++ 34 ∷ c.rest)) bad.parts;
-            lawful = subst AreItems bad.parts c.lawful;
-            good = bad.good;
-            wrong = bad.wrong;
-            place = refl;
-          });
-          at = refl;
-          content = refl;
-          after = refl;
-        };
-      }
-  ]
+  | inl good ↦ record {
+    found = record { kind = kind.Quoted; at = n; content = item_bytes c.items; after = record { offset = n + length (item_bytes c.items) + 2; rest = c.rest } };
+    is = record {
+      parts = ap (λ (t : List ℕ). 34 ∷ t) c.parts;
+      string = record { items = c.items; spelled = refl; lawful = c.lawful; good = good; same = sym (meaning_is c.items c.lawful) };
+      at = refl;
+      offset = refl;
+    };
+  }
+  | inr bad ↦ let place = n + suc (length (item_bytes bad.front)) in record {
+    found = record { kind = kind.Wrong; at = place; content = []; after = record { offset = place; rest = [] } };
+    is = record {
+      before = 34 ∷ item_bytes bad.front;
+      refusal = inr (record {
+        front = bad.front;
+        bad = bad.bad;
+        back = bad.back;
+        behind = c.rest;
+        parts = ap (λ (t : List ℕ). 34 ∷ t) c.parts ∙ ap (λ (items : List Item). 34 ∷ (item_bytes items ++ 34 ∷ c.rest)) bad.parts;
+        lawful = subst AreItems bad.parts c.lawful;
+        good = bad.good;
+        wrong = bad.wrong;
+        place = refl;
+      });
+      at = refl;
+      content = refl;
+      after = refl;
+    };
+  }
+]
 
 string_here : (n : ℕ) (inside : List ℕ) → Closes inside ⊎ IsOpen (34 ∷ inside) → HasHere (at n (34 ∷ inside))
 string_here n inside (inl c) = closed_here n inside c
@@ -217,3 +218,51 @@ next_only s f is = here_only is.place f is.here ∙ ap (λ (e : At). token_at e.
 pub next_stands : (s : At) → IsNext s (lexed s)
 unfolding lexed
 next_stands s = let gap = gap_stands s in record { place = unblanked false s.offset s.rest; gap = gap; here = here_stands (unblanked false s.offset s.rest) gap.end }
+
+-- ---- in order
+
+pub record IsAhead (s : At) (n : ℕ) (e : At) : Type 0 where
+  pub front : List ℕ
+  pub parts : s.rest ≡ front ++ e.rest
+  pub offset : e.offset ≡ s.offset + length front
+  pub many : n ≤ length front
+
+behind : (s e : At) (n : ℕ) → IsAhead s n e → e.rest ≡ drop (e.offset - s.offset) s.rest
+behind s e n is =
+    let far : e.offset - s.offset ≡ length is.front = let p = is.offset in omega arith in
+    sym (rw far (ap (drop (length is.front)) is.parts ∙ drop-append_seam is.front e.rest))
+
+some_word : (content : List ℕ) → IsWord content → 1 ≤ length content
+some_word [] is = absurd is
+some_word (b ∷ more) is = omega arith
+
+here_ahead : (s : At) (f : Found) (k : Kind) → IsSome_token k → IsHereOf k s f → (f.at ≡ s.offset) × IsAhead s 1 f.after
+here_ahead s f kind.End t is = absurd t
+here_ahead s f kind.Word t is = (is.at, record { front = f.content; parts = is.parts; offset = is.offset; many = some_word f.content is.word })
+here_ahead s f kind.Quoted t is = (is.at, record {
+  front = 34 ∷ (f.content ++ 34 ∷ []);
+  parts = is.parts ∙ ap (λ (t : List ℕ). 34 ∷ t) (sym (append_assoc f.content (34 ∷ []) f.after.rest));
+  offset = let p = is.offset in omega (arith, length-append f.content (34 ∷ []));
+  many = omega arith;
+})
+here_ahead s f kind.Wrong t is = absurd t
+
+in_order : (s : At) (f : Found) → IsSome_token f.kind → IsNext s f → IsInOrder s f
+in_order s f t is =
+    let token = here_ahead is.place f f.kind t is.here in
+    let ahead = token.1 in
+    let bytes = piece_bytes is.gap.gap in
+    let from = token.0 in
+    let place = is.gap.offset in
+    let end = ahead.offset in
+    let many = ahead.many in
+    let whole : IsAhead s 1 f.after = record {
+      front = bytes ++ ahead.front;
+      parts = is.gap.parts ∙ ap (λ (t : List ℕ). bytes ++ t) ahead.parts ∙ sym (append_assoc bytes ahead.front f.after.rest);
+      offset = omega (arith, length-append bytes ahead.front);
+      many = omega (arith, length-append bytes ahead.front);
+    } in
+    record { begins = omega arith; some = omega arith; rest = behind s f.after 1 whole }
+
+pub next_order : (s : At) → IsSome_token (lexed s).kind → IsInOrder s (lexed s)
+next_order s t = in_order s (lexed s) t (next_stands s)

@@ -1,5 +1,5 @@
 -- The end of a line before raw data, and what is refused there.
-use Rattle.std.specs.Prelude.{◌≡◌, ◌⊎◌, ℕ, ◌+◌, List, [], ◌∷◌, ◌++◌, length, Result, Ok, Err}
+use Rattle.std.specs.Prelude.{◌≡◌, ◌⊎◌, ℕ, ◌+◌, List, [], ◌∷◌, ◌++◌, length, Ok, Err}
 use Rattle.dx_base.specs.Tokens.Ascii as ascii
 use Rattle.dx_base.specs.declared.code.NativeKind.TheVariants as fault
 use Rattle.dx_places.specs.Grammar.{At, Outcome}

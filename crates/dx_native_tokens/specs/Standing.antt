@@ -1,5 +1,5 @@
 -- Which token stands at a place of a native file, or what is wrong there.
-use Rattle.std.specs.Prelude.{◌≡◌, ◌⊎◌, ℕ, ◌+◌, false, List, [], ◌∷◌, ◌++◌, length}
+use Rattle.std.specs.Prelude.{◌≡◌, ◌⊎◌, ℕ, ◌+◌, ◌-◌, ◌≤◌, ◌<◌, false, List, [], ◌∷◌, ◌++◌, length, drop}
 use Rattle.dx_base.specs.Tokens.Ascii as ascii
 use Rattle.dx_base.specs.Tokens.Spelling.{IsString}
 use Rattle.dx_base.specs.Tokens.Refusals.{IsOpen, HasBadBackslash}
@@ -78,3 +78,10 @@ pub record IsNext (s : At) (f : Found) : Type 0 where
   pub place : At
   pub gap : IsBehindGap s place
   pub here : IsHere place f
+
+-- Such a token is apart from what is before the place, and it has bytes; what is left behind it is what the text has from
+-- its end on.
+pub record IsInOrder (s : At) (f : Found) : Type 0 where
+  pub begins : s.offset ≤ f.at
+  pub some : f.at < f.after.offset
+  pub rest : f.after.rest ≡ drop (f.after.offset - s.offset) s.rest

@@ -5,13 +5,14 @@ ghost use Rattle.dx_base.specs.Tokens.Classes.{begins};
 ghost use Rattle.dx_base.specs.Tokens.Reading as script;
 ghost use Rattle.dx_places.specs.Grammar.{At, left};
 ghost use Rattle.dx_native_lex.specs.declared.fault.NativeError.{NativeError};
+ghost use Rattle.dx_native_lex.specs.Less.{IsSome_token};
 ghost use Rattle.dx_native_lex.specs.Raw.{line_end};
 ghost use Rattle.dx_native_lex.specs.Scan.{Found, unblanked, token_at, lexed, number_of};
 ghost use Rattle.dx_native_tokens.specs.Gaps.{Piece, piece_bytes, ArePieces, IsBehindGap};
 ghost use Rattle.dx_native_tokens.specs.LineEnds.{IsLineEnd, IsNoLineEnd, StandsLineEnd};
 ghost use Rattle.dx_native_tokens.specs.Numbers.{IsNumber, IsNumberOf};
 ghost use Rattle.dx_native_tokens.specs.Scripts.{IsSame};
-ghost use Rattle.dx_native_tokens.specs.Standing.{IsNext};
+ghost use Rattle.dx_native_tokens.specs.Standing.{IsNext, IsInOrder};
 
 /// What is passed over before a token is a list of white bytes and of comments, behind which neither begins; only one
 /// place is behind such a list, and no list of white bytes and comments goes on further.
@@ -22,10 +23,11 @@ pub fn gap_law()
 {}
 
 /// What is read next is behind the gap the end, the longest word, a string, or a string that is wrong; and nothing else
-/// stands next.
+/// stands next. So tokens are apart and in order.
 pub fn token_law()
     ensures stands { (s : At) → IsNext s (lexed s) }
     ensures only { (s : At) (f : Found) → IsNext s f → f ≡ lexed s }
+    ensures order { (s : At) → IsSome_token (lexed s).kind → IsInOrder s (lexed s) }
 {}
 
 /// What begins with a quote is what it is in a script: the same text of as many bytes, or refused behind as many bytes.

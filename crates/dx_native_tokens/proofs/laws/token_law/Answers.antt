@@ -6,3 +6,6 @@ returns-clause-stands c = law.next_stands
 
 pub returns-clause-only : goal.returns-clause-only
 returns-clause-only c = law.next_only
+
+pub returns-clause-order : goal.returns-clause-order
+returns-clause-order c = law.next_order
