@@ -147,7 +147,8 @@ pub fn has_good_fields(
 ) -> Result<bool, AllocError>
     requires known { IsKnown clauses.now memo.old }
     requires means { tree_at clauses.now 64 i ≡ Some object.now }
-    ensures { IfOk result (λ good. good ≡ good_fields object.now) }
+    ensures good { IfOk result (λ good. good ≡ good_fields object.now) }
+    ensures known { OnOk result (IsKnown clauses.now memo.new) }
 {
     let mut marks = Marks::new(alloc, clauses.len())?;
     object_good(alloc, clauses, memo, &mut marks, object, i, 63)

@@ -1,10 +1,9 @@
 -- What a clause means, told by its outline.
-use Rattle.std.proofs.Common.{◌≡◌, ℕ, suc, ◌-◌, ◌<◌, List, Option, Some, None, Result, Ok, Err, sym, ap, subst, ◌∙◌, arith}
-use Rattle.std.specs.Prelude.{slice_get, IfOk, OnOk}
+use Rattle.std.proofs.Common.{◌≡◌, ℕ, suc, ◌-◌, ◌<◌, List, Option, Some, None, Result, Err, sym, ap, subst, ◌∙◌, arith}
+use Rattle.std.specs.Prelude.{slice_get}
 use Rattle.dx_base.specs.Array.{ArrayData}
 use Rattle.dx_base.specs.Object.{Tree, PartList, array, text}
 use Rattle.dx_base.specs.ObjectLimits.{unplaced}
-use Rattle.dx_objects.specs.Kinds.{array_of}
 use Rattle.dx_native_grammar.specs.Meaning.{parts_at, attributes_at, listed_tree, listed_at, body_at, clause_at, named_at, tree_at}
 use Rattle.dx_native_grammar.specs.declared.clause.Attribute.{Attribute}
 use Rattle.dx_native_grammar.specs.declared.clause.Body.{Body}
@@ -18,7 +17,6 @@ use Rattle.dx_native_walk.proofs.Lists.{attributes_unplaced}
 use Rattle.dx_native_walk.proofs.Steps.{made_builds, listed_builds, fails_listed, fails_body, built_exit}
 use Rattle.dx_native_walk.specs.Answer.{PartsFail, BuildsObject, Makes_of, content_at}
 use Rattle.dx_native_walk.specs.declared.fail.BuildFail.{BuildFail}
-use Rattle.dx_native_walk.specs.declared.fail.BuildFail.TheVariants as fail
 
 pub one_more : (cs : List Clause) (i calls : ℕ) → 0 < calls → tree_at cs calls i ≡ clause_at (calls - 1) (named_at cs (tree_at cs (calls - 1))) (slice_get cs i)
 unfolding tree_at
@@ -36,20 +34,12 @@ outline_parts (body.Array a) k ls e = absurd cc
 outline_parts (body.Text u) k ls e = absurd cc
 outline_parts (body.Parts j ms) k ls e = e
 
-outline_array : (b : Body) (a : ArrayData) → outline_body b ≡ body.Array a → array_in b ≡ None → ⊥
-outline_array (body.Array b) a e n = absurd cc
-outline_array (body.Text u) a e n = absurd cc
-outline_array (body.Parts k ls) a e n = absurd cc
-
 module _ (cs : List Clause) (i : ℕ) (c : Clause) (o : IsOutlineAt cs i c) where
   whole_body : (b : Body) → c.content.body ≡ b → outline_body o.0.content.body ≡ b
   whole_body b is = sym (ap (λ (c : Clause). c.content.body) o.2) ∙ is
 
   whole_attributes : c.content.attributes ≡ o.0.content.attributes
   whole_attributes = ap (λ (c : Clause). c.content.attributes) o.2
-
-  pub has_array : (a : ArrayData) → c.content.body ≡ body.Array a → array_at (slice_get cs i) ≡ None → ⊥
-  has_array a is none = outline_array o.0.content.body a (whole_body (body.Array a) is) (sym (ap array_at o.1) ∙ none)
 
   module _ (f : List ℕ → Option Tree) (xs : PartList) (r : Result Tree BuildFail) where
     by_body : (b : Body) → o.0.content.body ≡ b → BuildsObject (body_at f b (Some xs)) r → BuildsObject (content_at f (slice_get cs i) (Some xs)) r
@@ -102,16 +92,3 @@ content_array f (Some c) a xs e = body_array f c.content.body a xs e
 
 pub array_builds : (f : List ℕ → Option Tree) (o : Option Clause) (a : ArrayData) (xs : PartList) (r : Result Tree BuildFail) → array_at o ≡ Some a → Makes_of (array a xs) r → BuildsObject (content_at f o (Some xs)) r
 array_builds f o a xs r e h = subst (λ (m : Option Tree). BuildsObject m r) (sym (content_array f o a xs e)) (made_builds (array a xs) r h)
-
--- what is made of an array has an array
-pub made_array : (a : ArrayData) (xs : PartList) (r : Result Tree BuildFail) (K : Type 0) → Makes_of (array a xs) r → IfOk r (λ t. array_of t ≡ None → K)
-made_array a xs (Ok t) K h = λ n. let bad = sym n ∙ ap array_of h in absurd cc
-made_array a xs (Err e) K h = tt
-
-pub if_ok : (r : Result Tree BuildFail) (K : Type 0) → K → IfOk r (λ t. array_of t ≡ None → K)
-if_ok (Ok t) K k = λ n. k
-if_ok (Err e) K k = tt
-
-pub on_ok : (r : Result Tree BuildFail) (K : Type 0) → K → OnOk r K
-on_ok (Ok t) K k = k
-on_ok (Err e) K k = tt

@@ -8,19 +8,13 @@ use Rattle.std.specs.declared.rc.Rc.{Rc}
 use Rattle.std.specs.declared.alloc.AllocError.{AllocError}
 use Rattle.std.specs.declared.alloc.Global.{Global}
 use Rattle.dx_base.specs.Array.{ArrayData}
-use Rattle.dx_base.specs.Object.{Tree, PartList}
-use Rattle.dx_objects.specs.Kinds.{array_of}
-use Rattle.dx_native_grammar.specs.Meaning.{parts_at, listed_tree, body_at, clause_at, named_at, tree_at, attributes_at}
-use Rattle.dx_native_grammar.specs.declared.clause.Body.{Body}
-use Rattle.dx_native_grammar.specs.declared.clause.Body.TheVariants as body
+use Rattle.dx_base.specs.Object.{Tree}
+use Rattle.dx_native_grammar.specs.Meaning.{tree_at}
 use Rattle.dx_native_grammar.specs.declared.clause.Clause.{Clause}
-use Rattle.dx_native_grammar.specs.declared.clause.ListClass.{ListClass}
-use Rattle.dx_native_grammar.specs.declared.clause.ListClass.TheVariants as listing
 use Rattle.dx_native_meaning.proofs.Levels.{low, deep}
-use Rattle.dx_native_meaning.proofs.Somes.{listed_parts}
-use Rattle.dx_native_clauses.specs.Outline.{array_in, clause_array, clause_arrays, array_at}
+use Rattle.dx_native_clauses.specs.Outline.{clause_array, clause_arrays, array_at}
 use Rattle.dx_native_walk.specs.Answer.{KeptAt, IsKnown, IsKnownBut, Builds, Fits}
-use Rattle.dx_native_walk.specs.Memo.{Kept, trees_in, with_tree, without_array, array_or, kept_array}
+use Rattle.dx_native_walk.specs.Memo.{Kept, trees_in, with_tree, without_array}
 use Rattle.dx_native_walk.specs.declared.fail.BuildFail.{BuildFail}
 use Rattle.dx_native_walk.specs.declared.fail.BuildFail.TheVariants as fail
 
@@ -68,36 +62,15 @@ known_without cs kept i h = record {
   each = λ j other. subst (λ (w : Option ArrayData). KeptAt cs j (get_or kept.trees j None) w) (sym (get_or-set_other kept.arrays i j None None other)) (h.each j);
 }
 
--- ---- the array of a clause, wherever it is
+-- ---- the array of a clause
 
-listed_no_array : (k : ListClass) (ps xs : PartList) → array_of (listed_tree k ps xs) ≡ None
-listed_no_array listing.Field ps xs = refl
-listed_no_array listing.Group ps xs = refl
-listed_no_array listing.Composite ps xs = refl
-listed_no_array listing.Series ps xs = refl
+one_array : (cs : List Clause) (i : ℕ) (o : Option Tree) (w : Option ArrayData) (a : ArrayData) → KeptAt cs i o w → w ≡ Some a → array_at (slice_get cs i) ≡ Some a
+one_array cs i None w a h e = sym h ∙ e
+one_array cs i (Some t) w a h e = let none = sym h.1 ∙ e in absurd cc
 
-body_array : (f : List ℕ → Option Tree) (b : Body) (o : Option PartList) (t : Tree) → body_at f b o ≡ Some t → array_of t ≡ array_in b
-body_array f b None t e = absurd cc
-body_array f (body.Array a) (Some xs) t e = cc
-body_array f (body.Text b) (Some xs) t e = cc
-body_array f (body.Parts k ls) (Some xs) t e = let q = listed_parts k (parts_at f ls) xs t e in sym (ap array_of q.2) ∙ listed_no_array k q.0 xs
-
-clause_has : (k : ℕ) (f : List ℕ → Option Tree) (c : Option Clause) (t : Tree) → clause_at k f c ≡ Some t → array_of t ≡ array_at c
-clause_has k f None t e = absurd cc
-clause_has k f (Some c) t e = body_array f c.content.body (attributes_at k f c.content.attributes) t e
-
--- the object of a clause has the clause's array
-pub object_array : (cs : List Clause) (k i : ℕ) (t : Tree) → tree_at cs k i ≡ Some t → array_of t ≡ array_at (slice_get cs i)
-unfolding tree_at
-object_array cs zero i t e = absurd cc
-object_array cs (suc k) i t e = clause_has k (named_at cs (tree_at cs k)) (slice_get cs i) t e
-
-one_array : (cs : List Clause) (i : ℕ) (o : Option Tree) (w : Option ArrayData) → KeptAt cs i o w → array_or o w ≡ array_at (slice_get cs i)
-one_array cs i None w h = h
-one_array cs i (Some t) w h = object_array cs h.0.0 i t h.0.1
-
-pub known_array : (cs : List Clause) (kept : Kept) (i : ℕ) → IsKnown cs kept → kept_array kept i ≡ array_at (slice_get cs i)
-known_array cs kept i h = one_array cs i (get_or kept.trees i None) (get_or kept.arrays i None) (h.each i)
+-- the array that waits is the clause's
+pub waiting_array : (cs : List Clause) (kept : Kept) (i : ℕ) (a : ArrayData) → IsKnown cs kept → get_or kept.arrays i None ≡ Some a → array_at (slice_get cs i) ≡ Some a
+waiting_array cs kept i a h e = one_array cs i (get_or kept.trees i None) (get_or kept.arrays i None) a (h.each i) e
 
 -- ---- nothing is built
 

@@ -2,9 +2,9 @@
 //! to it.
 #![tactic(auto)]
 
-mod copies;
 mod fail;
 mod memo;
+mod objects;
 mod walk;
 
 pub use fail::BuildFail;

@@ -1,9 +1,8 @@
 //! What is kept by the places of clauses: the objects that are built already, and the arrays that wait for theirs.
 
 ghost use Rattle.std.specs.Prelude.{◌≡◌, length, slice_index_or, ◌<◌, Some, None, IfOk, replicate};
-ghost use Rattle.dx_native_walk.specs.Memo.{tree_in, with_tree, without_array, kept_array};
+ghost use Rattle.dx_native_walk.specs.Memo.{tree_in, with_tree, without_array};
 
-use crate::copies::array_copy;
 use dx_objects::{Array, Object};
 use std::alloc::{AllocError, Global};
 use std::marker::Model;
@@ -64,18 +63,12 @@ impl Memo {
         self.arrays[i] = None;
     }
 
-    /// The array of this place: it moves out where it waits, and is copied where an object has it.
-    pub(crate) fn take_array(&mut self, alloc: Global, i: usize) -> Result<Array, AllocError>
-        requires trees { i < length self.old.trees }
-        requires arrays { i < length self.old.arrays }
-        requires array { kept_array self.old i ≡ None → ⊥ }
-        ensures array { IfOk result (λ a. kept_array self.old i ≡ Some a) }
+    /// The array of this place moves out, if it waits.
+    pub(crate) fn take_array(&mut self, i: usize) -> Option<Array>
+        requires { i < length self.old.arrays }
+        ensures array { slice_index_or self.old.arrays i None ≡ result }
         ensures others { self.new ≡ without_array self.old i }
     {
-        let waiting = self.arrays[i].take();
-        match &self.objects[i] {
-            None => Ok(waiting.unwrap()),
-            Some(object) => array_copy(alloc, object.as_array().unwrap()),
-        }
+        self.arrays[i].take()
     }
 }

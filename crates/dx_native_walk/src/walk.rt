@@ -1,22 +1,20 @@
 //! The walk.
 
 ghost use Rattle.std.specs.Prelude.{◌≡◌, List, OnOk, slice_get, Some, None, IfOk};
-ghost use Rattle.dx_base.specs.Object as object_spec;
 ghost use Rattle.dx_base.specs.ObjectLimits.{unplaced};
 ghost use Rattle.dx_native_grammar.specs.declared.clause.Clause.{Clause as Lines};
-ghost use Rattle.dx_native_grammar.specs.Meaning.{tree_at, named_at, parts_at, attributes_at, given_at, clause_at, listed_tree};
+ghost use Rattle.dx_native_grammar.specs.Meaning.{tree_at, named_at, parts_at, attributes_at, given_at, clause_at};
 ghost use Rattle.dx_native_clauses.specs.Outline.{IsOutlineAt, clause_arrays};
-ghost use Rattle.dx_native_walk.specs.Answer.{IsKnown, IsKnownBut, Builds, BuildsParts, BuildsObject, Makes_of, Fits, content_at};
+ghost use Rattle.dx_native_walk.specs.Answer.{IsKnown, IsKnownBut, Builds, BuildsParts, BuildsObject, Fits, content_at};
 ghost use Rattle.dx_objects.specs.Kinds.{array_of};
-ghost use Rattle.dx_objects.specs.Makes.{Makes};
 
-use crate::copies::{int_object, name_copy};
 use crate::fail::BuildFail;
 use crate::memo::Memo;
+use crate::objects::{array_object, listed_object, number_object, text_object};
 use dx_base::Bytes;
-use dx_native_clauses::{Attribute, Body, Clause, Given, ListClass, OutlineTable, Part as Line};
+use dx_native_clauses::{Attribute, Body, Clause, Given, OutlineTable, Part as Line};
 use dx_native_lex::Named;
-use dx_objects::{Array, Object, ObjectError, Part, Parts};
+use dx_objects::{Array, Object, Part, Parts};
 use std::alloc::{AllocError, Global};
 use std::rc::Rc;
 
@@ -28,44 +26,6 @@ fn built(object: &Rc<Object>, calls: u64) -> Result<Rc<Object>, BuildFail>
         return Err(BuildFail::Deep);
     }
     Ok(object.clone()?)
-}
-
-fn array_object(array: Array, attributes: Parts) -> Result<Object, BuildFail>
-    ensures { Makes_of (object_spec.array array (unplaced attributes)) result }
-{
-    match Object::array(array, attributes) {
-        Ok(object) => Ok(object),
-        Err(_) => Err(BuildFail::Broken),
-    }
-}
-
-fn text_object(alloc: Global, text: &Bytes, attributes: Parts) -> Result<Object, BuildFail>
-    ensures { Makes_of (object_spec.text text.now (unplaced attributes)) result }
-{
-    match Object::text(Bytes::copy_of(alloc, text.bytes())?, attributes) {
-        Ok(object) => Ok(object),
-        Err(_) => Err(BuildFail::Broken),
-    }
-}
-
-fn made(class: ListClass, parts: Parts, attributes: Parts) -> Result<Object, ObjectError>
-    ensures { Makes (listed_tree class parts (unplaced attributes)) result }
-{
-    match class {
-        ListClass::Field => Object::field(parts, attributes),
-        ListClass::Group => Object::group(parts, attributes),
-        ListClass::Composite => Object::composite(parts, attributes),
-        ListClass::Series => Object::series(parts, attributes),
-    }
-}
-
-fn listed_object(class: ListClass, parts: Parts, attributes: Parts) -> Result<Object, BuildFail>
-    ensures { Makes_of (listed_tree class parts (unplaced attributes)) result }
-{
-    match made(class, parts, attributes) {
-        Ok(object) => Ok(object),
-        Err(_) => Err(BuildFail::Broken),
-    }
 }
 
 #[cycle(build)]
@@ -83,6 +43,15 @@ fn named(
     match clauses.place(&name.text) {
         Some(i) => build(alloc, clauses, memo, i, calls),
         None => Err(BuildFail::Deep),
+    }
+}
+
+fn name_copy(alloc: Global, name: &Option<Bytes>) -> Result<Option<Bytes>, AllocError>
+    ensures { IfOk result (λ n. n ≡ name.now) }
+{
+    match name {
+        None => Ok(None),
+        Some(bytes) => Ok(Some(Bytes::copy_of(alloc, bytes.bytes())?)),
     }
 }
 
@@ -131,7 +100,7 @@ fn given(
             let object = text_object(alloc, text, Parts::new(alloc))?;
             Ok(Rc::new(alloc, object)?)
         }
-        Given::Number(number) => Ok(int_object(alloc, *number)?),
+        Given::Number(number) => Ok(number_object(alloc, *number)?),
         Given::Object(name) => named(alloc, clauses, memo, name, calls),
     }
 }
@@ -179,10 +148,12 @@ fn body_object(
     ensures known { IfOk result (λ t. array_of t ≡ None → IsKnown clauses.now memo.new) }
 {
     match &clause.content.body {
-        Body::Array(_) => {
-            let array = memo.take_array(alloc, i)?;
-            array_object(array, attributes)
-        }
+        Body::Array(_) => match memo.take_array(i) {
+            Some(array) => array_object(array, attributes),
+            // No array waits where the clause's object is kept. That never comes: `build` takes an object that is kept, and
+            // the walk of the clause's own attributes keeps one in a cycle alone, which reading has refused before.
+            None => Err(BuildFail::Memory),
+        },
         Body::Text(text) => text_object(alloc, text, attributes),
         Body::Parts(class, lines) => {
             let parts = parts(alloc, clauses, memo, lines.as_slice(), calls)?;
@@ -250,7 +221,8 @@ pub fn nothing_built(alloc: Global, arrays: Vec<Option<Array>>) -> Result<Memo, 
 }
 
 /// The object of clause number i, of at most 64 levels. All that its parts and attributes name is kept; it itself isn't.
-/// The array of a clause moves into the object, so an array is built once.
+/// The array of a clause moves into the object, so an array is built once. Where the object of an array's clause is kept
+/// already, this answers `Memory`.
 pub fn clause_object(
     alloc: Global,
     clauses: &OutlineTable,

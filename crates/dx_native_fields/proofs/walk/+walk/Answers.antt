@@ -1,4 +1,4 @@
-use Rattle.std.proofs.Common.{true, false, sym, subst, arith, rules}
+use Rattle.std.proofs.Common.{true, sym, subst, arith, rules}
 use Rattle.std.specs.Prelude.{slice_get}
 use Rattle.std.proofs.lemmas.Option.{slice_get_past}
 use Rattle.dx_native_grammar.specs.Meaning.{tree_at, named_at}

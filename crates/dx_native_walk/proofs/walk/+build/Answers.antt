@@ -9,8 +9,8 @@ use Rattle.dx_native_meaning.proofs.OneLevel.{no_levels, no_clause}
 use Rattle.dx_native_walk.specs.Answer.{KeptAt, IsKnown}
 use Rattle.dx_native_walk.specs.Memo.{Kept, tree_in, with_tree}
 use Rattle.dx_native_walk.proofs.Steps.{object_exit}
-use Rattle.dx_native_walk.proofs.Keeping.{hit, within, within_but, known_with, known_array}
-use Rattle.dx_native_walk.proofs.Bodies.{one_more, has_array, array_builds, parts_fail, object_builds}
+use Rattle.dx_native_walk.proofs.Keeping.{hit, within, within_but, known_with, waiting_array}
+use Rattle.dx_native_walk.proofs.Bodies.{one_more, array_builds, parts_fail, object_builds}
 use Rattle.dx_native_walk.proofs.Lists.{parts_exit, one_part, all_parts, attributes_exit, one_attribute, all_attributes}
 use Rattle.dx_native_walk.proofs.walk.+build.Goals as goal
 
@@ -81,19 +81,15 @@ attributes-loop-line-preserved t c = record {
 pub attributes-returns-clause-built : goal.attributes-returns-clause-built
 attributes-returns-clause-built t c = all_attributes c.args.calls (named_at c.args.clauses.now (tree_at c.args.clauses.now c.args.calls)) c.args.lines.now c.loop-line.line-index c.loop-line.parts c.loop-line-test.false c.loop-line.invariant.same
 
-pub body_object-take_array-requires-clause-array : goal.body_object-take_array-requires-clause-array
-body_object-take_array-requires-clause-array t c =
-    λ none. has_array c.args.clauses.now c.args.i c.args.clause.now c.requires.outline _ c.in-Array.is (sym (known_array c.args.clauses.now c.args.memo.now c.args.i c.requires.known) ∙ none)
-
-pub body_object-returns-in_ok-array-in-Array-clause-built : goal.body_object-returns-in_ok-array-in-Array-clause-built
-body_object-returns-in_ok-array-in-Array-clause-built t c =
-    array_builds (named_at c.args.clauses.now (tree_at c.args.clauses.now c.args.calls)) (slice_get c.args.clauses.now c.args.i) c.in_ok-array-in-Array.array (unplaced c.args.attributes) c.array_object.result
-    (sym (known_array c.args.clauses.now c.args.memo.now c.args.i c.requires.known) ∙ c.in_ok-array-in-Array.ensures.array) c.array_object.ensures
+pub body_object-returns-in-Some-clause-built : goal.body_object-returns-in-Some-clause-built
+body_object-returns-in-Some-clause-built t c =
+    array_builds (named_at c.args.clauses.now (tree_at c.args.clauses.now c.args.calls)) (slice_get c.args.clauses.now c.args.i) c.in-Some.array (unplaced c.args.attributes) c.array_object.result
+    (waiting_array c.args.clauses.now c.args.memo.now c.args.i c.in-Some.array c.requires.known (c.take_array.ensures.array ∙ c.in-Some.is)) c.array_object.ensures
 
 pub body_object-returns-in_err-parts-in-Parts-clause-built : goal.body_object-returns-in_err-parts-in-Parts-clause-built
 body_object-returns-in_err-parts-in-Parts-clause-built t c =
-    let p = err_from_is_err_and c.from_residual-in_err-parts-in-Parts.result c.from_residual-in_err-parts-in-Parts.ensures.1 in
-    parts_fail c.args.clauses.now c.args.i c.args.clause.now c.requires.outline (named_at c.args.clauses.now (tree_at c.args.clauses.now c.args.calls)) (unplaced c.args.attributes) c.from_residual-in_err-parts-in-Parts.result
+    let p = err_from_is_err_and c.from_residual.result c.from_residual.ensures.1 in
+    parts_fail c.args.clauses.now c.args.i c.args.clause.now c.requires.outline (named_at c.args.clauses.now (tree_at c.args.clauses.now c.args.calls)) (unplaced c.args.attributes) c.from_residual.result
     c.in-Parts.class c.in-Parts.lines c.as_slice.result.now _ _ c.in-Parts.is c.as_slice.ensures p.1 p.2 c.in_err-parts-in-Parts.ensures.built
 
 pub object_of-returns-clause-built : goal.object_of-returns-clause-built
