@@ -4,3 +4,4 @@ pub mod TokenLaw
 pub mod ScriptLaw
 pub mod LineLaw
 pub mod NumberLaw
+pub mod TextLaw

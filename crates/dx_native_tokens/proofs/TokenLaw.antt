@@ -239,15 +239,18 @@ some_word (b ∷ more) is = omega arith
 here_ahead : (s : At) (f : Found) (k : Kind) → IsSome_token k → IsHereOf k s f → (f.at ≡ s.offset) × IsAhead s 1 f.after
 here_ahead s f kind.End t is = absurd t
 here_ahead s f kind.Word t is = (is.at, record { front = f.content; parts = is.parts; offset = is.offset; many = some_word f.content is.word })
-here_ahead s f kind.Quoted t is = (is.at, record {
-  front = 34 ∷ (f.content ++ 34 ∷ []);
-  parts = is.parts ∙ ap (λ (t : List ℕ). 34 ∷ t) (sym (append_assoc f.content (34 ∷ []) f.after.rest));
-  offset = let p = is.offset in omega (arith, length-append f.content (34 ∷ []));
-  many = omega arith;
-})
+here_ahead s f kind.Quoted t is = (
+  is.at,
+  record {
+    front = 34 ∷ (f.content ++ 34 ∷ []);
+    parts = is.parts ∙ ap (λ (t : List ℕ). 34 ∷ t) (sym (append_assoc f.content (34 ∷ []) f.after.rest));
+    offset = let p = is.offset in omega (arith, length-append f.content (34 ∷ []));
+    many = omega arith;
+  },
+)
 here_ahead s f kind.Wrong t is = absurd t
 
-in_order : (s : At) (f : Found) → IsSome_token f.kind → IsNext s f → IsInOrder s f
+pub in_order : (s : At) (f : Found) → IsSome_token f.kind → IsNext s f → IsInOrder s f
 in_order s f t is =
     let token = here_ahead is.place f f.kind t is.here in
     let ahead = token.1 in

@@ -3,3 +3,4 @@ pub mod Standing
 pub mod Scripts
 pub mod LineEnds
 pub mod Numbers
+pub mod Tokens

@@ -1,5 +1,5 @@
 //! Laws of the definitions, each as a function that does nothing and ensures it.
-ghost use Rattle.std.specs.Prelude.{◌≡◌, ◌≤◌, ◌++◌, ℕ, ℤ, List, Option, Ok, Err, Some, None, true, false, length};
+ghost use Rattle.std.specs.Prelude.{◌≡◌, ◌≤◌, ◌++◌, ℕ, ℤ, List, Ok, Err, Some, None, true, false, length};
 ghost use Rattle.dx_base.specs.Tokens.Ascii as ascii;
 ghost use Rattle.dx_base.specs.Tokens.Classes.{begins};
 ghost use Rattle.dx_base.specs.Tokens.Reading as script;
@@ -13,6 +13,7 @@ ghost use Rattle.dx_native_tokens.specs.LineEnds.{IsLineEnd, IsNoLineEnd, Stands
 ghost use Rattle.dx_native_tokens.specs.Numbers.{IsNumber, IsNumberOf};
 ghost use Rattle.dx_native_tokens.specs.Scripts.{IsSame};
 ghost use Rattle.dx_native_tokens.specs.Standing.{IsNext, IsInOrder};
+ghost use Rattle.dx_native_tokens.specs.Tokens.{AreTokens, AreApart, HasTokens};
 
 /// What is passed over before a token is a list of white bytes and of comments, behind which neither begins; only one
 /// place is behind such a list, and no list of white bytes and comments goes on further.
@@ -28,6 +29,14 @@ pub fn token_law()
     ensures stands { (s : At) → IsNext s (lexed s) }
     ensures only { (s : At) (f : Found) → IsNext s f → f ≡ lexed s }
     ensures order { (s : At) → IsSome_token (lexed s).kind → IsInOrder s (lexed s) }
+{}
+
+/// From each place on there is exactly one list of tokens, up to the end of the text or to a string that is wrong, and
+/// they are apart and in order.
+pub fn text_law()
+    ensures some { (s : At) → HasTokens s }
+    ensures one { (s : At) (l m : List Found) → AreTokens s l → AreTokens s m → l ≡ m }
+    ensures apart { (s : At) (l : List Found) → AreTokens s l → AreApart s.offset l }
 {}
 
 /// What begins with a quote is what it is in a script: the same text of as many bytes, or refused behind as many bytes.

@@ -3,4 +3,4 @@
 
 mod laws;
 
-pub use laws::{gap_law, line_law, number_law, string_law, token_law};
+pub use laws::{gap_law, line_law, number_law, string_law, text_law, token_law};
