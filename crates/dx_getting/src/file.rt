@@ -1,6 +1,6 @@
 //! The file of a run.
-ghost use Rattle.std.specs.Prelude.{◌≡◌, [], ◌∷◌, Some, IfOk, IfErr};
-ghost use Rattle.std.specs.Option.{option_copied};
+ghost use Rattle.std.specs.Prelude.{◌≡◌, ℕ, List, [], ◌∷◌, None, Some, IfOk, IfErr};
+ghost use Rattle.std.specs.Option.{option_copied, option_or};
 ghost use Rattle.dx_io.specs.Devices.{FileMap, Cause};
 ghost use Rattle.dx_links.specs.Denotes.{Around, file_of};
 ghost use Rattle.dx_machine.specs.Machine.{name_read, read_by};
@@ -44,9 +44,9 @@ fn read<F: Files>(alloc: Global, name: &[u8], files: &mut F) -> Result<Option<By
     }
 }
 
-/// The bytes that a run gets: those of the written file that its call has, else, for an Import whose first input is a
-/// text, those of the file of this name, which alone asks the files.
-pub(crate) fn file_for<F: Files>(
+/// The bytes that are read for a run: where its call has no written file, for an Import whose first input is a text, those of
+/// the file of this name, which alone asks the files.
+pub(crate) fn read_for<F: Files>(
     alloc: Global,
     module: Module,
     inputs: &Outs,
@@ -54,16 +54,30 @@ pub(crate) fn file_for<F: Files>(
     files: &mut F,
 ) -> Result<Option<Bytes>, GetFail>
     ensures same { F.content files.new ≡ F.content files.old }
-    ensures found { (a : Around) → F.content files.old ≡ Some a.file → IfOk result (λ file. file ≡ file_of a «module» inputs.now (option_copied own.entry)) }
+    ensures own { (bytes : List ℕ) → option_copied own.entry ≡ Some bytes → IfOk result (λ read. read ≡ None) }
+    ensures found { (a : Around) → F.content files.old ≡ Some a.file → IfOk result (λ read. option_or (option_copied own.entry) read ≡ file_of a «module» inputs.now (option_copied own.entry)) }
     ensures asks { AsksFor (F.asked files.old) (F.asked files.new) (read_by (option_copied own.entry) («module», inputs.now)) result }
     ensures cause { Cause ReadFault (F.faults files.old) (F.faults files.new) result }
     ensures fails { IfErr result IsDevice }
 {
-    if let Some(content) = own {
-        return Ok(Some(Bytes::copy_of(alloc, content.bytes())?));
+    match own {
+        Some(_) => Ok(None),
+        None => match name_of(module, inputs) {
+            None => Ok(None),
+            Some(name) => read(alloc, name, files),
+        },
     }
-    match name_of(module, inputs) {
-        None => Ok(None),
-        Some(name) => read(alloc, name, files),
+}
+
+/// The file of a run: the written file that its call has, which is lent, else the one that was read.
+pub(crate) fn own_or_read<'a>(
+    own: Option<&'a Content>,
+    read: Option<&'a Bytes>,
+) -> Option<&'a Bytes>
+    ensures { option_copied result ≡ option_or (option_copied own.entry) (option_copied read.entry) }
+{
+    match own {
+        Some(content) => Some(content.whole()),
+        None => read,
     }
 }

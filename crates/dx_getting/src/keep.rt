@@ -89,18 +89,18 @@ fn drop_for(
 pub(crate) fn keep(
     alloc: Global,
     tag: Tag,
-    called: &Called,
+    called: Called,
     outs: Outs,
     work: &mut Work,
 ) -> Result<(), AllocError>
     requires absent { kept.find tag work.old.cache.entries ≡ None }
     requires few { length outs ≤ 64 }
-    requires attribute { called.now.attribute ≤ 2 }
-    requires site { ¬ (called.now.site ≡ []) }
+    requires attribute { called.attribute ≤ 2 }
+    requires site { ¬ (called.site ≡ []) }
     ensures budget { work.new.cache.budget ≡ work.old.cache.budget }
     ensures known { work.new.known.calls ≡ work.old.known.calls }
     ensures stores { Stores tag work.old.cache.entries work.new.cache.entries }
-    ensures keeps { Keeps tag called.now.site called.now.attribute outs result work.old work.new }
+    ensures keeps { Keeps tag called.site called.attribute outs result work.old work.new }
 {
     let size = size_of(&outs);
     let attribute = called.attribute;
@@ -115,12 +115,11 @@ pub(crate) fn keep(
     if attribute == 0 || size > work.cache.budget() {
         return Ok(());
     }
-    let site = Bytes::copy_of(alloc, called.site.bytes())?;
     let told = Bytes::copy_of(alloc, called.site.bytes())?;
     tell(&mut work.events, Event::Keep(told, size))?;
     work.cache.store(Entry {
         tag,
-        site,
+        site: called.site,
         attribute,
         size,
         outs,

@@ -12,7 +12,7 @@ ghost use Rattle.dx_getting.specs.Steps.{Runs, Stores, Learns};
 
 use crate::event::Event;
 use crate::fail::GetFail;
-use crate::file::file_for;
+use crate::file::{own_or_read, read_for};
 use crate::keep::{keep, tell};
 use crate::known::Known;
 use crate::scene::Called;
@@ -42,7 +42,7 @@ pub(crate) fn run_call<F: Files, L: Library>(
     module: Module,
     own: Option<&Content>,
     inputs: &Outs,
-    called: &Called,
+    called: Called,
     work: &mut Work,
     files: &mut F,
     lib: &mut L,
@@ -50,19 +50,19 @@ pub(crate) fn run_call<F: Files, L: Library>(
     requires takes { Takes «module» (length inputs.now) }
     requires absent { kept.find tag work.old.cache.entries ≡ None }
     requires new { lookup (nat_eq tag) work.old.known.calls ≡ None }
-    requires attribute { called.now.attribute ≤ 2 }
-    requires site { ¬ (called.now.site ≡ []) }
+    requires attribute { called.attribute ≤ 2 }
+    requires site { ¬ (called.site ≡ []) }
     ensures same { F.content files.new ≡ F.content files.old }
     ensures cause { Cause ReadFault (F.faults files.old) (F.faults files.new) result }
     ensures budget { work.new.cache.budget ≡ work.old.cache.budget }
     ensures stores { Stores tag work.old.cache.entries work.new.cache.entries }
     ensures learns { Learns tag work.old.known.calls work.new.known.calls }
-    ensures runs { (a : Around) → F.content files.old ≡ Some a.file → Runs tag called.now.site called.now.attribute (record { run = («module», inputs.now); own = option_copied own.entry }) (L.answer «module» inputs.now (file_of a «module» inputs.now (option_copied own.entry))) result work.old work.new (told (L.done lib.old) (F.asked files.old)) (told (L.done lib.new) (F.asked files.new)) }
+    ensures runs { (a : Around) → F.content files.old ≡ Some a.file → Runs tag called.site called.attribute (record { run = («module», inputs.now); own = option_copied own.entry }) (L.answer «module» inputs.now (file_of a «module» inputs.now (option_copied own.entry))) result work.old work.new (told (L.done lib.old) (F.asked files.old)) (told (L.done lib.new) (F.asked files.new)) }
 {
     let site = Bytes::copy_of(alloc, called.site.bytes())?;
     tell(&mut work.events, Event::Run(site))?;
-    let file = file_for(alloc, module, inputs, own, files)?;
-    match lib.run(alloc, module, inputs, file.as_ref()) {
+    let read = read_for(alloc, module, inputs, own, files)?;
+    match lib.run(alloc, module, inputs, own_or_read(own, read.as_ref())) {
         Err(RunFail::Code(code)) => Err(GetFail::Refused(tag, code)),
         Err(RunFail::Memory) => Err(GetFail::Memory),
         Ok(outs) => {

@@ -110,7 +110,7 @@ fn finish<S: Sites, F: Files, L: Library>(
         module,
         own,
         &top.inputs,
-        &called,
+        called,
         work,
         files,
         lib,

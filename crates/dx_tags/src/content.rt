@@ -50,6 +50,14 @@ impl Content {
         })
     }
 
+    /// The bytes as they stand, in the memory that all share.
+    pub fn whole(&self) -> &Bytes
+        ensures { result.now ≡ self.now }
+    {
+        &self.bytes
+    }
+
+    /// The bytes, one by one.
     pub fn bytes(&self) -> &[u8]
         ensures { result.now ≡ self.now }
     {

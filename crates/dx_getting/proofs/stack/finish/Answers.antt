@@ -78,12 +78,12 @@ pub returns-in-None-clause-calls : goal.returns-in-None-clause-calls
 returns-in-None-clause-calls g c =
     run_calls c.args.scene.now.tags.now c.args.top.now.wanted.tag c.args.work.now.cache.entries c.run_call.new.work.cache.entries c.requires.stack.0.may.call c.run_call.ensures.stores
 
-pub returns-clause-above : goal.returns-clause-above
-returns-clause-above g c =
+pub returns-in_ok-push-in-Some-clause-above : goal.returns-in_ok-push-in-Some-clause-above
+returns-in_ok-push-in-Some-clause-above g c =
     run_above c.args.top.now.wanted.tag c.args.work.now c.run_call.new.work c.run_call.ensures.stores c.run_call.ensures.learns
 
-pub returns-clause-calls : goal.returns-clause-calls
-returns-clause-calls g c =
+pub returns-in_ok-push-in-Some-clause-calls : goal.returns-in_ok-push-in-Some-clause-calls
+returns-in_ok-push-in-Some-clause-calls g c =
     run_calls c.args.scene.now.tags.now c.args.top.now.wanted.tag c.args.work.now.cache.entries c.run_call.new.work.cache.entries c.requires.stack.0.may.call c.run_call.ensures.stores
 
 pub returns-in_err-value-in-Some-clause-gets : goal.returns-in_err-value-in-Some-clause-gets
@@ -111,12 +111,12 @@ returns-in-None-clause-gets g c =
     let none = none_left c.args.below.now.items (omega (arith, zero)) in
     (step_done (setting_of c.args.scene.now (g.S.Sites.formed c.args.sites.now)) (world g.L.Library.answer map) base c.args.work.now.cache.budget c.args.below.now.items c.args.top.now c.requires.stack.0 s c.args.module (option_copied c.args.own) c.requires.ready i c.run_call.new.work (told (g.L.Library.done c.run_call.new.lib) (g.F.Files.asked c.run_call.new.files)) none well.0, subst (λ os. IsReady (lowest os c.args.top.now).tag c.run_call.new.work.known.calls) (sym none) well.1)
 
-pub returns-clause-stepped : goal.returns-clause-stepped
-returns-clause-stepped g c =
+pub returns-in_ok-push-in-Some-clause-stepped : goal.returns-in_ok-push-in-Some-clause-stepped
+returns-in_ok-push-in-Some-clause-stepped g c =
     rw c.in_ok-push-in-Some.ensures.ok (stepped_under (setting_of c.args.scene.now (g.S.Sites.formed c.args.sites.now)) c.args.work.now c.run_call.new.work c.args.below.now.items c.args.top.now c.requires.stack c.requires.away c.pop.new.self.items c.in-Some.under c.in-Some.ensures.items (value_of c.in_ok-value-in-Some.value) (run_above c.args.top.now.wanted.tag c.args.work.now c.run_call.new.work c.run_call.ensures.stores c.run_call.ensures.learns))
 
-pub returns-clause-gets : goal.returns-clause-gets
-returns-clause-gets g c =
+pub returns-in_ok-push-in-Some-clause-gets : goal.returns-in_ok-push-in-Some-clause-gets
+returns-in_ok-push-in-Some-clause-gets g c =
     λ map told_map links base s h i j.
     let ran = run_result (setting_of c.args.scene.now (g.S.Sites.formed c.args.sites.now)) (world g.L.Library.answer map) base c.args.work.now.cache.budget c.args.below.now.items c.args.top.now c.requires.stack.0 s c.args.module (option_copied c.args.own) c.requires.ready c.run_call.result c.in_ok-called.called c.args.work.now c.run_call.new.work (told (g.L.Library.done c.args.lib.now) (g.F.Files.asked c.args.files.now)) (told (g.L.Library.done c.run_call.new.lib) (g.F.Files.asked c.run_call.new.files)) c.in_ok-called.ensures i h refl (c.run_call.ensures.runs (around_of (setting_of c.args.scene.now (g.S.Sites.formed c.args.sites.now)) (world g.L.Library.answer map)) told_map) in
     let well : WentTo (setting_of c.args.scene.now (g.S.Sites.formed c.args.sites.now)) (world g.L.Library.answer map) base (run_call (frame_of (setting_of c.args.scene.now (g.S.Sites.formed c.args.sites.now)) (world g.L.Library.answer map) c.args.work.now.cache.budget) c.args.module (value_terms (heads_of c.args.scene.now.tags.now) c.requires.ready.args) (Ok c.args.top.now.inputs) s) c.run_call.new.work (told (g.L.Library.done c.run_call.new.lib) (g.F.Files.asked c.run_call.new.files)) × IsReady c.args.top.now.wanted.tag c.run_call.new.work.known.calls = subst (λ r. GetsCall (setting_of c.args.scene.now (g.S.Sites.formed c.args.sites.now)) (world g.L.Library.answer map) base c.args.top.now.wanted.tag r (run_call (frame_of (setting_of c.args.scene.now (g.S.Sites.formed c.args.sites.now)) (world g.L.Library.answer map) c.args.work.now.cache.budget) c.args.module (value_terms (heads_of c.args.scene.now.tags.now) c.requires.ready.args) (Ok c.args.top.now.inputs) s) c.run_call.new.work (told (g.L.Library.done c.run_call.new.lib) (g.F.Files.asked c.run_call.new.files))) c.in_ok-run_call.was ran in
