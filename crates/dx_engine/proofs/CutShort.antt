@@ -1,4 +1,4 @@
--- What is kept behind an execution that was cut short fits and is sound.
+-- What is kept behind an execution fits and is sound, and what was known and told counts for nothing.
 use Rattle.std.proofs.Common.{◌≡◌, inl, inr, List, [], length, map, Option, refl, sym, ap, ap₂, ◌∙◌, subst, arith}
 use Rattle.std.specs.Prelude.{Result, Ok, Err}
 use Rattle.dx_macros.specs.Tree.{CallTree}
@@ -10,13 +10,16 @@ use Rattle.dx_ending.specs.Putting.{ArePut, ArePutBefore}
 use Rattle.dx_performing.specs.Execution.{Export}
 use Rattle.dx_links.specs.Denotes.{Around}
 use Rattle.dx_links.specs.LinkMap.{LinkMap, Linked}
-use Rattle.dx_getting.specs.Bound.{AreLinks}
+use Rattle.dx_getting.specs.Bound.{IsBound, AreLinks}
 use Rattle.dx_getting.specs.Terms.{Table}
 use Rattle.dx_demand.specs.Terms.{AreExact}
+use Rattle.dx_demand.specs.Forming.{named_terms}
+use Rattle.dx_cache.specs.Cached.{Cached}
 use Rattle.dx_machine.specs.Sound.{IsSound}
-use Rattle.dx_getting.specs.Stands.{EntriesRight, named, world}
+use Rattle.dx_getting.specs.Stands.{Setting, EntriesRight, named, world}
 use Rattle.dx_getting.specs.Steps.{AreCalls}
-use Rattle.dx_performing.specs.Course.{Fixed, around_of}
+use Rattle.dx_performing.specs.Kept.{Kept, current}
+use Rattle.dx_performing.specs.Course.{Fixed, around_of, begins}
 use Rattle.dx_performing.specs.Meant.{LinksRight}
 use Rattle.dx_looking.specs.Looking.{AllFit}
 use Rattle.dx_looking.specs.Setting.{links_of}
@@ -24,7 +27,7 @@ use Rattle.dx_looking.proofs.Growth.{all_fit_grows, links_same}
 use Rattle.dx_engine.specs.Keeping.{StateFits, kept_of, setting_of, IsSoundState}
 use Rattle.dx_engine.specs.Ending.{OnEnd, OnCut, CutsPuts, HasPut}
 use Rattle.dx_engine.specs.Executing.{Devices, IsExecuted, NonePut, ExecutesSo}
-use Rattle.dx_engine.specs.Cutting.{IsCutFrom, IsForgotten}
+use Rattle.dx_engine.specs.Cutting.{IsCutFrom, IsForgotten, IsGivenBack}
 use Rattle.dx_engine.specs.declared.exec_error.ExecError.{ExecError}
 use Rattle.dx_engine.specs.declared.exec_error.ExecError.TheVariants.{Module, ReadFault, WriteFault, ExportFault, Memory}
 use Rattle.dx_engine.specs.declared.state.State.{State}
@@ -59,6 +62,54 @@ module _ (st st1 st2 : State) (fits : StateFits st) (cut : IsCutFrom st st1) (go
     values = subst (λ (y : LinkMap). AreLinks y st2.bound.pairs) (sym links_are) (subst (AreLinks st.links.links) (sym pairs_are) s.values);
     entries = subst (EntriesRight (setting_of st2) (world x.answer x.file)) (sym gone.entries) tt;
     sound = subst (λ es. IsSound (around_of x (kept_of st2)) x.budget (record { entries = map (named (heads_of st2.at.tags)) es; known = []; events = [] })) (sym gone.entries) (record { entries = tt; bounded = omega arith; known = tt });
+  }
+
+-- ---- what was known and told counts for nothing
+
+module _ (st1 st2 : State) (back : IsGivenBack st1 st2) where
+  budget_back : st2.at.work.cache.budget ≡ st1.at.work.cache.budget
+  budget_back = ap (λ (c : Cached). c.budget) back.cache
+
+  fits_back : StateFits st1 → StateFits st2
+  fits_back h = record {
+    exact = subst AreExact (sym back.tags) h.exact;
+    held = subst (λ (vs : Values). HeldBelow (length vs) st2.at.tags) (sym back.held) (subst (HeldBelow (length st1.held)) (sym back.tags) h.held);
+    links = subst (λ (l : Linked). AllFit st2.at.tags l.links) (sym back.links) (subst (λ terms. AllFit terms st1.links.links) (sym back.tags) h.links);
+    bound = subst (λ (t : Table). IsBound st2.links.links t) (sym back.bound) (subst (λ (l : Linked). IsBound l.links st1.bound) (sym back.links) h.bound);
+    entries = subst (λ (c : Cached). AreCalls st2.at.tags c.entries) (sym back.cache) (subst (λ terms. AreCalls terms st1.at.work.cache.entries) (sym back.tags) h.entries);
+  }
+
+  kept_back : kept_of st2 ≡ kept_of st1
+  kept_back = λ i. record {
+    entries = map (named (heads_of (back.tags i))) (back.cache i).entries;
+    terms = named_terms (back.tags i);
+    links = links_of (heads_of (back.tags i)) (back.links i).links;
+    held = back.held i;
+    written = (back.written i).files;
+  }
+
+  setting_back : setting_of st2 ≡ setting_of st1
+  setting_back = λ i. record { terms = back.tags i; links = (back.bound i).pairs; held = back.held i; formed = [] }
+
+  sound_back : (x : Fixed) → IsSoundState x st1 → IsSoundState x st2
+  sound_back x s = record {
+    budget = s.budget ∙ sym budget_back;
+    links = subst (λ (k : Kept). LinksRight (around_of x k) k.links) (sym kept_back) s.links;
+    values = subst (λ (t : Table). AreLinks st2.links.links t.pairs) (sym back.bound) (subst (λ (l : Linked). AreLinks l.links st1.bound.pairs) (sym back.links) s.values);
+    entries = subst (λ (c : Cached). EntriesRight (setting_of st2) (world x.answer x.file) c.entries) (sym back.cache) (subst (λ (e : Setting). EntriesRight e (world x.answer x.file) st1.at.work.cache.entries) (sym setting_back) s.entries);
+    sound = subst (λ (k : Kept). IsSound (around_of x k) x.budget (begins k).state) (sym kept_back) s.sound;
+  }
+
+  executed_back : (x : Fixed) (st : State) (effects : List CallTree) (was : Devices) (r : Result (Unit {0}) ExecError) (now : Devices) → IsExecuted x st effects was r st1 now → IsExecuted x st effects was r st2 now
+  executed_back x st effects was r now h = record {
+    printed = h.printed;
+    puts = h.puts;
+    error = h.error;
+    told = h.told;
+    events = ap (λ (v : _). v.items) back.events ∙ h.events;
+    kept = kept_back ∙ h.kept;
+    current = ap current kept_back ∙ h.current;
+    sound = sound_back x h.sound;
   }
 
 -- ---- at a cut behind the last effect
@@ -106,12 +157,12 @@ has_put r all was now st st1 st2 same put cut faults = subst (λ (w : _). HasPut
     by (Err Memory) put (inl none) faults = record { files = []; made = none }
     by (Err Memory) put (inr before) faults = record { files = before.front; made = before.made }
 
-pub put_behind : (was now : Option (List Export)) (st st1 st2 : State) (r : Result (Unit {0}) ExecError) → HasPut was now st.written.files st1.written.files → OnEnd r (st2 ≡ st1) → OnCut r (IsForgotten st1 st2) → HasPut was now st.written.files st2.written.files
+pub put_behind : (was now : Option (List Export)) (st st1 st2 : State) (r : Result (Unit {0}) ExecError) → HasPut was now st.written.files st1.written.files → OnEnd r (IsGivenBack st1 st2) → OnCut r (IsForgotten st1 st2) → HasPut was now st.written.files st2.written.files
 put_behind was now st st1 st2 r h same gone = subst (λ (w : _). HasPut was now st.written.files w.files) (sym (by r same gone)) h
   where
-    by : (r : Result (Unit {0}) ExecError) → OnEnd r (st2 ≡ st1) → OnCut r (IsForgotten st1 st2) → st2.written ≡ st1.written
-    by (Ok u) same gone = ap (λ (s : State). s.written) same
-    by (Err (Module site code)) same gone = ap (λ (s : State). s.written) same
+    by : (r : Result (Unit {0}) ExecError) → OnEnd r (IsGivenBack st1 st2) → OnCut r (IsForgotten st1 st2) → st2.written ≡ st1.written
+    by (Ok u) same gone = same.written
+    by (Err (Module site code)) same gone = same.written
     by (Err ReadFault) same gone = gone.written
     by (Err WriteFault) same gone = gone.written
     by (Err ExportFault) same gone = gone.written
@@ -119,17 +170,17 @@ put_behind was now st st1 st2 r h same gone = subst (λ (w : _). HasPut was now 
 
 -- ---- whatever is answered
 
-pub fits_behind_cut : (st st1 st2 : State) (r : Result (Unit {0}) ExecError) → StateFits st → OnEnd r (StateFits st1) → OnCut r (IsCutFrom st st1) → OnEnd r (st2 ≡ st1) → OnCut r (IsForgotten st1 st2) → StateFits st2
-fits_behind_cut st st1 st2 (Ok u) fits end cut same gone = subst StateFits (sym same) end
-fits_behind_cut st st1 st2 (Err (Module site code)) fits end cut same gone = subst StateFits (sym same) end
+pub fits_behind_cut : (st st1 st2 : State) (r : Result (Unit {0}) ExecError) → StateFits st → OnEnd r (StateFits st1) → OnCut r (IsCutFrom st st1) → OnEnd r (IsGivenBack st1 st2) → OnCut r (IsForgotten st1 st2) → StateFits st2
+fits_behind_cut st st1 st2 (Ok u) fits end cut same gone = fits_back st1 st2 same end
+fits_behind_cut st st1 st2 (Err (Module site code)) fits end cut same gone = fits_back st1 st2 same end
 fits_behind_cut st st1 st2 (Err ReadFault) fits end cut same gone = fits_then st st1 st2 fits cut gone
 fits_behind_cut st st1 st2 (Err WriteFault) fits end cut same gone = fits_then st st1 st2 fits cut gone
 fits_behind_cut st st1 st2 (Err ExportFault) fits end cut same gone = fits_then st st1 st2 fits cut gone
 fits_behind_cut st st1 st2 (Err Memory) fits end cut same gone = fits_then st st1 st2 fits cut gone
 
-pub budget_behind : (st st1 st2 : State) (r : Result (Unit {0}) ExecError) → OnEnd r (st1.at.work.cache.budget ≡ st.at.work.cache.budget) → OnCut r (IsCutFrom st st1) → OnEnd r (st2 ≡ st1) → OnCut r (IsForgotten st1 st2) → st2.at.work.cache.budget ≡ st.at.work.cache.budget
-budget_behind st st1 st2 (Ok u) end cut same gone = ap (λ (s : State). s.at.work.cache.budget) same ∙ end
-budget_behind st st1 st2 (Err (Module site code)) end cut same gone = ap (λ (s : State). s.at.work.cache.budget) same ∙ end
+pub budget_behind : (st st1 st2 : State) (r : Result (Unit {0}) ExecError) → OnEnd r (st1.at.work.cache.budget ≡ st.at.work.cache.budget) → OnCut r (IsCutFrom st st1) → OnEnd r (IsGivenBack st1 st2) → OnCut r (IsForgotten st1 st2) → st2.at.work.cache.budget ≡ st.at.work.cache.budget
+budget_behind st st1 st2 (Ok u) end cut same gone = budget_back st1 st2 same ∙ end
+budget_behind st st1 st2 (Err (Module site code)) end cut same gone = budget_back st1 st2 same ∙ end
 budget_behind st st1 st2 (Err ReadFault) end cut same gone = gone.budget ∙ cut.budget
 budget_behind st st1 st2 (Err WriteFault) end cut same gone = gone.budget ∙ cut.budget
 budget_behind st st1 st2 (Err ExportFault) end cut same gone = gone.budget ∙ cut.budget
@@ -152,9 +203,9 @@ none_cached st1 st2 (Err ExportFault) gone = gone.entries
 none_cached st1 st2 (Err Memory) gone = gone.entries
 
 module _ (x : Fixed) (st st1 st2 : State) (effects : List CallTree) (was now : Devices) where
-  pub sound_behind_cut : (r : Result (Unit {0}) ExecError) → StateFits st → IsSoundState x st → ExecutesSo x st effects was r st1 now → OnCut r (IsCutFrom st st1) → OnEnd r (st2 ≡ st1) → OnCut r (IsForgotten st1 st2) → IsSoundState x st2
-  sound_behind_cut (Ok u) fits sound h cut same gone = subst (IsSoundState x) (sym same) h.sound
-  sound_behind_cut (Err (Module site code)) fits sound h cut same gone = subst (IsSoundState x) (sym same) h.sound
+  pub sound_behind_cut : (r : Result (Unit {0}) ExecError) → StateFits st → IsSoundState x st → ExecutesSo x st effects was r st1 now → OnCut r (IsCutFrom st st1) → OnEnd r (IsGivenBack st1 st2) → OnCut r (IsForgotten st1 st2) → IsSoundState x st2
+  sound_behind_cut (Ok u) fits sound h cut same gone = sound_back st1 st2 same x h.sound
+  sound_behind_cut (Err (Module site code)) fits sound h cut same gone = sound_back st1 st2 same x h.sound
   sound_behind_cut (Err ReadFault) fits sound h cut same gone = sound_then st st1 st2 fits cut gone x sound
   sound_behind_cut (Err WriteFault) fits sound h cut same gone = sound_then st st1 st2 fits cut gone x sound
   sound_behind_cut (Err ExportFault) fits sound h cut same gone = sound_then st st1 st2 fits cut gone x sound
@@ -166,9 +217,9 @@ module _ (x : Fixed) (st st1 st2 : State) (effects : List CallTree) (was now : D
   put_before : st2.written ≡ st1.written → (all : List _) → ArePutBefore was.puts now.puts st.written.files st1.written.files all → ArePutBefore was.puts now.puts st.written.files st2.written.files all
   put_before e all h = subst (λ y. ArePutBefore was.puts now.puts st.written.files y.files all) (sym e) h
 
-  pub executes_behind : (r : Result (Unit {0}) ExecError) → ExecutesSo x st effects was r st1 now → OnEnd r (st2 ≡ st1) → OnCut r (IsForgotten st1 st2) → ExecutesSo x st effects was r st2 now
-  executes_behind (Ok u) h same gone = subst (λ y. IsExecuted x st effects was (Ok u) y now) (sym same) h
-  executes_behind (Err (Module site code)) h same gone = subst (λ y. IsExecuted x st effects was (Err (Module site code)) y now) (sym same) h
+  pub executes_behind : (r : Result (Unit {0}) ExecError) → ExecutesSo x st effects was r st1 now → OnEnd r (IsGivenBack st1 st2) → OnCut r (IsForgotten st1 st2) → ExecutesSo x st effects was r st2 now
+  executes_behind (Ok u) h same gone = executed_back st1 st2 same x st effects was (Ok u) now h
+  executes_behind (Err (Module site code)) h same gone = executed_back st1 st2 same x st effects was (Err (Module site code)) now h
   executes_behind (Err ReadFault) h same gone = (h.0, none_put gone.written h.1)
   executes_behind (Err WriteFault) h same gone = (h.0, none_put gone.written h.1)
   executes_behind (Err ExportFault) h same gone = record { printed = h.printed; told = h.told; puts = put_before gone.written _ h.puts }

@@ -1,5 +1,5 @@
 //! An execution, up to where it is cut short.
-ghost use Rattle.std.specs.Prelude.{◌≡◌};
+ghost use Rattle.std.specs.Prelude.{◌≡◌, []};
 ghost use Rattle.dx_io.specs.Devices.{Cause};
 ghost use Rattle.dx_graph.specs.GraphView.{graph_of};
 ghost use Rattle.dx_graph.specs.Unfolding.{unfolded};
@@ -7,14 +7,16 @@ ghost use Rattle.dx_getting.specs.Told.{told};
 ghost use Rattle.dx_engine.specs.Keeping.{StateFits};
 ghost use Rattle.dx_engine.specs.Beginning.{FromState};
 ghost use Rattle.dx_engine.specs.Ending.{OnEnd, OnCut, HasPut};
-ghost use Rattle.dx_engine.specs.Cutting.{IsCutFrom, IsForgotten};
+ghost use Rattle.dx_engine.specs.Cutting.{IsCutFrom, IsForgotten, IsGivenBack};
 ghost use Rattle.dx_engine.specs.Executing.{ExecutesSo};
 ghost use Rattle.dx_engine.specs.declared.exec_error.ExecError.TheVariants.{ReadFault, WriteFault, ExportFault};
 
 use crate::exec_error::ExecError;
 use crate::state::State;
+use dx_getting::Known;
 use dx_graph::Graph;
 use dx_io::{Exports, Files, Sink};
+use dx_looking::ToldValues;
 use dx_objects::Library;
 use std::alloc::Global;
 
@@ -45,11 +47,15 @@ impl State {
         self.finish(alloc, g, gathered, exports)
     }
 
-    /// No result stays cached where an execution was cut short.
-    pub(crate) fn forget(&mut self, ended: &Result<(), ExecError>)
-        ensures end { OnEnd ended.now (self.new ≡ self.old) }
+    /// The results of an execution, and what was told in it, are given back behind it; and none stays cached where it was cut short.
+    pub(crate) fn forget(&mut self, alloc: Global, ended: &Result<(), ExecError>)
+        ensures known { self.new.at.work.known.calls ≡ [] }
+        ensures told { self.new.at.told ≡ [] }
+        ensures end { OnEnd ended.now (IsGivenBack self.old self.new) }
         ensures cut { OnCut ended.now (IsForgotten self.old self.new) }
     {
+        self.at.work.known = Known::new(alloc);
+        self.at.told = ToldValues::new(alloc);
         match ended {
             Ok(()) | Err(ExecError::Module(_, _)) => {}
             Err(_) => self.at.work.cache.clear(),

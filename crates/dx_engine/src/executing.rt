@@ -53,7 +53,7 @@ impl State {
         ensures executes { FromState L.answer (F.content files.old) self.old (λ x. ExecutesSo x self.old (unfolded (graph_of g.now)) (record { told = told (L.done lib.old) (F.asked files.old); written = O.written out.old; puts = X.puts exports.old }) result self.new (record { told = told (L.done lib.new) (F.asked files.new); written = O.written out.new; puts = X.puts exports.new })) }
     {
         let ended = self.attempt(alloc, g, files, exports, out, lib);
-        self.forget(&ended);
+        self.forget(alloc, &ended);
         ended
     }
 }
