@@ -29,7 +29,7 @@ impl State {
     /// # Errors
     ///
     /// `Module`: exactly where the execution ends in the error of a call, with the site of the call and its code. `ReadFault`,
-    /// `WriteFault`, `ExportFault`: only where that device's count of faults rose. `Memory`: only where memory ran out.
+    /// `WriteFault`, `ExportFault`: only where that device's count of faults rose. `Memory`: want of memory.
     pub fn execute<F: Files, X: Exports, O: Sink, L: Library>(
         &mut self,
         alloc: Global,
