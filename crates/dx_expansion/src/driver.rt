@@ -11,8 +11,9 @@ ghost use Rattle.dx_macros.specs.DictionaryView.{dictionary_of};
 ghost use Rattle.dx_macros.specs.Expansion.{top_spot, effects};
 ghost use Rattle.dx_base.specs.Places.{flags};
 ghost use Rattle.dx_definitions.specs.Index.{text_of};
-ghost use Rattle.dx_macros.specs.Walk.{first_fault};
+ghost use Rattle.dx_macros.specs.Walk.{first_fault, definitions_read};
 ghost use Rattle.dx_graph.specs.Trails.{IsTrail, spot_under};
+ghost use Rattle.dx_graph.specs.Graph.{no_nodes};
 ghost use Rattle.dx_graph.specs.Unfolding.{unfolded};
 ghost use Rattle.dx_graph.specs.GraphView.{graph_of, spots_in};
 ghost use Rattle.dx_expansion.specs.Expanding.{Remembers, Ready, Grows, Expands, setting, dictionary_in, top_results};
@@ -88,24 +89,24 @@ fn expand_assign<'a>(
     expand_expr(w, &text, graph, &mut before, &a.value)
 }
 
-/// A call at a position of the top level.
+/// A call at a position of the top level, whose results nothing reads.
 fn expand_top_call<'a>(
     w: &World<'a>,
     graph: &mut Graph,
     c: &'a Call,
     position: usize,
-) -> Result<Results<'a>, AllocError>
+) -> Result<(), AllocError>
     requires memo { Remembers (graph_of graph.old).nodes w.now }
     requires lawful { ∥ IsLawfulCall (plain_call c.now) ∥₁ }
     requires walked { TopWalked w.now position (of_call (plain_call c.now)) }
     requires few { HasNumbers graph.old (count_text (dictionary_in w.now).macros (of_call (plain_call c.now))) }
     ensures grows { Grows graph.old graph.new }
-    ensures expands { IfOk result (λ r. Expands (top_expanded w.now position (of_call (plain_call c.now))) graph.old graph.new r) }
-    ensures adds { OnOk result (Adds (count_text (dictionary_in w.now).macros (of_call (plain_call c.now))) graph.old graph.new) }
+    ensures expands { OnOk result (unfolded (graph_of graph.new) ≡ unfolded (graph_of graph.old) ++ effects_in (Some (of_call (plain_call c.now))) w.now position) }
 {
     let text = text_at_top(w, None, position);
     let mut before: Names<'a> = Names::new(w.alloc);
-    expand_call(w, &text, graph, &mut before, c)
+    drop(expand_call(w, &text, graph, &mut before, c)?);
+    Ok(())
 }
 
 /// A definition at its position. One that only names another has no call, and so no text of its own.
@@ -181,20 +182,32 @@ fn expand_last<'a>(
     ensures expands { OnOk result (unfolded (graph_of graph.new) ≡ unfolded (graph_of graph.old) ++ effects_in (top_text (plain_stmt s.now)) w.now position) }
 {
     match s {
-        Stmt::Call(c) => {
-            expand_top_call(w, graph, c, position)?;
-            Ok(())
-        }
-        Stmt::Sequence(c) => {
-            expand_top_call(w, graph, c, position)?;
-            Ok(())
-        }
+        Stmt::Call(c) => expand_top_call(w, graph, c, position),
+        Stmt::Sequence(c) => expand_top_call(w, graph, c, position),
         Stmt::Assign(a) => {
-            expand_assign(w, graph, a, position)?;
+            drop(expand_assign(w, graph, a, position)?);
             Ok(())
         }
         _ => Ok(()),
     }
+}
+
+/// A statement that was walked, behind the definitions that its walk marked.
+fn expand_walked<'a>(
+    w: &mut World<'a>,
+    graph: &mut Graph,
+    s: &'a Stmt,
+    marks: &Sparse<()>,
+) -> Result<(), AllocError>
+    requires rests { Rests w.old graph.old }
+    requires empty { graph_of graph.old ≡ no_nodes }
+    requires lawful { IsLawful (plain_stmt s.now) }
+    requires no_fault { first_fault (dictionary_in w.old) (plain_stmt s.now) ≡ None }
+    requires reads { flags marks.now ≡ definitions_read (dictionary_in w.old) (plain_stmt s.now) }
+    ensures means { OnOk result (unfolded (graph_of graph.new) ≡ effects (dictionary_in w.old) w.old.frames (plain_stmt s.now)) }
+{
+    define_marked(w, graph, marks)?;
+    expand_last(w, graph, s, w.dictionary.len())
 }
 
 /// A world that remembers nothing yet.
@@ -241,8 +254,7 @@ pub fn check_and_expand<'a>(
     if is_silent(&w, s) {
         return Ok(graph);
     }
-    define_marked(&mut w, &mut graph, &marks)?;
-    expand_last(&w, &mut graph, s, d.len())?;
+    expand_walked(&mut w, &mut graph, s, &marks)?;
     Ok(graph)
 }
 

@@ -14,7 +14,7 @@ ghost use Rattle.dx_graph.specs.Trails.{IsTrail, spot_under};
 ghost use Rattle.dx_graph.specs.Graph.{Node};
 ghost use Rattle.dx_graph.specs.Unfolding as trees;
 ghost use Rattle.dx_graph.specs.GraphView.{graph_of, spots_in};
-ghost use Rattle.dx_graph.specs.Operands.{GivenFits, given_of, OwnFits, Gives};
+ghost use Rattle.dx_graph.specs.Operands.{GivenFits, given_of, OperandFits, operand_tree, OwnFits, Gives, ResultsFit, results_trees};
 ghost use Rattle.dx_expansion.specs.Expanding.{Ready, Remembers, Grows, Expands, ExpandsArgs, ExpandsStatement, ExpandsBody, IsCallOf, SameText, dictionary_in, top_scope, setting, inner_setting, scope_of, expr_in, call_in, args_in, body_in, function_call, function_expanded, own_effect, applied};
 ghost use Rattle.dx_expansion.specs.Numbering.{HasNumbers, Adds, macro_calls, expr_calls, call_calls, args_calls, callee_calls, statement_calls, body_calls};
 ghost use Rattle.dx_expansion.specs.Marks.{ExprWalked, CallWalked, ArgsWalked, CalleeWalked, MacroWalked, StatementWalked, NamesWalked, BodyWalked, Holds};
@@ -141,6 +141,14 @@ pub fn expand_call<'a>(
     apply(w, t, graph, c, k, given.as_slice())
 }
 
+/// What an argument means: the first result of its expression.
+fn first_of<'a>(results: Results<'a>) -> Operand<'a>
+    ensures tree { (nodes : List Node) → operand_tree nodes result ≡ results_trees nodes results.entry 0 }
+    ensures fits { (nodes : List Node) → ResultsFit nodes results.entry → OperandFits nodes result }
+{
+    results.at(0)
+}
+
 /// The arguments of a call in a text.
 #[cycle(expand)]
 fn expand_args<'a>(
@@ -161,8 +169,7 @@ fn expand_args<'a>(
 {
     let mut given = Vec::new(w.alloc);
     for arg in args {
-        let results = expand_expr(w, t, graph, before, &arg.value)?;
-        let operand = results.at(0);
+        let operand = first_of(expand_expr(w, t, graph, before, &arg.value)?);
         put(&mut given, Given { arg, operand })?;
     }
     Ok(given)
@@ -318,13 +325,12 @@ fn expand_statement<'a>(
 {
     match s {
         Stmt::Call(c) => {
-            expand_call(w, t, graph, before, c)?;
+            drop(expand_call(w, t, graph, before, c)?);
             Ok(())
         }
         Stmt::Assign(a) => {
             let results = expand_expr(w, t, graph, before, &a.value)?;
-            assign(w.alloc, &mut t.own, a.targets.as_slice(), &results)?;
-            Ok(())
+            assign(w.alloc, &mut t.own, a.targets.as_slice(), &results)
         }
         _ => Ok(()),
     }

@@ -1,8 +1,9 @@
 //! Calls over constants: where no argument has a call, and each name means a constant that is seen at once, nothing is walked.
-ghost use Rattle.std.specs.Prelude.{◌≡◌, [], List, None, Some, All, map, IfSome};
+ghost use Rattle.std.specs.Prelude.{◌≡◌, ◌≤◌, [], List, None, Some, All, map, true, IfSome};
 ghost use Rattle.dx_ast.specs.Limits.{max_macro_steps};
 ghost use Rattle.dx_ast.specs.Lawful.{IsLawful, IsLawfulExpr, IsLawfulCall, AreLawfulArgs};
 ghost use Rattle.dx_ast.specs.Plain.{plain_expr, plain_call, plain_args, plain_stmt};
+ghost use Rattle.dx_expansion.specs.Expanding.{function_call, function_expanded};
 ghost use Rattle.dx_expansion.specs.Flat.{IsFlat, AreFlat};
 ghost use Rattle.dx_graph.specs.Graph.{Node, no_nodes};
 ghost use Rattle.dx_graph.specs.GraphView.{graph_of, spots_in};
@@ -10,12 +11,14 @@ ghost use Rattle.dx_graph.specs.Operands.{OperandFits, operand_tree, GivenFits, 
 ghost use Rattle.dx_graph.specs.Unfolding.{unfolded};
 ghost use Rattle.dx_macros.specs.Dictionary.{of_call};
 ghost use Rattle.dx_macros.specs.DictionaryView.{dictionary_of};
-ghost use Rattle.dx_macros.specs.Expansion.{effects, effects_among, kept_of};
+ghost use Rattle.dx_macros.specs.Expansion.{effects, effects_among, kept_of, top_spot};
 ghost use Rattle.dx_macros.specs.Walk.{first_fault, fault_in, walk_of};
+ghost use Rattle.dx_signatures.specs.CalleeView.{plain_callee};
+ghost use Rattle.dx_signatures.specs.Faults.{arg_names, fault_of_call};
 
 use crate::expansion::call_function;
 use dx_ast::{Arg, Call, Expr, Frames, Stmt};
-use dx_base::Few;
+use dx_base::{Few, Function};
 use dx_graph::{Given, Graph, Operand, frame_value};
 use dx_macros::{Callee, Dictionary, MAX_STEPS, called};
 use dx_signatures::fault_of_call;
@@ -65,6 +68,34 @@ fn room_for_one(alloc: Global) -> Option<Graph>
     Graph::with_capacity(alloc, 1).ok()
 }
 
+/// Whether a call with these arguments has no fault, where memory suffices to tell.
+fn is_faultless(alloc: Global, callee: Callee<'_>, args: &[Arg]) -> bool
+    ensures { result ≡ true → fault_of_call 0 (plain_callee callee.entry) max_macro_steps (arg_names (plain_args args.now)) 0 ≡ None }
+{
+    match fault_of_call(alloc, 0, callee, MAX_STEPS, args, 0) {
+        Ok(None) => true,
+        _ => false,
+    }
+}
+
+/// The graph of one call of a function in a text of the top level.
+fn graph_of_one<'a>(
+    alloc: Global,
+    function: Function,
+    given: &[Given<'a>],
+    cache: u8,
+) -> Option<Graph>
+    requires given { All (GivenFits []) given.now }
+    requires cache { cache ≤ 2 }
+    ensures { IfSome result (λ g. unfolded (graph_of g) ≡ effects_among (function_expanded function (function_call (top_spot []) function cache 1 (map (given_of []) given.now))).kept) }
+{
+    let mut graph = room_for_one(alloc)?;
+    match call_function(alloc, &mut graph, function, given, cache, None, 1) {
+        Ok(_) => Some(graph),
+        Err(_) => None,
+    }
+}
+
 /// The expansion of a call of a function over such arguments, where the call has no fault.
 fn flat_call<'a>(alloc: Global, d: &'a Dictionary, c: &'a Call, f: &Frames) -> Option<Graph>
     requires lawful { ∥ IsLawfulCall (plain_call c.now) ∥₁ }
@@ -77,23 +108,10 @@ fn flat_call<'a>(alloc: Global, d: &'a Dictionary, c: &'a Call, f: &Frames) -> O
     };
     let args = c.args.as_slice();
     let given = flat_args(alloc, d, f, args)?;
-    match fault_of_call(alloc, 0, callee, MAX_STEPS, args, 0) {
-        Ok(None) => {}
-        _ => return None,
+    if !is_faultless(alloc, callee, args) {
+        return None;
     }
-    let mut graph = room_for_one(alloc)?;
-    match call_function(
-        alloc,
-        &mut graph,
-        function,
-        given.as_slice(),
-        c.cache,
-        None,
-        1,
-    ) {
-        Ok(_) => Some(graph),
-        Err(_) => None,
-    }
+    graph_of_one(alloc, function, given.as_slice(), c.cache)
 }
 
 /// The expansion of a call of a function over constants, which has no fault: its arguments are constants, variables of the

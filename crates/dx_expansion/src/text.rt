@@ -14,7 +14,6 @@ use dx_macros::Dictionary;
 use std::alloc::Global;
 
 /// What an expansion stands on, and what it came to so far.
-#[derive(Drop)]
 pub struct World<'a> {
     pub alloc: Global,
     pub dictionary: &'a Dictionary,
@@ -24,7 +23,6 @@ pub struct World<'a> {
 }
 
 /// A text that is expanded: a macro's body, or a text of the top level.
-#[derive(Drop)]
 pub struct Text<'a> {
     /// The trail of the graph that leads to it.
     pub trail: Option<usize>,
@@ -34,6 +32,29 @@ pub struct Text<'a> {
     pub position: usize,
     /// What its parameters and targets mean.
     pub own: Own<'a>,
+}
+
+// Functions of their own, so that whoever drops a world or a text doesn't prove again how each of its parts is dropped.
+impl Drop for World<'_> {
+    fn drop(self) {
+        let World {
+            alloc: _,
+            dictionary: _,
+            frames: _,
+            memo: _,
+        } = self;
+    }
+}
+
+impl Drop for Text<'_> {
+    fn drop(self) {
+        let Text {
+            trail: _,
+            left: _,
+            position: _,
+            own: _,
+        } = self;
+    }
 }
 
 /// The position of the last target with this name; 0 where no target has it.

@@ -1,7 +1,6 @@
 use Rattle.std.proofs.Common.{arith, refl}
 use Rattle.dx_ast.specs.Plain.{plain_call}
 use Rattle.dx_macros.specs.Dictionary.{of_call}
-use Rattle.dx_graph.proofs.Growing.{if_ok, on_ok}
 use Rattle.dx_graph.proofs.Sites.{no_steps_lawful}
 use Rattle.dx_expansion.proofs.Driving.{at_top}
 use Rattle.dx_expansion.proofs.Parts.{expr_call}
@@ -17,11 +16,8 @@ expand_call-requires-clause-walked c = expr_call c.args.w.now c.text_at_top-text
 pub expand_call-requires-clause-few : goal.expand_call-requires-clause-few
 expand_call-requires-clause-few c = omega (arith, c.requires.few, c.text_at_top-text.ensures.calls (of_call (plain_call c.args.c.now)))
 
-pub returns-clause-adds : goal.returns-clause-adds
-returns-clause-adds c = on_ok c.expand_call.result (λ adds. omega (arith, adds, c.text_at_top-text.ensures.calls (of_call (plain_call c.args.c.now)))) c.expand_call.ensures.adds
-
 pub returns-clause-expands : goal.returns-clause-expands
 returns-clause-expands c =
-    let w = c.args.w.now in
     let old = c.args.graph.now in
-    if_ok c.expand_call.result (λ r h. at_top w c.args.position (of_call (plain_call c.args.c.now)) _ _ _ old old c.expand_call.new.graph r c.new-before.ensures (c.text_at_top-text.ensures.setting old) refl refl h) c.expand_call.ensures.expands
+    let e = at_top c.args.w.now c.args.position (of_call (plain_call c.args.c.now)) _ _ _ old old c.expand_call.new.graph _ c.new-before.ensures (c.text_at_top-text.ensures.setting old) refl refl c.in_ok-expand_call.ensures.expands in
+    e.effects

@@ -101,21 +101,21 @@ expand_args-loop-arg-preserved t c =
     let mid = c.loop-arg.graph in
     let now = c.expand_expr.new.graph in
     let s = setting w text old in
-    let o = c.at-operand.result in
+    let o = c.first_of-operand.result in
     let a = c.arg-item.result in
-    let r = c.in_ok-results.results in
+    let r = c.in_ok-expand_expr.field-0 in
     let ns = (graph_of now).nodes in
-    let e = c.in_ok-results.ensures.expands in
-    let fits = c.at-operand.ensures.fits ns e.gives.fits in
+    let e = c.in_ok-expand_expr.ensures.expands in
+    let fits = c.first_of-operand.ensures.fits ns e.gives.fits in
     let makes = numbering.args_make w text c.args.args.now c.loop-arg.arg-index a c.loop-arg-test.true c.arg-item.is in
     record {
       grows = grows_on old mid now c.loop-arg.invariant.grows c.expand_expr.ensures.grows;
-      few = omega (arith, c.loop-arg.invariant.few, makes, c.in_ok-results.ensures.adds);
-      adds = omega (arith, c.loop-arg.invariant.adds, makes, c.in_ok-results.ensures.adds);
+      few = omega (arith, c.loop-arg.invariant.few, makes, c.in_ok-expand_expr.ensures.adds);
+      adds = omega (arith, c.loop-arg.invariant.adds, makes, c.in_ok-expand_expr.ensures.adds);
       walked = parts.args_left w text c.args.args.now c.loop-arg.arg-index a c.loop-arg-test.true c.arg-item.is c.loop-arg.invariant.walked;
       so_far = expansions.args_step s (setting w text mid) c.args.before.now c.args.args.now c.loop-arg.arg-index a old mid now c.loop-arg.before c.expand_expr.new.before c.loop-arg.given.items c.put.new.list.items o r
-          c.loop-arg-test.true c.arg-item.is (setting_later w text old mid c.loop-arg.invariant.grows c.requires.ready) c.expand_expr.ensures.grows.nodes e c.in_ok-results.ensures.before
-          fits (c.at-operand.ensures.tree ns) _ refl fits c.in_ok-put.ensures c.loop-arg.invariant.so_far;
+          c.loop-arg-test.true c.arg-item.is (setting_later w text old mid c.loop-arg.invariant.grows c.requires.ready) c.expand_expr.ensures.grows.nodes e c.in_ok-expand_expr.ensures.before
+          fits (c.first_of-operand.ensures.tree ns) _ refl fits c.in_ok-put.ensures c.loop-arg.invariant.so_far;
     }
 
 pub expand_args-returns-clause-adds : goal.expand_args-returns-clause-adds
@@ -261,23 +261,23 @@ expand_statement-returns-in_ok-expand_call-in-Call-clause-expands t c =
     expansions.call_statement c.args.w.now c.args.t.now c.args.before.now (plain_stmt c.args.s.now) (plain_call c.in-Call.c) c.args.graph.now c.expand_call.new.graph _
     (ap plain_stmt c.in-Call.is ∙ stmt_call c.in-Call.c) c.expand_call.ensures.grows c.requires.ready.own c.in_ok-expand_call-in-Call.ensures.expands
 
-pub expand_statement-returns-in_ok-assign-in-Assign-clause-ready : goal.expand_statement-returns-in_ok-assign-in-Assign-clause-ready
-expand_statement-returns-in_ok-assign-in-Assign-clause-ready t c =
+pub expand_statement-returns-in_ok-results-in-Assign-clause-ready : goal.expand_statement-returns-in_ok-results-in-Assign-clause-ready
+expand_statement-returns-in_ok-results-in-Assign-clause-ready t c =
     let later = ready_later c.args.w.now c.args.t.now c.args.graph.now c.expand_expr.new.graph c.expand_expr.ensures.grows c.requires.ready in
     let e = c.in_ok-results-in-Assign.ensures.expands in
-    record {
+    on_ok c.assign.result (λ fits. record {
       memo = later.memo;
-      own = c.in_ok-assign-in-Assign.ensures.fits (graph_of c.expand_expr.new.graph).nodes e.gives.fits later.own;
+      own = fits (graph_of c.expand_expr.new.graph).nodes e.gives.fits later.own;
       trail = later.trail;
       spot = later.spot;
-    }
+    }) c.assign.ensures.fits
 
-pub expand_statement-returns-in_ok-assign-in-Assign-clause-expands : goal.expand_statement-returns-in_ok-assign-in-Assign-clause-expands
-expand_statement-returns-in_ok-assign-in-Assign-clause-expands t c =
+pub expand_statement-returns-in_ok-results-in-Assign-clause-expands : goal.expand_statement-returns-in_ok-results-in-Assign-clause-expands
+expand_statement-returns-in_ok-results-in-Assign-clause-expands t c =
     let w = c.args.w.now in
     let text = c.args.t.now in
     let a = c.in-Assign.a in
     let now = c.expand_expr.new.graph in
-    expansions.assign_statement w text c.args.before.now a.targets c.as_slice.result.now (plain_stmt c.args.s.now) (plain_expr a.value) c.args.graph.now now (under_name c.assign.new.own) c.in_ok-results-in-Assign.results
+    on_ok c.assign.result (λ scope. expansions.assign_statement w text c.args.before.now a.targets c.as_slice.result.now (plain_stmt c.args.s.now) (plain_expr a.value) c.args.graph.now now (under_name c.assign.new.own) c.in_ok-results-in-Assign.results
     (ap plain_stmt c.in-Assign.is ∙ stmt_assign a) c.as_slice.ensures c.expand_expr.ensures.grows c.requires.ready.own c.in_ok-results-in-Assign.ensures.expands
-    (c.in_ok-assign-in-Assign.ensures.scope (graph_of now).nodes (top_scope w text.position))
+    (scope (graph_of now).nodes (top_scope w text.position))) c.assign.ensures.scope
