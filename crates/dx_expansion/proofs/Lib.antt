@@ -14,4 +14,3 @@ pub mod Driving
 pub mod Marked
 pub mod Counted
 pub mod Silence
-pub mod FlatCalls

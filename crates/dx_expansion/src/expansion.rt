@@ -66,8 +66,9 @@ fn add_node<'a>(
     graph.call(f, inputs, cache, trail, k)
 }
 
-/// A call of a function.
-pub(crate) fn call_function<'a>(
+/// A call of a function over arguments that were expanded: a node behind the others, which is the next effect where the function has one. It
+/// answers the results of the call. Only want of memory is an error.
+pub fn call_function<'a>(
     alloc: Global,
     graph: &mut Graph,
     f: Function,

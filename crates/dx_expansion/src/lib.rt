@@ -3,10 +3,9 @@
 
 mod driver;
 mod expansion;
-mod flat;
 mod own;
 mod silent;
 mod text;
 
 pub use driver::{check_and_expand, expand, expand_silent};
-pub use flat::expand_flat;
+pub use expansion::call_function;

@@ -26,7 +26,7 @@ use Rattle.dx_macros.specs.Walk.{Walk, Walked, Goes, and_then, walked_by, Reader
 use Rattle.dx_signatures.specs.Callees.{Callee, CallsFunction}
 use Rattle.dx_signatures.specs.Faults.{arg_names, fault_of_call}
 use Rattle.dx_expansion.specs.Expanding.{last_target, function_call, function_expanded}
-use Rattle.dx_expansion.specs.Flat.{IsFlat, AreFlat}
+use Rattle.dx_flat.specs.Flat.{IsFlat, AreFlat}
 use Rattle.dx_expansion.proofs.Named.{name_called}
 use Rattle.dx_expansion.proofs.Scopes.{not_assigned, assigned_named}
 

@@ -18,10 +18,10 @@ use Rattle.dx_signatures.specs.Callees.{Callee, CallsFunction}
 use Rattle.dx_signatures.specs.CalleeView.{plain_callee}
 use Rattle.dx_signatures.specs.Faults.{arg_names, fault_of_call}
 use Rattle.dx_expansion.specs.Expanding.{function_call, function_expanded}
-use Rattle.dx_expansion.specs.Flat.{AreFlat}
-use Rattle.dx_expansion.proofs.FlatCalls.{call_goes, call_effects}
+use Rattle.dx_flat.specs.Flat.{AreFlat}
+use Rattle.dx_flat.proofs.FlatCalls.{call_goes, call_effects}
 use Rattle.dx_expansion.proofs.LawfulParts.{call_args, call_cache}
-use Rattle.dx_expansion.proofs.flat.flat_call.Goals as goal
+use Rattle.dx_flat.proofs.flat.flat_call.Goals as goal
 
 pub flat_args-requires : goal.flat_args-requires
 flat_args-requires c = record { lawful = call_args c.args.c.now c.as_slice-args.result.now c.as_slice-args.ensures c.requires.lawful }

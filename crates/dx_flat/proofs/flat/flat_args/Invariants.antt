@@ -2,8 +2,8 @@ use Rattle.std.proofs.Common.{List, All, map}
 use Rattle.dx_macros.specs.DictionaryView.{dictionary_of}
 use Rattle.dx_graph.specs.Graph.{Node}
 use Rattle.dx_graph.specs.Operands.{given_of, GivenFits}
-use Rattle.dx_expansion.proofs.FlatCalls.{FlatSoFar}
-use Rattle.dx_expansion.proofs.flat.flat_args.Given as goal
+use Rattle.dx_flat.proofs.FlatCalls.{FlatSoFar}
+use Rattle.dx_flat.proofs.flat.flat_args.Given as goal
 
 abbrev pub invariant-loop-arg : goal.invariant-loop-arg
 invariant-loop-arg l = record {

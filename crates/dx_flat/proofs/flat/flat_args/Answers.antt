@@ -2,9 +2,9 @@ use Rattle.std.proofs.Common.{refl, arith}
 use Rattle.dx_macros.specs.DictionaryView.{dictionary_of}
 use Rattle.dx_graph.proofs.Taking.{all_push}
 use Rattle.dx_graph.specs.Operands.{GivenFits}
-use Rattle.dx_expansion.proofs.FlatCalls.{flat_step, flat_done}
+use Rattle.dx_flat.proofs.FlatCalls.{flat_step, flat_done}
 use Rattle.dx_expansion.proofs.LawfulParts.{arg_lawful}
-use Rattle.dx_expansion.proofs.flat.flat_args.Goals as goal
+use Rattle.dx_flat.proofs.flat.flat_args.Goals as goal
 
 pub flat_operand-requires : goal.flat_operand-requires
 flat_operand-requires c = record { lawful = arg_lawful c.args.args.now c.loop-arg.arg-index c.arg-item.result c.loop-arg-test.true c.arg-item.is c.requires.lawful }
