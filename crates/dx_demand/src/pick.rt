@@ -108,7 +108,7 @@ fn held_or(links: &Links, k: &Key) -> Pick
     ensures forms { pick_forms result ≡ plain.held_or ((forms_with links.now.links).held k.now) }
 {
     match links.get(k) {
-        Some(held) => Pick::Held(held.tag()),
+        Some(held) => Pick::Held(held.tag),
         None => Pick::Input(0),
     }
 }

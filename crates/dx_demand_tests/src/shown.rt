@@ -6,7 +6,7 @@ use dx_ast::{Const, name};
 use dx_base::Function;
 use dx_demand::{Resolved, Seen};
 use dx_graph::Graph;
-use dx_tags::{Tag, Tags, Term, ValueTag};
+use dx_tags::{Named, Tag, Tags, Term, ValueTag};
 use std::alloc::{AllocError, Global};
 
 fn put(out: &mut Vec<u8>, piece: &str) -> Result<(), AllocError> {
@@ -98,13 +98,15 @@ fn put_arguments(
     Ok(())
 }
 
+fn put_held(alloc: Global, n: u64, out: &mut Vec<u8>) -> Result<(), AllocError> {
+    put(out, "held ")?;
+    put_number(alloc, out, n)
+}
+
 fn put_term(alloc: Global, t: &Term, out: &mut Vec<u8>) -> Result<(), AllocError> {
     match t {
         Term::Constant(c) => put_const(alloc, c, out),
-        Term::Held(n) => {
-            put(out, "held ")?;
-            put_number(alloc, out, *n)
-        }
+        Term::Held(n) => put_held(alloc, *n, out),
         Term::Call(m, arguments) => {
             out.extend_from_slice(name(Function::Module(*m)))?;
             put_arguments(alloc, arguments.as_slice(), out)
@@ -113,6 +115,13 @@ fn put_term(alloc: Global, t: &Term, out: &mut Vec<u8>) -> Result<(), AllocError
             put(out, "file ")?;
             out.extend_from_slice(content.bytes())
         }
+    }
+}
+
+fn put_named(alloc: Global, t: Named, out: &mut Vec<u8>) -> Result<(), AllocError> {
+    match t {
+        Named::Held(n) => put_held(alloc, n, out),
+        Named::Formed(t) => put_term(alloc, t, out),
     }
 }
 
@@ -127,7 +136,7 @@ pub fn put_terms(
 ) -> Result<(), AllocError> {
     for tag in first..tags.count() {
         put(out, " | ")?;
-        put_term(alloc, tags.term(tag), out)?;
+        put_named(alloc, tags.term(tag), out)?;
         if let Some(n) = seen.node_of(tag) {
             put_site(alloc, g, " by ", n, out)?;
         }

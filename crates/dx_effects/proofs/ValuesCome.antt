@@ -49,6 +49,7 @@ looking_by setup at work l calls = record {
   exact = l.exact;
   links = l.links;
   bound = l.bound;
+  below = l.below;
   entries = calls;
   told = l.told;
   fits = l.fits;

@@ -45,7 +45,7 @@ pub(crate) fn got_values<F: Files, L: Library>(
         alloc: setup.alloc,
         tags: &at.tags,
         links: setup.bound,
-        held: setup.held,
+        held: setup.links,
     };
     let calls = Calls {
         graph: setup.graph,

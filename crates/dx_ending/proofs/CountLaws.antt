@@ -1,8 +1,7 @@
 -- How many links have a tag, as links and values change.
-use Rattle.std.proofs.Common.{◌≡◌, ◌⊎◌, inl, inr, ℕ, suc, ◌+◌, ◌≤◌, ◌<◌, List, [], ◌∷◌, ◌++◌, length, take, Bool, true, false, Option, Some, None, refl, sym, ap, ◌∙◌, subst, arith}
-use Rattle.std.specs.Prelude.{◌==◌, ◌&&◌, ◌-◌, not, is_some, slice_get, if◌then◌else◌}
-use Rattle.std.proofs.lemmas.List.{take_more}
-use Rattle.std.proofs.lemmas.Option.{get_or_from_slice_get, slice_get_within}
+use Rattle.std.proofs.Common.{◌≡◌, ◌⊎◌, inl, inr, ⊎_elim, ℕ, zero, suc, ◌+◌, ◌≤◌, ◌<◌, List, [], ◌∷◌, length, Bool, true, false, Option, Some, None, refl, sym, ap, ◌∙◌, subst, arith}
+use Rattle.std.specs.Prelude.{◌==◌, ◌&&◌, ◌-◌, not, is_some, if◌then◌else◌}
+use Rattle.std.proofs.lemmas.Bool.{cases_lt}
 use Rattle.std.specs.List.{IsDistinct, AllByRecursion}
 use Rattle.std.specs.List.Sorted.{IsStrictlySortedBy}
 use Rattle.std.specs.Map.{keys_of, lookup, remove_entry}
@@ -17,6 +16,7 @@ use Rattle.dx_tags.specs.declared.term.ValueTag.{ValueTag}
 use Rattle.dx_tags.specs.contracts.term.ValueTagPartialEq.TheImpl as tags
 use Rattle.dx_links.specs.declared.key.Key.{Key}
 use Rattle.dx_links.specs.declared.held.Change.{Change}
+use Rattle.dx_links.specs.Emptied.{front_held, all_held}
 use Rattle.dx_links.specs.Holding.{Holding}
 use Rattle.dx_links.specs.LinkMap.{LinkMap, key_cmp, held_at, put_at}
 use Rattle.dx_links.proofs.LinkLaws.{AreSorted, key_cmp_total}
@@ -109,17 +109,11 @@ pub count_put : (links : LinkMap) (k : Key) (o : Option Holding) → length (put
 count_put links k (Some h) = count_set k h links
 count_put links k None = count_taken k links
 
--- one link more at the end
-with_last : (t : ValueTag) (l : Key × Holding) (links : LinkMap) → links_with t (links ++ l ∷ []) ≡ held_with t (Some l.1) + links_with t links
-with_last t l [] = refl
-with_last t l (x ∷ xs) = let rest = with_last t l xs in omega (arith, rest)
-
-with_more : (t : ValueTag) (links : LinkMap) (i : ℕ) (l : Key × Holding) → slice_get links i ≡ Some l → links_with t (take (i + 1) links) ≡ held_with t (Some l.1) + links_with t (take i links)
-with_more t links i l e =
-    ap (links_with t) (take_more links i l (slice_get_within links i l e) ∙ ap (λ x. take i links ++ x ∷ []) (get_or_from_slice_get links i l l e))
-    ∙ with_last t l (take i links)
-
 -- ---- what is found by tags
+
+some_there : (n : ℕ) → (n == 0) ≡ false → 1 ≤ n
+some_there zero q = cc
+some_there (suc n) q = omega arith
 
 not_none : (n : ℕ) → 1 ≤ n → true ≡ not (n == 0)
 not_none n h = cases (n == 0)
@@ -140,84 +134,118 @@ found_more t (Some h) was now n m w v e = cases (tags.ghosts.eq h.tag t)
 
 -- ---- a link is released
 
-module _ (links : LinkMap) (k : Key) (h : Holding) (tag : ValueTag) (old new : Table) (at : held_at k links ≡ Some h) (same : tag ≡ h.tag) (b : IsBound links old)
-    (counts : (t : ValueTag) → count_in t new.counts ≡ (if tags.ghosts.eq tag t then count_in tag old.counts - 1 else count_in t old.counts))
-    (values : (t : ValueTag) → lookup (tags.ghosts.eq t) new.pairs ≡ (if tags.ghosts.eq tag t && (count_in tag old.counts - 1 == 0) then None else lookup (tags.ghosts.eq t) old.pairs)) where
+module _ (links : LinkMap) (k : Key) (h : Holding) (old new : Table) (at : held_at k links ≡ Some h) (b : IsBound links old) (from : new.from ≡ old.from)
+    (counts : (t : ValueTag) → count_in t new.counts ≡ (if tags.ghosts.eq h.tag t then count_in h.tag old.counts - 1 else count_in t old.counts))
+    (values : (t : ValueTag) → lookup (tags.ghosts.eq t) new.pairs ≡ (if tags.ghosts.eq h.tag t && (count_in h.tag old.counts - 1 == 0) then None else lookup (tags.ghosts.eq t) old.pairs)) where
   -- whether the link has a tag
-  has : (t : ValueTag) → held_with t (held_at k links) ≡ (if tags.ghosts.eq tag t then 1 else 0)
-  has t = ap (held_with t) at ∙ ap (λ u. if tags.ghosts.eq t u then 1 else 0) (sym same) ∙ ap (λ (x : Bool). if x then 1 else 0) (one_way t tag)
+  has : (t : ValueTag) → held_with t (held_at k links) ≡ (if tags.ghosts.eq h.tag t then 1 else 0)
+  has t = ap (held_with t) at ∙ ap (λ (x : Bool). if x then 1 else 0) (one_way t h.tag)
 
-  has_own : (t : ValueTag) → tags.ghosts.eq tag t ≡ true → held_with t (held_at k links) ≡ 1
+  has_own : (t : ValueTag) → tags.ghosts.eq h.tag t ≡ true → held_with t (held_at k links) ≡ 1
   has_own t q = has t ∙ ap (λ (x : Bool). if x then 1 else 0) q
 
-  count_own : (t : ValueTag) → tags.ghosts.eq tag t ≡ true → count_in t new.counts ≡ count_in t old.counts - 1
+  count_own : (t : ValueTag) → tags.ghosts.eq h.tag t ≡ true → count_in t new.counts ≡ count_in t old.counts - 1
   count_own t q =
-      counts t ∙ ap (λ (x : Bool). if x then count_in tag old.counts - 1 else count_in t old.counts) q
-      ∙ ap (λ u. count_in u old.counts - 1) ((tag_decides tag t).0 q)
+      counts t ∙ ap (λ (x : Bool). if x then count_in h.tag old.counts - 1 else count_in t old.counts) q
+      ∙ ap (λ u. count_in u old.counts - 1) ((tag_decides h.tag t).0 q)
 
-  count_other : (t : ValueTag) → tags.ghosts.eq tag t ≡ false → count_in t new.counts ≡ count_in t old.counts
-  count_other t q = counts t ∙ ap (λ (x : Bool). if x then count_in tag old.counts - 1 else count_in t old.counts) q
+  count_other : (t : ValueTag) → tags.ghosts.eq h.tag t ≡ false → count_in t new.counts ≡ count_in t old.counts
+  count_other t q = counts t ∙ ap (λ (x : Bool). if x then count_in h.tag old.counts - 1 else count_in t old.counts) q
 
-  less : (t : ValueTag) → count_in t new.counts + held_with t (held_at k links) ≡ links_with t links
-  less t = cases (tags.ghosts.eq tag t)
-      (λ q. let one = has_own t q in let count = count_own t q in let was = b.counted t in let some = with_held t k links in omega (arith, one, count, was, some))
-      (λ q. let none : held_with t (held_at k links) ≡ 0 = has t ∙ ap (λ (x : Bool). if x then 1 else 0) q in let count = count_other t q in let was = b.counted t in omega (arith, none, count, was))
+  none_more : (t : ValueTag) → count_in t new.counts ≤ count_in t old.counts
+  none_more t = cases (tags.ghosts.eq h.tag t) (λ q. let count = count_own t q in omega (arith, count)) (λ q. let count = count_other t q in omega (arith, count))
+
+  still_below : (t : ValueTag) → t.tag < new.from → count_in t new.counts ≡ 0
+  still_below t l = let was = b.below t (subst (λ n. t.tag < n) from l) in let less = none_more t in omega (arith, was, less)
+
+  less : (t : ValueTag) → new.from ≤ t.tag → count_in t new.counts + held_with t (held_at k links) ≡ links_with t links
+  less t l =
+      let was = b.counted t (subst (λ n. n ≤ t.tag) from l) in
+      cases (tags.ghosts.eq h.tag t)
+      (λ q. let one = has_own t q in let count = count_own t q in let some = with_held t k links in omega (arith, one, count, was, some))
+      (λ q. let none : held_with t (held_at k links) ≡ 0 = has t ∙ ap (λ (x : Bool). if x then 1 else 0) q in let count = count_other t q in omega (arith, none, count, was))
 
   still_found : (t : ValueTag) → is_some (lookup (tags.ghosts.eq t) new.pairs) ≡ not (count_in t new.counts == 0)
-  still_found t = cases (tags.ghosts.eq tag t)
-      (λ q. let one = has_own t q in let some = with_held t k links in
-      own t q (cases (count_in tag old.counts - 1 == 0)
+  still_found t = cases (tags.ghosts.eq h.tag t)
+      (λ q. own q (cases (count_in h.tag old.counts - 1 == 0)
       (λ none. ap (λ (x : Bool). is_some (if x then None else lookup (tags.ghosts.eq t) old.pairs)) none ∙ ap not (sym none))
-      (λ left. ap (λ (x : Bool). is_some (if x then None else lookup (tags.ghosts.eq t) old.pairs)) left ∙ b.found t ∙ sym (not_none (links_with t links) (omega (arith, one, some))) ∙ ap not (sym left))))
-      (λ q. ap is_some (values t) ∙ ap (λ (x : Bool). is_some (if x && (count_in tag old.counts - 1 == 0) then None else lookup (tags.ghosts.eq t) old.pairs)) q
-      ∙ b.found t ∙ ap (λ n. not (n == 0)) (sym (b.counted t) ∙ sym (count_other t q)))
+      (λ left. ap (λ (x : Bool). is_some (if x then None else lookup (tags.ghosts.eq t) old.pairs)) left ∙ b.found t
+      ∙ sym (not_none (count_in t old.counts) (left_some (count_in h.tag old.counts) (count_in t old.counts) left (ap (λ u. count_in u old.counts) ((tag_decides h.tag t).0 q)))) ∙ ap not (sym left))))
+      (λ q. ap is_some (values t) ∙ ap (λ (x : Bool). is_some (if x && (count_in h.tag old.counts - 1 == 0) then None else lookup (tags.ghosts.eq t) old.pairs)) q
+      ∙ b.found t ∙ ap (λ n. not (n == 0)) (sym (count_other t q)))
     where
-      own : (t : ValueTag) → tags.ghosts.eq tag t ≡ true → is_some (if count_in tag old.counts - 1 == 0 then None else lookup (tags.ghosts.eq t) old.pairs) ≡ not (count_in tag old.counts - 1 == 0) → is_some (lookup (tags.ghosts.eq t) new.pairs) ≡ not (count_in t new.counts == 0)
-      own t q e =
-          ap is_some (values t) ∙ ap (λ (x : Bool). is_some (if x && (count_in tag old.counts - 1 == 0) then None else lookup (tags.ghosts.eq t) old.pairs)) q
-          ∙ e ∙ ap (λ n. not (n == 0)) (ap (λ u. count_in u old.counts - 1) ((tag_decides tag t).0 q) ∙ sym (count_own t q))
+      left_some : (n m : ℕ) → (n - 1 == 0) ≡ false → n ≡ m → 1 ≤ m
+      left_some n m q e = cases (m == 0)
+          (λ z. let none : m ≡ 0 = (unsigned_Decides m 0).0 z in
+          let zero : (n - 1) ≡ 0 = omega (arith, none, e) in
+          absurd (let two : true ≡ false = sym ((unsigned_Decides (n - 1) 0).1 zero) ∙ q in cc))
+          (λ z. some_there m z)
+
+      own : tags.ghosts.eq h.tag t ≡ true → is_some (if count_in h.tag old.counts - 1 == 0 then None else lookup (tags.ghosts.eq t) old.pairs) ≡ not (count_in h.tag old.counts - 1 == 0) → is_some (lookup (tags.ghosts.eq t) new.pairs) ≡ not (count_in t new.counts == 0)
+      own q e =
+          ap is_some (values t) ∙ ap (λ (x : Bool). is_some (if x && (count_in h.tag old.counts - 1 == 0) then None else lookup (tags.ghosts.eq t) old.pairs)) q
+          ∙ e ∙ ap (λ n. not (n == 0)) (ap (λ u. count_in u old.counts - 1) ((tag_decides h.tag t).0 q) ∙ sym (count_own t q))
 
   pub released : IsDistinct tags.ghosts.eq (keys_of new.pairs) → IsReleased links (held_at k links) new
-  released once = record { once = once; counted = less; found = still_found }
+  released once = record { once = once; below = still_below; counted = less; found = still_found }
 
 -- ---- a key holds something else
 
-module _ (links : LinkMap) (k : Key) (o : Option Holding) (mid new : Table) (sorted : AreSorted links) (r : IsReleased links (held_at k links) mid)
-    (counts : (t : ValueTag) → count_in t new.counts ≡ held_with t o + count_in t mid.counts)
-    (values : (t : ValueTag) → lookup (tags.ghosts.eq t) new.pairs ≡ found_with t o (lookup (tags.ghosts.eq t) mid.pairs)) where
-  counted : (t : ValueTag) → count_in t new.counts ≡ links_with t (put_at links k o)
-  counted t = let made = with_put t k o links sorted in let was = r.counted t in let now = counts t in omega (arith, made, was, now)
+-- what holding does to counts and values
+pub record IsHeldFrom (o : Option Holding) (old new : Table) : Type 0 where
+  pub from : new.from ≡ old.from
+  pub counts : (t : ValueTag) → old.from ≤ t.tag → count_in t new.counts ≡ held_with t o + count_in t old.counts
+  pub values : (t : ValueTag) → old.from ≤ t.tag → lookup (tags.ghosts.eq t) new.pairs ≡ found_with t o (lookup (tags.ghosts.eq t) old.pairs)
+  pub counts_below : (t : ValueTag) → t.tag < old.from → count_in t new.counts ≡ count_in t old.counts
+  pub values_below : (t : ValueTag) → t.tag < old.from → lookup (tags.ghosts.eq t) new.pairs ≡ lookup (tags.ghosts.eq t) old.pairs
+  pub once : IsDistinct tags.ghosts.eq (keys_of new.pairs)
 
-  pub changed : IsDistinct tags.ghosts.eq (keys_of new.pairs) → IsBound (put_at links k o) new
-  changed once = record {
-    once = once;
+module _ (links : LinkMap) (k : Key) (o : Option Holding) (mid new : Table) (sorted : AreSorted links) (r : IsReleased links (held_at k links) mid) (is : IsHeldFrom o mid new) where
+  counted : (t : ValueTag) → new.from ≤ t.tag → count_in t new.counts ≡ links_with t (put_at links k o)
+  counted t l =
+      let h : mid.from ≤ t.tag = subst (λ n. n ≤ t.tag) is.from l in
+      let made = with_put t k o links sorted in let was = r.counted t h in let now = is.counts t h in omega (arith, made, was, now)
+
+  found_now : (t : ValueTag) → is_some (lookup (tags.ghosts.eq t) new.pairs) ≡ not (count_in t new.counts == 0)
+  found_now t = ⊎_elim
+      (λ l. ap is_some (is.values_below t l) ∙ r.found t ∙ ap (λ n. not (n == 0)) (sym (is.counts_below t l)))
+      (λ l. found_more t o (lookup (tags.ghosts.eq t) mid.pairs) (lookup (tags.ghosts.eq t) new.pairs) (count_in t mid.counts) (count_in t new.counts) (r.found t) (is.values t l) (is.counts t l))
+      (cases_lt t.tag mid.from)
+
+  pub changed : IsBound (put_at links k o) new
+  changed = record {
+    once = is.once;
+    below = λ t l. let h : t.tag < mid.from = subst (λ n. t.tag < n) is.from l in is.counts_below t h ∙ r.below t h;
     counted = counted;
-    found = λ t. found_more t o (lookup (tags.ghosts.eq t) mid.pairs) (lookup (tags.ghosts.eq t) new.pairs) (count_in t mid.counts) (count_in t new.counts) (r.found t) (values t) (counts t)
-        ∙ ap (λ n. not (n == 0)) (counted t);
+    found = found_now;
   }
 
 pub few_released : (links : LinkMap) (held : Option Holding) (bound : Table) (n : ℕ) → IsReleased links held bound → length links + 1 < n → (t : ValueTag) → 1 + count_in t bound.counts < n
-few_released links held bound n r h t = let was = r.counted t in let few = with_few t links in omega (arith, was, few, h)
+few_released links held bound n r h t = ⊎_elim
+    (λ l. let none = r.below t l in omega (arith, none, h))
+    (λ l. let was = r.counted t l in let few = with_few t links in omega (arith, was, few, h))
+    (cases_lt t.tag bound.from)
 
 -- ---- where values come from
 
-pub come_set : (c : Change) (old mid new : BoundValues) → ComeFrom [] old mid → ((t : ValueTag) → lookup (tags.ghosts.eq t) new ≡ found_with t c.held (lookup (tags.ghosts.eq t) mid)) → ComeFrom (c ∷ []) old new
-come_set c old mid new from values t o e = by c.held (sym (values t) ∙ e)
+pub come_set : (c : Change) (old : BoundValues) (mid new : Table) → ComeFrom [] old mid.pairs → ((t : ValueTag) → mid.from ≤ t.tag → lookup (tags.ghosts.eq t) new.pairs ≡ found_with t c.held (lookup (tags.ghosts.eq t) mid.pairs))
+    → ((t : ValueTag) → t.tag < mid.from → lookup (tags.ghosts.eq t) new.pairs ≡ lookup (tags.ghosts.eq t) mid.pairs) → ComeFrom (c ∷ []) old new.pairs
+come_set c old mid new from values below t o e = ⊎_elim (λ l. kept c.held (sym (below t l) ∙ e)) (λ l. by c.held (sym (values t l) ∙ e)) (cases_lt t.tag mid.from)
   where
-    kept : (held : Option Holding) → lookup (tags.ghosts.eq t) mid ≡ Some o → (lookup (tags.ghosts.eq t) old ≡ Some o) ⊎ ((held ≡ Some (record { value = o; tag = t })) ⊎ ⊥)
+    kept : (held : Option Holding) → lookup (tags.ghosts.eq t) mid.pairs ≡ Some o → (lookup (tags.ghosts.eq t) old ≡ Some o) ⊎ ((held ≡ Some (record { value = o; tag = t })) ⊎ ⊥)
     kept held at = was (from t o at)
       where
         was : (lookup (tags.ghosts.eq t) old ≡ Some o) ⊎ ⊥ → (lookup (tags.ghosts.eq t) old ≡ Some o) ⊎ ((held ≡ Some (record { value = o; tag = t })) ⊎ ⊥)
         was (inl a) = inl a
         was (inr n) = absurd n
 
-    by : (held : Option Holding) → found_with t held (lookup (tags.ghosts.eq t) mid) ≡ Some o → (lookup (tags.ghosts.eq t) old ≡ Some o) ⊎ ((held ≡ Some (record { value = o; tag = t })) ⊎ ⊥)
+    by : (held : Option Holding) → found_with t held (lookup (tags.ghosts.eq t) mid.pairs) ≡ Some o → (lookup (tags.ghosts.eq t) old ≡ Some o) ⊎ ((held ≡ Some (record { value = o; tag = t })) ⊎ ⊥)
     by None at = kept None at
     by (Some h) at = cases (tags.ghosts.eq h.tag t)
-        (λ q. inr (inl (let both : Some h.value ≡ Some o = sym (ap (λ (b : Bool). if b then Some h.value else lookup (tags.ghosts.eq t) mid) q) ∙ at in
+        (λ q. inr (inl (let both : Some h.value ≡ Some o = sym (ap (λ (b : Bool). if b then Some h.value else lookup (tags.ghosts.eq t) mid.pairs) q) ∙ at in
         let value : h.value ≡ o = cc in
         λ j. Some (record { value = value j; tag = (tag_decides h.tag t).0 q j }))))
-        (λ q. kept (Some h) (sym (ap (λ (b : Bool). if b then Some h.value else lookup (tags.ghosts.eq t) mid) q) ∙ at))
+        (λ q. kept (Some h) (sym (ap (λ (b : Bool). if b then Some h.value else lookup (tags.ghosts.eq t) mid.pairs) q) ∙ at))
 
 pub come_more : (c : Change) (cs : List Change) (old mid new : BoundValues) → ComeFrom (c ∷ []) old mid → ComeFrom cs mid new → ComeFrom (c ∷ cs) old new
 come_more c cs old mid new first rest t o e = later (rest t o e)
@@ -234,48 +262,43 @@ come_more c cs old mid new first rest t o e = later (rest t o e)
 pub come_none : (values : BoundValues) → ComeFrom [] values values
 come_none values t o e = inl e
 
--- ---- all links
+-- ---- no values
 
 pub first_bound : (bound : Table) → bound.pairs ≡ [] → bound.counts ≡ [] → IsBound [] bound
 unfolding IsDistinct
 first_bound bound p n = record {
   once = subst (λ (xs : BoundValues). IsDistinct tags.ghosts.eq (keys_of xs)) (sym p) tt;
-  counted = λ t. ap (count_in t) n;
-  found = λ t. ap (λ xs. is_some (lookup (tags.ghosts.eq t) xs)) p;
+  below = λ t _. ap (count_in t) n;
+  counted = λ t _. ap (count_in t) n;
+  found = λ t. ap (λ xs. is_some (lookup (tags.ghosts.eq t) xs)) p ∙ ap (λ cs. not (count_in t cs == 0)) (sym n);
 }
 
 pub nothing_found : (links : LinkMap) (values : BoundValues) → values ≡ [] → AreLinks links values
 nothing_found links values p t o e = absurd (let none : None ≡ Some o = sym (ap (lookup (tags.ghosts.eq t)) p) ∙ e in cc)
 
--- what one hold does to counts and values
-pub record IsHeld (h : Holding) (old new : Table) : Type 0 where
-  pub counts : (t : ValueTag) → count_in t new.counts ≡ (if tags.ghosts.eq h.tag t then 1 + count_in h.tag old.counts else count_in t old.counts)
-  pub values : (t : ValueTag) → lookup (tags.ghosts.eq t) new.pairs ≡ (if tags.ghosts.eq h.tag t then Some h.value else lookup (tags.ghosts.eq t) old.pairs)
-  pub once : IsDistinct tags.ghosts.eq (keys_of new.pairs)
+-- each link has a tag below this
+abbrev AllBelow : ℕ → LinkMap → Type 0
+AllBelow n [] = Unit {0}
+AllBelow n (l ∷ ls) = (l.1.tag.tag < n) × AllBelow n ls
 
-module _ (links : LinkMap) (i : ℕ) (k : Key) (h : Holding) (old new : Table) (at : slice_get links i ≡ Some (k, h)) (is : IsHeld h old new) where
-  one_more : (t : ValueTag) → count_in t new.counts ≡ held_with t (Some h) + count_in t old.counts
-  one_more t = cases (tags.ghosts.eq h.tag t)
-      (λ q. let one : held_with t (Some h) ≡ 1 = ap (λ (b : Bool). if b then 1 else 0) (one_way t h.tag ∙ q) in
-      let count : count_in t new.counts ≡ 1 + count_in t old.counts = is.counts t ∙ ap (λ (b : Bool). if b then 1 + count_in h.tag old.counts else count_in t old.counts) q ∙ ap (λ u. 1 + count_in u old.counts) ((tag_decides h.tag t).0 q) in
-      omega (arith, one, count))
-      (λ q. let none : held_with t (Some h) ≡ 0 = ap (λ (b : Bool). if b then 1 else 0) (one_way t h.tag ∙ q) in
-      let count : count_in t new.counts ≡ count_in t old.counts = is.counts t ∙ ap (λ (b : Bool). if b then 1 + count_in h.tag old.counts else count_in t old.counts) q in
-      omega (arith, none, count))
+none_from : (n : ℕ) (links : LinkMap) → AllBelow n links → (t : ValueTag) → n ≤ t.tag → links_with t links ≡ 0
+none_from n [] a t h = refl
+none_from n (l ∷ ls) a t h = cases (tags.ghosts.eq t l.1.tag)
+    (λ q. let same = ap (λ (u : ValueTag). u.tag) ((tag_decides t l.1.tag).0 q) in let low = a.0 in absurd (omega (arith, same, low, h)))
+    (λ q. ap (λ (b : Bool). (if b then 1 else 0) + links_with t ls) q ∙ ap (λ m. 0 + m) (none_from n ls a.1 t h))
 
-  pub bound_more : IsBound (take i links) old → IsBound (take (i + 1) links) new
-  bound_more b = record {
-    once = is.once;
-    counted = now;
-    found = λ t. found_more t (Some h) (lookup (tags.ghosts.eq t) old.pairs) (lookup (tags.ghosts.eq t) new.pairs) (links_with t (take i links)) (links_with t (take (i + 1) links)) (b.found t) (is.values t) (with_more t links i (k, h) at);
-  }
-    where
-      now : (t : ValueTag) → count_in t new.counts ≡ links_with t (take (i + 1) links)
-      now t = let made = one_more t in let was = b.counted t in let more = with_more t links i (k, h) at in omega (arith, made, was, more)
+below_bound : (links : LinkMap) (bound : Table) → AllBelow bound.from links → bound.pairs ≡ [] → bound.counts ≡ [] → IsBound links bound
+below_bound links bound a p n = let none = first_bound bound p n in record {
+  once = none.once;
+  below = none.below;
+  counted = λ t h. ap (count_in t) n ∙ sym (none_from bound.from links a t h);
+  found = none.found;
+}
 
-  pub links_more : AreLinks links old.pairs → AreLinks links new.pairs
-  links_more a t o e = cases (tags.ghosts.eq h.tag t)
-      (λ q. let both : Some h.value ≡ Some o = sym (ap (λ (b : Bool). if b then Some h.value else lookup (tags.ghosts.eq t) old.pairs) q) ∙ sym (is.values t) ∙ e in
-      let value : h.value ≡ o = cc in
-      record { place = i; link = (k, h); at = at; tag = (tag_decides h.tag t).0 q; object = value })
-      (λ q. a t o (sym (ap (λ (b : Bool). if b then Some h.value else lookup (tags.ghosts.eq t) old.pairs) q) ∙ sym (is.values t) ∙ e))
+held_below : (n m : ℕ) (links : LinkMap) → m + length links ≤ n → AllBelow n (front_held (length links) m links)
+held_below n m [] h = tt
+held_below n m (l ∷ ls) h = (omega (arith, h), held_below n (suc m) ls (omega (arith, h)))
+
+-- after an emptying no values are kept by terms
+pub emptied_bound : (links : LinkMap) (bound : Table) → bound.from ≡ length links → bound.pairs ≡ [] → bound.counts ≡ [] → IsBound (all_held links) bound
+emptied_bound links bound f p n = below_bound (all_held links) bound (subst (λ m. AllBelow m (all_held links)) (sym f) (held_below (length links) 0 links (omega arith))) p n

@@ -2,11 +2,13 @@
 use Rattle.std.proofs.Common.{◌≡◌, ℕ, zero, suc, ◌+◌, ◌<◌, ◌≤◌, List, [], ◌∷◌, ◌++◌, length, map, Some, refl, sym, ap, ap₂, ◌∙◌, arith}
 use Rattle.dx_tags.specs.declared.term.Term.TheVariants.{Held as HeldBy}
 use Rattle.dx_tags.specs.Closed.{Head, HeldHead, HeldTerm, head_at, heads_of, result_of_head}
+use Rattle.dx_tags.specs.HeldTerms.{held_terms}
 use Rattle.dx_tags.proofs.ClosedTerms.{head_unfolds}
+use Rattle.dx_tags.proofs.HeldTerms.{held_at}
 use Rattle.dx_links.specs.declared.key.Key.{Key}
+use Rattle.dx_links.specs.Emptied.{values_held, front_held, all_held}
 use Rattle.dx_links.specs.LinkMap.{LinkMap}
-use Rattle.dx_getting.specs.Emptied.{held_terms, values_held, front_held, all_held}
-use Rattle.dx_getting.proofs.EmptyLaws.{held_at, held_exact}
+use Rattle.dx_getting.proofs.EmptyLaws.{held_exact}
 use Rattle.dx_demand.specs.Forming.{named_terms}
 use Rattle.dx_demand.proofs.FormedTerms.{named_more}
 use Rattle.dx_performing.specs.Kept as machine

@@ -2,7 +2,8 @@
 use Rattle.std.specs.Prelude.{◌≡◌, List, [], length}
 use Rattle.dx_tags.specs.Closed.{Head, heads_of}
 use Rattle.dx_links.specs.LinkMap.{LinkMap}
-use Rattle.dx_getting.specs.Emptied.{held_terms, values_held, all_held}
+use Rattle.dx_tags.specs.HeldTerms.{held_terms}
+use Rattle.dx_links.specs.Emptied.{values_held, all_held}
 use Rattle.dx_demand.specs.Forming.{named_terms}
 use Rattle.dx_performing.specs.Kept.{Kept, emptied}
 use Rattle.dx_looking.specs.Setting.{links_of}

@@ -53,11 +53,12 @@ abbrev pub found_with : ValueTag → Option Holding → Option Object → Option
 found_with t None was = was
 found_with t (Some h) was = if tags.ghosts.eq h.tag t then Some h.value else was
 
--- the links but that of one key, which holds this or isn't there, are counted, and a value is found by each of their tags
--- and by no other
+-- the links but that of one key, which holds this or isn't there, are counted from one tag on, and a value is found by each tag
+-- that is counted and by no other
 pub record IsReleased (links : LinkMap) (held : Option Holding) (bound : Table) : Type 0 where
   pub once : IsDistinct tags.ghosts.eq (keys_of bound.pairs)
-  pub counted : (t : ValueTag) → count_in t bound.counts + held_with t held ≡ links_with t links
+  pub below : (t : ValueTag) → t.tag < bound.from → count_in t bound.counts ≡ 0
+  pub counted : (t : ValueTag) → bound.from ≤ t.tag → count_in t bound.counts + held_with t held ≡ links_with t links
   pub found : (t : ValueTag) → is_some (lookup (tags.ghosts.eq t) bound.pairs) ≡ not (count_in t bound.counts == 0)
 
 -- ---- where values come from

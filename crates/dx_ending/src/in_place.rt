@@ -1,5 +1,5 @@
 //! Links that are changed where they are, with the values of links by their terms.
-ghost use Rattle.std.specs.Prelude.{◌≡◌, ◌+◌, ◌<◌, ◌≤◌, ◌∷◌, [], IfOk};
+ghost use Rattle.std.specs.Prelude.{◌≡◌, ◌+◌, ◌<◌, ◌≤◌, ◌∷◌, [], Some, IfOk, if◌then◌else◌};
 ghost use Rattle.std.specs.List.{IsDistinct};
 ghost use Rattle.std.specs.List.Sorted.{IsStrictlySortedBy};
 ghost use Rattle.std.specs.Map.{keys_of, lookup};
@@ -13,6 +13,7 @@ ghost use Rattle.dx_ending.specs.InPlace.{HasRoom, IsReady, IsShared, AreShared,
 use dx_getting::Bound;
 use dx_links::{Change, Changes, Held, Key, Links};
 use dx_objects::Object;
+use dx_tags::ValueTag;
 use std::alloc::{AllocError, Global};
 use std::rc::Rc;
 
@@ -64,6 +65,8 @@ pub fn prepare_in_place(
     ensures counts { bound.new.counts ≡ bound.old.counts }
     ensures changes { IfOk result (λ ready. changes_in ready.changes.items ≡ changes) }
     ensures ready { IfOk result (λ ready. IsReady links.new bound.new ready.changes.items) }
+    ensures held { links.new.held ≡ links.old.held }
+    ensures from { bound.new.from ≡ bound.old.from }
 {
     links.reserve(changes.len())?;
     bound.reserve(changes.len())?;
@@ -76,10 +79,29 @@ fn release_old(links: &Links, bound: &mut Bound, key: &Key)
     requires bound { IsBound links.now.links bound.old }
     ensures bound { IsReleased links.now.links (held_at key.now links.now.links) bound.new }
     ensures values { ComeFrom [] bound.old.pairs bound.new.pairs }
+    ensures from { bound.new.from ≡ bound.old.from }
     ensures room { bound.old.room ≤ bound.new.room }
 {
     if let Some(held) = links.get(key) {
-        bound.release(held.tag());
+        bound.release(held.tag);
+    }
+}
+
+// One link more holds a value under a tag, which is kept from the tag on from which values are.
+fn hold_from(bound: &mut Bound, tag: ValueTag, value: Rc<Object>)
+    requires once { IsDistinct tags.ghosts.eq (keys_of bound.old.pairs) }
+    requires room { 0 < bound.old.room }
+    requires few { 1 + count_in tag bound.old.counts < 18446744073709551616 }
+    ensures once { IsDistinct tags.ghosts.eq (keys_of bound.new.pairs) }
+    ensures counts { (t : ValueTag) → bound.old.from ≤ t.tag → count_in t bound.new.counts ≡ (if tags.ghosts.eq tag t then 1 + count_in tag bound.old.counts else count_in t bound.old.counts) }
+    ensures values { (t : ValueTag) → bound.old.from ≤ t.tag → lookup (tags.ghosts.eq t) bound.new.pairs ≡ (if tags.ghosts.eq tag t then Some value.value else lookup (tags.ghosts.eq t) bound.old.pairs) }
+    ensures counts_below { (t : ValueTag) → t.tag < bound.old.from → count_in t bound.new.counts ≡ count_in t bound.old.counts }
+    ensures values_below { (t : ValueTag) → t.tag < bound.old.from → lookup (tags.ghosts.eq t) bound.new.pairs ≡ lookup (tags.ghosts.eq t) bound.old.pairs }
+    ensures from { bound.new.from ≡ bound.old.from }
+    ensures room { bound.old.room ≤ bound.new.room + 1 }
+{
+    if tag.tag >= bound.from() {
+        bound.hold(tag, value);
     }
 }
 
@@ -90,12 +112,15 @@ fn hold_new(bound: &mut Bound, held: &Option<Held>, value: Option<Rc<Object>>)
     requires few { (t : ValueTag) → 1 + count_in t bound.old.counts < 18446744073709551616 }
     requires shared { IsShared held.now value }
     ensures once { IsDistinct tags.ghosts.eq (keys_of bound.new.pairs) }
-    ensures counts { (t : ValueTag) → count_in t bound.new.counts ≡ held_with t held.now + count_in t bound.old.counts }
-    ensures values { (t : ValueTag) → lookup (tags.ghosts.eq t) bound.new.pairs ≡ found_with t held.now (lookup (tags.ghosts.eq t) bound.old.pairs) }
+    ensures counts { (t : ValueTag) → bound.old.from ≤ t.tag → count_in t bound.new.counts ≡ held_with t held.now + count_in t bound.old.counts }
+    ensures values { (t : ValueTag) → bound.old.from ≤ t.tag → lookup (tags.ghosts.eq t) bound.new.pairs ≡ found_with t held.now (lookup (tags.ghosts.eq t) bound.old.pairs) }
+    ensures counts_below { (t : ValueTag) → t.tag < bound.old.from → count_in t bound.new.counts ≡ count_in t bound.old.counts }
+    ensures values_below { (t : ValueTag) → t.tag < bound.old.from → lookup (tags.ghosts.eq t) bound.new.pairs ≡ lookup (tags.ghosts.eq t) bound.old.pairs }
+    ensures from { bound.new.from ≡ bound.old.from }
     ensures room { bound.old.room ≤ bound.new.room + 1 }
 {
     if let (Some(held), Some(value)) = (held, value) {
-        bound.hold(held.tag(), value);
+        hold_from(bound, held.tag(), value);
     }
 }
 
@@ -108,6 +133,8 @@ fn change_one(links: &mut Links, bound: &mut Bound, ready: Ready)
     ensures bound { IsBound links.new.links bound.new }
     ensures values { ComeFrom (ready.change ∷ []) bound.old.pairs bound.new.pairs }
     ensures sorted { IsStrictlySortedBy key_cmp (keys_of links.new.links) }
+    ensures held { links.new.held ≡ links.old.held }
+    ensures from { bound.new.from ≡ bound.old.from }
     ensures room { links.old.room ≤ links.new.room + 1 }
     ensures values_room { bound.old.room ≤ bound.new.room + 1 }
 {
@@ -125,6 +152,8 @@ pub fn change_in_place(links: &mut Links, bound: &mut Bound, ready: InPlace)
     ensures links { links.new.links ≡ after links.old.links (changes_in ready.changes.items) }
     ensures bound { IsBound links.new.links bound.new }
     ensures values { ComeFrom (changes_in ready.changes.items) bound.old.pairs bound.new.pairs }
+    ensures held { links.new.held ≡ links.old.held }
+    ensures from { bound.new.from ≡ bound.old.from }
 {
     for change in ready.changes {
         change_one(links, bound, change);

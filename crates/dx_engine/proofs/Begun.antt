@@ -8,6 +8,7 @@ use Rattle.dx_macros.specs.Tree.{CallTree}
 use Rattle.dx_tags.specs.declared.term.Term.{Term}
 use Rattle.dx_tags.specs.Closed.{heads_of, GoesOn}
 use Rattle.dx_tags.proofs.Growth.{held_grows}
+use Rattle.dx_links.specs.LinkMap.{Linked}
 use Rattle.dx_machine.specs.Machine.{State as Machine, tasks_of}
 use Rattle.dx_getting.specs.Told.{Told}
 use Rattle.dx_getting.proofs.TellLaws.{adds_none, grows_nothing}
@@ -30,8 +31,8 @@ use Rattle.dx_looking.specs.Setting.{links_of, nodes_in, told_terms, sight_in, s
 use Rattle.dx_looking.specs.Looking.{FromHere, AllFit, AreValues, AllDenote, AllReady, IsLooking, StandsAt}
 use Rattle.dx_looking.specs.declared.setup.Setup.{Setup}
 use Rattle.dx_looking.specs.declared.progress.Progress.{Progress}
-use Rattle.dx_getting.specs.Bound.{IsBound, AreLinks}
-use Rattle.dx_getting.specs.Terms.{BoundValues}
+use Rattle.dx_getting.specs.Bound.{IsBound, AreLinks, BeginHeld}
+use Rattle.dx_getting.specs.Terms.{BoundValues, Table}
 use Rattle.dx_objects.specs.Runs.{Values}
 use Rattle.dx_engine.specs.Running.{RunsSo, ErrorFits, GatheredFits}
 use Rattle.dx_engine.specs.Keeping.{StateFits, kept_of, IsSoundState}
@@ -54,8 +55,10 @@ entries_alike terms links links' held held' e formed formed' files es r = subst 
 pub record IsSetup (setup : Setup) (st : State) : Type 0 where
   pub links : setup.links.now ≡ st.links
   pub bound : setup.bound.now ≡ st.bound
-  pub held : setup.held.now ≡ st.held
   pub written : setup.written.now ≡ st.written
+
+held_is : (setup : Setup) (st : State) → IsSetup setup st → setup.links.now.held ≡ st.links.held
+held_is setup st is = ap (λ (l : Linked). l.held) is.links
 
 module _ (setup : Setup) (st : State) (is : IsSetup setup st) (seen : Seen) (at : Progress) (fresh : IsFresh seen st.at.tags st.at.work.cache at) where
   -- what begins, in the words of what is kept
@@ -70,6 +73,7 @@ module _ (setup : Setup) (st : State) (is : IsSetup setup st) (seen : Seen) (at 
     exact = f.exact;
     links = subst (λ l. AllFit st.at.tags l.links) (sym is.links) f.links;
     bound = subst (IsBound setup.links.now.links) (sym is.bound) (subst (λ l. IsBound l.links st.bound) (sym is.links) f.bound);
+    below = subst (λ (t : Table). BeginHeld t.from st.at.tags) (sym is.bound) f.below;
     entries = f.entries;
     told = subst (AreValues st.at.tags) (sym fresh.told) tt;
     fits = fits;
@@ -82,7 +86,7 @@ module _ (setup : Setup) (st : State) (is : IsSetup setup st) (seen : Seen) (at 
   -- the machine's state at the beginning
   pub stands_begun : (x : Fixed) → IsSoundState x st → seen.memo.formed.entries ≡ [] → (base : Told) → StandsAt setup x (kept_of st) base at base (begins (kept_of st)).state (begins (kept_of st)).formings
   stands_begun x sound uncalled base = subst (λ y. StandsAt setup x (kept_of st) base y base (begins (kept_of st)).state (begins (kept_of st)).formings) (sym same) (record {
-    kept = record { links = ap (λ l. links_of (heads_of st.at.tags) l.links) (sym is.links); values = values_first x sound; held = sym is.held; written = ap (λ w. w.files) (sym is.written) };
+    kept = record { links = ap (λ l. links_of (heads_of st.at.tags) l.links) (sym is.links); values = values_first x sound; held = sym (held_is setup st is); written = ap (λ w. w.files) (sym is.written) };
     work = record {
       sound = record { entries = entries_first x sound; known = subst (KnownRight (setting_in setup at_first) (world x.answer x.file)) (sym fresh.known) tt };
       entries = refl;
@@ -100,7 +104,7 @@ module _ (setup : Setup) (st : State) (is : IsSetup setup st) (seen : Seen) (at 
       values_first x sound = subst (λ l. AreLinks l.links setup.bound.now.pairs) (sym is.links) (subst (λ b. AreLinks st.links.links b.pairs) (sym is.bound) sound.values)
 
       entries_first : (x : Fixed) → IsSoundState x st → EntriesRight (setting_in setup at_first) (world x.answer x.file) st.at.work.cache.entries
-      entries_first x sound = entries_alike st.at.tags st.bound.pairs setup.bound.now.pairs st.held setup.held.now (sym is.held) [] (setting_in setup at_first).formed (world x.answer x.file) st.at.work.cache.entries sound.entries
+      entries_first x sound = entries_alike st.at.tags st.bound.pairs setup.bound.now.pairs st.links.held setup.links.now.held (sym (held_is setup st is)) [] (setting_in setup at_first).formed (world x.answer x.file) st.at.work.cache.entries sound.entries
 
 -- ---- at the end
 
@@ -116,7 +120,7 @@ effects_so setup st is x base all before (Ok g) at now written h = record {
   entries = sym h.stands.work.entries;
   events = sym h.stands.work.events;
   told = h.stands.work.told;
-  right = entries_alike at.tags setup.bound.now.pairs st.bound.pairs setup.held.now st.held is.held (setting_in setup at).formed [] (world x.answer x.file) at.work.cache.entries h.stands.work.sound.entries;
+  right = entries_alike at.tags setup.bound.now.pairs st.bound.pairs setup.links.now.held st.links.held (held_is setup st is) (setting_in setup at).formed [] (world x.answer x.file) at.work.cache.entries h.stands.work.sound.entries;
   sound = h.stands.sound;
 }
 effects_so setup st is x base all before (Err short) at now written h = record { printed = h.printed; told = h.told }
@@ -136,9 +140,10 @@ nothing_done x st all nodes base before (Err short) e st' =
 pub state_fits : (setup : Setup) (st : State) (is : IsSetup setup st) → StateFits st → (r : Result Gathered Short) (at : Progress) → GoesOn st.at.tags at.tags → OnOk r (IsLooking setup at) → OnOk r (StateFits (standing_at st at))
 state_fits setup st is f (Ok g) at on l = record {
   exact = l.exact;
-  held = held_grows (length st.held) st.at.tags at.tags on f.held;
+  held = held_grows (length st.links.held) st.at.tags at.tags on f.held;
   links = subst (λ y. AllFit at.tags y.links) is.links l.links;
   bound = subst (IsBound st.links.links) is.bound (subst (λ y. IsBound y.links setup.bound.now) is.links l.bound);
+  below = subst (λ (t : Table). BeginHeld t.from at.tags) is.bound l.below;
   entries = l.entries;
 }
 state_fits setup st is f (Err short) at on l = tt

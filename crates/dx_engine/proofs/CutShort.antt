@@ -10,7 +10,7 @@ use Rattle.dx_ending.specs.Putting.{ArePut, ArePutBefore}
 use Rattle.dx_performing.specs.Execution.{Export}
 use Rattle.dx_links.specs.Denotes.{Around}
 use Rattle.dx_links.specs.LinkMap.{LinkMap, Linked}
-use Rattle.dx_getting.specs.Bound.{IsBound, AreLinks}
+use Rattle.dx_getting.specs.Bound.{IsBound, AreLinks, BeginHeld}
 use Rattle.dx_getting.specs.Terms.{Table}
 use Rattle.dx_demand.specs.Terms.{AreExact}
 use Rattle.dx_demand.specs.Forming.{named_terms}
@@ -24,6 +24,7 @@ use Rattle.dx_performing.specs.Meant.{LinksRight}
 use Rattle.dx_looking.specs.Looking.{AllFit}
 use Rattle.dx_looking.specs.Setting.{links_of}
 use Rattle.dx_looking.proofs.Growth.{all_fit_grows, links_same}
+use Rattle.dx_looking.proofs.Growth.{begin_held_grows}
 use Rattle.dx_engine.specs.Keeping.{StateFits, kept_of, setting_of, IsSoundState}
 use Rattle.dx_engine.specs.Ending.{OnEnd, OnCut, CutsPuts, HasPut}
 use Rattle.dx_engine.specs.Executing.{Devices, IsExecuted, NonePut, ExecutesSo}
@@ -38,15 +39,22 @@ module _ (st st1 st2 : State) (fits : StateFits st) (cut : IsCutFrom st st1) (go
   links_are : st2.links.links ≡ st.links.links
   links_are = ap (λ (l : Linked). l.links) gone.links ∙ cut.links
 
+  held_gone : st2.links.held ≡ st1.links.held
+  held_gone = ap (λ (l : Linked). l.held) gone.links
+
+  from_is : st2.bound.from ≡ st.bound.from
+  from_is = ap (λ (t : Table). t.from) gone.bound ∙ cut.from
+
   pairs_are : st2.bound.pairs ≡ st.bound.pairs
   pairs_are = ap (λ (t : Table). t.pairs) gone.bound ∙ cut.bound
 
   fits_then : StateFits st2
   fits_then = record {
     exact = subst AreExact (sym gone.tags) cut.exact;
-    held = subst (HeldBelow (length st2.held)) (sym gone.tags) (subst (λ (vs : Values). HeldBelow (length vs) st1.at.tags) (sym (gone.held ∙ cut.held)) (held_grows (length st.held) st.at.tags st1.at.tags cut.goes_on fits.held));
+    held = subst (HeldBelow (length st2.links.held)) (sym gone.tags) (subst (λ (vs : Values). HeldBelow (length vs) st1.at.tags) (sym (held_gone ∙ cut.held)) (held_grows (length st.links.held) st.at.tags st1.at.tags cut.goes_on fits.held));
     links = subst (AllFit st2.at.tags) (sym links_are) (subst (λ terms. AllFit terms st.links.links) (sym gone.tags) (all_fit_grows st.at.tags st1.at.tags cut.goes_on st.links.links fits.links));
-    bound = bound_stays st.links.links st2.links.links st.bound st2.bound links_are pairs_are (ap (λ (t : Table). t.counts) gone.bound ∙ cut.counts) fits.bound;
+    bound = bound_stays st.links.links st2.links.links st.bound st2.bound links_are pairs_are (ap (λ (t : Table). t.counts) gone.bound ∙ cut.counts) from_is fits.bound;
+    below = subst (BeginHeld st2.bound.from) (sym gone.tags) (begin_held_grows st2.bound.from st.at.tags st1.at.tags cut.goes_on (subst (λ n. BeginHeld n st.at.tags) (sym from_is) fits.below));
     entries = subst (AreCalls st2.at.tags) (sym gone.entries) tt;
   }
 
@@ -58,7 +66,7 @@ module _ (st st1 st2 : State) (fits : StateFits st) (cut : IsCutFrom st st1) (go
   sound_then : (x : Fixed) → IsSoundState x st → IsSoundState x st2
   sound_then x s = record {
     budget = s.budget ∙ sym (gone.budget ∙ cut.budget);
-    links = subst (λ (a : Around). LinksRight a (kept_of st2).links) (sym (around_same x (kept_of st) (kept_of st2) (gone.held ∙ cut.held))) (subst (LinksRight (around_of x (kept_of st))) (sym terms_are) s.links);
+    links = subst (λ (a : Around). LinksRight a (kept_of st2).links) (sym (around_same x (kept_of st) (kept_of st2) (held_gone ∙ cut.held))) (subst (LinksRight (around_of x (kept_of st))) (sym terms_are) s.links);
     values = subst (λ (y : LinkMap). AreLinks y st2.bound.pairs) (sym links_are) (subst (AreLinks st.links.links) (sym pairs_are) s.values);
     entries = subst (EntriesRight (setting_of st2) (world x.answer x.file)) (sym gone.entries) tt;
     sound = subst (λ es. IsSound (around_of x (kept_of st2)) x.budget (record { entries = map (named (heads_of st2.at.tags)) es; known = []; events = [] })) (sym gone.entries) (record { entries = tt; bounded = omega arith; known = tt });
@@ -70,12 +78,16 @@ module _ (st1 st2 : State) (back : IsGivenBack st1 st2) where
   budget_back : st2.at.work.cache.budget ≡ st1.at.work.cache.budget
   budget_back = ap (λ (c : Cached). c.budget) back.cache
 
+  held_back : st2.links.held ≡ st1.links.held
+  held_back = ap (λ (l : Linked). l.held) back.links
+
   fits_back : StateFits st1 → StateFits st2
   fits_back h = record {
     exact = subst AreExact (sym back.tags) h.exact;
-    held = subst (λ (vs : Values). HeldBelow (length vs) st2.at.tags) (sym back.held) (subst (HeldBelow (length st1.held)) (sym back.tags) h.held);
+    held = subst (λ (vs : Values). HeldBelow (length vs) st2.at.tags) (sym held_back) (subst (HeldBelow (length st1.links.held)) (sym back.tags) h.held);
     links = subst (λ (l : Linked). AllFit st2.at.tags l.links) (sym back.links) (subst (λ terms. AllFit terms st1.links.links) (sym back.tags) h.links);
     bound = subst (λ (t : Table). IsBound st2.links.links t) (sym back.bound) (subst (λ (l : Linked). IsBound l.links st1.bound) (sym back.links) h.bound);
+    below = subst (λ (t : Table). BeginHeld t.from st2.at.tags) (sym back.bound) (subst (BeginHeld st1.bound.from) (sym back.tags) h.below);
     entries = subst (λ (c : Cached). AreCalls st2.at.tags c.entries) (sym back.cache) (subst (λ terms. AreCalls terms st1.at.work.cache.entries) (sym back.tags) h.entries);
   }
 
@@ -84,12 +96,12 @@ module _ (st1 st2 : State) (back : IsGivenBack st1 st2) where
     entries = map (named (heads_of (back.tags i))) (back.cache i).entries;
     terms = named_terms (back.tags i);
     links = links_of (heads_of (back.tags i)) (back.links i).links;
-    held = back.held i;
+    held = (back.links i).held;
     written = (back.written i).files;
   }
 
   setting_back : setting_of st2 ≡ setting_of st1
-  setting_back = λ i. record { terms = back.tags i; links = (back.bound i).pairs; held = back.held i; formed = [] }
+  setting_back = λ i. record { terms = back.tags i; links = (back.bound i).pairs; held = (back.links i).held; formed = [] }
 
   sound_back : (x : Fixed) → IsSoundState x st1 → IsSoundState x st2
   sound_back x s = record {
@@ -115,10 +127,10 @@ module _ (st1 st2 : State) (back : IsGivenBack st1 st2) where
 -- ---- at a cut behind the last effect
 
 abbrev SameBound : State → State → Type 0
-SameBound st1 st2 = (st2.bound.pairs ≡ st1.bound.pairs) × (st2.bound.counts ≡ st1.bound.counts)
+SameBound st1 st2 = (st2.bound.pairs ≡ st1.bound.pairs) × (st2.bound.counts ≡ st1.bound.counts) × (st2.bound.from ≡ st1.bound.from)
 
 abbrev AreKept : State → State → Type 0
-AreKept st1 st2 = (st2.at.tags ≡ st1.at.tags) × (st2.held ≡ st1.held) × (st2.at.work.cache ≡ st1.at.work.cache)
+AreKept st1 st2 = (st2.at.tags ≡ st1.at.tags) × (st2.links.held ≡ st1.links.held) × (st2.at.work.cache ≡ st1.at.work.cache)
 
 then_kept : (st st1 st2 : State) → IsCutFrom st st1 → st2.links.links ≡ st1.links.links → SameBound st1 st2 → AreKept st1 st2 → IsCutFrom st st2
 then_kept st st1 st2 cut links bound same = record {
@@ -127,6 +139,7 @@ then_kept st st1 st2 cut links bound same = record {
   links = links ∙ cut.links;
   bound = bound.0 ∙ cut.bound;
   counts = bound.1 ∙ cut.counts;
+  from = bound.2 ∙ cut.from;
   held = same.1 ∙ cut.held;
   budget = ap (λ (c : _). c.budget) same.2 ∙ cut.budget;
 }

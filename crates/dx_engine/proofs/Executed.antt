@@ -65,12 +65,11 @@ ends_in nodes e error (Err Memory) is h = tt
 pub record IsRun (st st' : State) : Type 0 where
   pub links : st'.links ≡ st.links
   pub bound : st'.bound ≡ st.bound
-  pub held : st'.held ≡ st.held
   pub written : st'.written ≡ st.written
   pub budget : st'.at.work.cache.budget ≡ st.at.work.cache.budget
 
 finished : (st st' st2 : State) (g : Gathered) (was now : Option (List Export)) → IsRun st st' → LeavesSo st' g st2 → ArePut was now st'.written.files st2.written.files (exports_of g.puts.items) → IsFinished st st' g st2
-finished st st' st2 g was now run left put = record { left = left; files = put.files; links = run.links; bound = run.bound; held = run.held; written = run.written; budget = run.budget }
+finished st st' st2 g was now run left put = record { left = left; files = put.files; links = run.links; bound = run.bound; written = run.written; budget = run.budget }
 
 module _ (x : Fixed) (st st' st2 : State) (effects : List CallTree) (nodes : List Node) (g : Gathered) (was now : Devices) (are : EffectsAre x st effects nodes was.told was.written g st' now.told now.written) (fits : StateFits st) (on : GoesOn st.at.tags st'.at.tags) (lawful : AreLawfulCalls effects) (sound : IsSoundState x st) (run : IsRun st st') where
   executed_so : (r : Result (Unit {0}) ExecError) → LeavesSo st' g st2 → ArePut was.puts now.puts st'.written.files st2.written.files (exports_of g.puts.items) → ErrorIs nodes g.error r → IsExecuted x st effects was r st2 now

@@ -1,7 +1,6 @@
 -- How an execution ends, and what is put in place then.
-use Rattle.std.proofs.Common.{◌≡◌, inl, inr, ℕ, List, [], ◌∷◌, ◌++◌, length, Bool, true, Option, Some, None, Result, Ok, Err, sym, ap, ◌∙◌, subst}
+use Rattle.std.proofs.Common.{◌≡◌, ◌<◌, ◌≤◌, inl, inr, ℕ, List, [], ◌∷◌, ◌++◌, length, Bool, true, Option, Some, None, Result, Ok, Err, sym, ap, ◌∙◌, subst}
 use Rattle.std.specs.Prelude.{◌==◌, if◌then◌else◌, not, is_some, IsErrAnd}
-use Rattle.std.specs.Cmp.{unsigned_Decides}
 use Rattle.std.specs.List.{IsDistinct}
 use Rattle.std.specs.Map.{keys_of, lookup}
 use Rattle.dx_base.specs.declared.code.Code.{Code}
@@ -16,7 +15,8 @@ use Rattle.dx_tags.specs.Files.{FileMap}
 use Rattle.dx_links.specs.LinkMap.{LinkMap, after}
 use Rattle.dx_links.specs.declared.held.Change.{Change}
 use Rattle.dx_getting.specs.Bound.{IsBound, links_with}
-use Rattle.dx_getting.specs.Emptied.{held_terms, values_held}
+use Rattle.dx_tags.specs.HeldTerms.{held_terms}
+use Rattle.dx_links.specs.Emptied.{values_held, all_held}
 use Rattle.dx_getting.specs.Terms.{BoundValues, Table, count_in}
 use Rattle.dx_getting.specs.declared.event.Event.{Event}
 use Rattle.dx_getting.specs.declared.event.Event.TheVariants as shown
@@ -25,7 +25,7 @@ use Rattle.dx_demand.specs.Forming.{named_terms}
 use Rattle.dx_performing.specs.Execution.{Export}
 use Rattle.dx_performing.specs.Kept.{is_full}
 use Rattle.dx_ending.specs.Putting.{ArePutBefore}
-use Rattle.dx_ending.proofs.ReadyLaws.{none_left}
+use Rattle.dx_ending.proofs.CountLaws.{emptied_bound, nothing_found}
 use Rattle.dx_engine.specs.Leaving.{ValuesLeft, IsLeft, LeavesSo, links_behind}
 use Rattle.dx_engine.specs.Ending.{OnEnd, OnCut, ErrorIs, SiteIs, CutsPuts, ended_so, export_error}
 use Rattle.dx_engine.specs.declared.exec_error.ExecError.{ExecError}
@@ -128,24 +128,39 @@ uncut_put (Some s) r was now before behind all is = subst (λ (y : Result (Unit 
 
 -- ---- what is left
 
--- where nothing is set the links stay
-pub none_after : (links : LinkMap) (changes : List Change) → (length changes == 0) ≡ true → after links changes ≡ links
-none_after links changes e = ap (after links) (none_left changes ((unsigned_Decides (length changes) 0).0 e))
-
--- only the links, the values and how many links hold each tell whether they are bound
-pub bound_stays : (links links' : LinkMap) (bound bound' : Table) → links' ≡ links → bound'.pairs ≡ bound.pairs → bound'.counts ≡ bound.counts → IsBound links bound → IsBound links' bound'
-bound_stays links links' bound bound' l p c b = record {
+-- only the links, the values, how many links hold each, and from which tag on they are kept tell whether they are bound
+pub bound_stays : (links links' : LinkMap) (bound bound' : Table) → links' ≡ links → bound'.pairs ≡ bound.pairs → bound'.counts ≡ bound.counts → bound'.from ≡ bound.from → IsBound links bound → IsBound links' bound'
+bound_stays links links' bound bound' l p c n b = record {
   once = subst (λ (ps : BoundValues). IsDistinct tags.ghosts.eq (keys_of ps)) (sym p) b.once;
-  counted = λ t. ap (count_in t) c ∙ b.counted t ∙ ap (links_with t) (sym l);
-  found = λ t. ap (λ (ps : BoundValues). is_some (lookup (tags.ghosts.eq t) ps)) p ∙ b.found t ∙ ap (λ (ls : LinkMap). not (links_with t ls == 0)) (sym l);
+  below = λ t lt. ap (count_in t) c ∙ b.below t (subst (λ m. t.tag < m) n lt);
+  counted = λ t le. ap (count_in t) c ∙ b.counted t (subst (λ m. m ≤ t.tag) n le) ∙ ap (links_with t) (sym l);
+  found = λ t. ap (λ (ps : BoundValues). is_some (lookup (tags.ghosts.eq t) ps)) p ∙ b.found t ∙ ap (λ cs. not (count_in t cs == 0)) (sym c);
+}
+
+-- what an emptying leaves behind changes
+pub left_emptied : (st st' : State) (changes made : List Change) (full : Bool) (links : LinkMap) → full ≡ true → links ≡ after st.links.links made
+    → st'.links.links ≡ all_held (after st.links.links made) → st'.links.held ≡ values_held (after st.links.links made)
+    → st'.bound.from ≡ length (after st.links.links made) → st'.bound.pairs ≡ [] → st'.bound.counts ≡ [] → st'.at.tags ≡ held_terms (length (after st.links.links made))
+    → st'.at.work.cache.entries ≡ [] → st'.at.work.cache.budget ≡ st.at.work.cache.budget → st'.at.work.events.items ≡ st.at.work.events.items ++ shown.Clear ∷ [] → IsLeft st changes full links st'
+left_emptied st st' changes made full links f w l h n p c t e b v = record {
+  links_are = l ∙ ap all_held (sym w) ∙ ap (λ (y : Bool). if y then all_held links else links) (sym f);
+  bound = subst (λ (ls : LinkMap). IsBound ls st'.bound) (sym l) (emptied_bound (after st.links.links made) st'.bound n p c);
+  values = subst (λ (y : Bool). ValuesLeft st.bound.pairs changes y st') (sym f) (nothing_found st'.links.links st'.bound.pairs p);
+  from = n ∙ ap length (sym w) ∙ ap (λ (y : Bool). if y then length links else st.bound.from) (sym f);
+  tags = t ∙ ap (λ (ls : LinkMap). held_terms (length ls)) (sym w) ∙ ap (λ (y : Bool). if y then held_terms (length links) else st.at.tags) (sym f);
+  held = h ∙ ap values_held (sym w) ∙ ap (λ (y : Bool). if y then values_held links else st.links.held) (sym f);
+  entries = e ∙ ap (λ (y : Bool). if y then [] else st.at.work.cache.entries) (sym f);
+  budget = b;
+  events = v ∙ ap (λ (y : Bool). st.at.work.events.items ++ (if y then shown.Clear ∷ [] else [])) (sym f);
 }
 
 -- what is left of a state whose values and events are the same is left of it
-left_so : (st st2 st3 : State) (changes : List Change) (full : Bool) (links : LinkMap) → st2.bound.pairs ≡ st.bound.pairs → st2.at.tags ≡ st.at.tags → st2.held ≡ st.held → st2.at.work.cache ≡ st.at.work.cache → st2.at.work.events.items ≡ st.at.work.events.items → IsLeft st2 changes full links st3 → IsLeft st changes full links st3
-left_so st st2 st3 changes full links b t h c e left = record {
+left_so : (st st2 st3 : State) (changes : List Change) (full : Bool) (links : LinkMap) → st2.bound.pairs ≡ st.bound.pairs → st2.bound.from ≡ st.bound.from → st2.at.tags ≡ st.at.tags → st2.links.held ≡ st.links.held → st2.at.work.cache ≡ st.at.work.cache → st2.at.work.events.items ≡ st.at.work.events.items → IsLeft st2 changes full links st3 → IsLeft st changes full links st3
+left_so st st2 st3 changes full links b n t h c e left = record {
   links_are = left.links_are;
   bound = left.bound;
   values = subst (λ (ps : BoundValues). ValuesLeft ps changes full st3) b left.values;
+  from = left.from ∙ ap (λ (y : ℕ). if full then length links else y) n;
   tags = left.tags ∙ ap (λ (y : List Term). if full then held_terms (length links) else y) t;
   held = left.held ∙ ap (λ (y : Values). if full then values_held links else y) h;
   entries = left.entries ∙ ap (λ y. if full then [] else y.entries) c;
@@ -153,7 +168,7 @@ left_so st st2 st3 changes full links b t h c e left = record {
   events = left.events ∙ ap (λ (y : List Event). y ++ (if full then shown.Clear ∷ [] else [])) e;
 }
 
-pub left_behind : (st st2 st3 : State) (nodes : List Node) (g : Gathered) (site : Option (List ℕ × Code)) (failed : Bool) → SiteIs nodes g.error site → failed ≡ is_some site → st2.bound.pairs ≡ st.bound.pairs → st2.at.tags ≡ st.at.tags → st2.held ≡ st.held → st2.at.work.cache ≡ st.at.work.cache → st2.at.work.events.items ≡ st.at.work.events.items → IsLeft st2 g.changes (is_full (named_terms st.at.tags)) (links_behind st.links.links failed g.changes) st3 → LeavesSo st g st3
-left_behind st st2 st3 nodes g site failed s f b t h c e left =
+pub left_behind : (st st2 st3 : State) (nodes : List Node) (g : Gathered) (site : Option (List ℕ × Code)) (failed : Bool) → SiteIs nodes g.error site → failed ≡ is_some site → st2.bound.pairs ≡ st.bound.pairs → st2.bound.from ≡ st.bound.from → st2.at.tags ≡ st.at.tags → st2.links.held ≡ st.links.held → st2.at.work.cache ≡ st.at.work.cache → st2.at.work.events.items ≡ st.at.work.events.items → IsLeft st2 g.changes (is_full (named_terms st.at.tags)) (links_behind st.links.links failed g.changes) st3 → LeavesSo st g st3
+left_behind st st2 st3 nodes g site failed s f b n t h c e left =
     subst (λ (was : Bool). IsLeft st g.changes (is_full (named_terms st.at.tags)) (links_behind st.links.links was g.changes) st3) (f ∙ site_tells nodes g.error site s)
-    (left_so st st2 st3 g.changes (is_full (named_terms st.at.tags)) (links_behind st.links.links failed g.changes) b t h c e left)
+    (left_so st st2 st3 g.changes (is_full (named_terms st.at.tags)) (links_behind st.links.links failed g.changes) b n t h c e left)

@@ -14,9 +14,12 @@ use Rattle.dx_links.specs.declared.key.Key.{Key}
 use Rattle.dx_links.specs.declared.held.Change.{Change}
 use Rattle.dx_links.specs.Holding.{Holding}
 use Rattle.dx_links.specs.LinkMap.{LinkMap, key_cmp, put_at, after}
-use Rattle.dx_getting.specs.Emptied.{held_terms, values_held, held_tag, front_held, all_held}
-use Rattle.dx_getting.proofs.EmptyLaws as emptied
-use Rattle.dx_getting.proofs.EmptyLaws.{held_exact, held_length}
+use Rattle.dx_tags.specs.HeldTerms.{held_terms}
+use Rattle.dx_tags.proofs.HeldTerms as emptied
+use Rattle.dx_tags.proofs.HeldTerms.{held_length}
+use Rattle.dx_links.specs.Emptied.{values_held, held_tag, front_held, all_held}
+use Rattle.dx_getting.proofs.EmptyLaws.{held_exact}
+use Rattle.dx_getting.specs.Bound.{BeginHeld}
 use Rattle.dx_demand.specs.Terms.{IsValue, AreExact}
 use Rattle.dx_looking.specs.Looking.{AllFit}
 use Rattle.dx_engine.specs.Doing.{HoldingFits}
@@ -92,3 +95,6 @@ held_are_below links = front_below (length (values_held links)) (length links) (
 
 pub held_are_exact : (n : ℕ) → AreExact (held_terms n)
 held_are_exact n = let x = held_exact n in record { formed = x.formed; distinct = x.distinct; whole = x.whole }
+
+pub begin_held : (n : ℕ) → BeginHeld n (held_terms n)
+begin_held n k h = emptied.held_at n k h

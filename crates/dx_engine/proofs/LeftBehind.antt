@@ -30,11 +30,13 @@ pub record IsFinished (st st' : State) (g : Gathered) (st2 : State) : Type 0 whe
   pub files : st2.written.files ≡ after_exports st'.written.files (exports_of g.puts.items)
   pub links : st'.links ≡ st.links
   pub bound : st'.bound ≡ st.bound
-  pub held : st'.held ≡ st.held
   pub written : st'.written ≡ st.written
   pub budget : st'.at.work.cache.budget ≡ st.at.work.cache.budget
 
 module _ (st st' st2 : State) (g : Gathered) (ends : IsFinished st st' g st2) where
+  held_are : st'.links.held ≡ st.links.held
+  held_are = ap (λ (l : Linked). l.held) ends.links
+
   links_are : links_left st' g ≡ links_left st g
   links_are = ap (λ (l : Linked). links_behind l.links (is_some g.error) g.changes) ends.links
 
@@ -44,19 +46,19 @@ module _ (st st' st2 : State) (g : Gathered) (ends : IsFinished st st' g st2) wh
   pub fits_left : StateFits st' → ChangesFit st'.at.tags g.changes → StateFits st2
   fits_left f c =
       fits_behind st st' st2 g (links_left st' g) (is_full (named_terms st'.at.tags))
-      links_are ends.left.tags ends.left.links_are ends.left.held ends.left.entries files_are ends.held f ends.links c ends.left.bound
+      links_are ends.left.tags ends.left.links_are ends.left.held ends.left.entries files_are held_are f ends.links ends.left.from c ends.left.bound
 
   module _ (x : Fixed) (effects : List CallTree) (nodes : List Node) (base : Told) (before : Option (List ℕ)) (now : Told) (written : Option (List ℕ)) (are : EffectsAre x st effects nodes base before g st' now written) (fits : StateFits st) (on : GoesOn st.at.tags st'.at.tags) where
     pub kept_left : kept_of st2 ≡ (executed x effects (kept_of st)).kept
     kept_left =
         kept_there st st' st2 g (links_left st' g) (is_full (named_terms st'.at.tags))
-        links_are ends.left.tags ends.left.links_are ends.left.held ends.left.entries files_are ends.held
+        links_are ends.left.tags ends.left.links_are ends.left.held ends.left.entries files_are held_are
         x effects nodes base before now written are fits on refl
 
     pub sound_left : IsSoundState x st → AreLawfulCalls effects → IsSoundState x st2
     sound_left sound lawful =
         sound_there st st' st2 g (links_left st' g) (is_full (named_terms st'.at.tags))
-        links_are ends.left.tags ends.left.links_are ends.left.held ends.left.entries files_are ends.held
+        links_are ends.left.tags ends.left.links_are ends.left.held ends.left.entries files_are held_are
         x effects nodes base before now written are fits on refl sound lawful (ends.left.budget ∙ ends.budget) ends.left.bound
         (subst (λ (t : Table). ValuesLeft t.pairs g.changes (is_full (named_terms st'.at.tags)) st2) ends.bound ends.left.values)
 

@@ -24,8 +24,9 @@ use Rattle.dx_links.specs.LinkMap.{LinkMap, Linked}
 use Rattle.dx_machine.specs.Machine.{Cleared, tasks_of}
 use Rattle.dx_machine.specs.Sound.{IsSound}
 use Rattle.dx_machine.proofs.Grows.{tasks-append}
-use Rattle.dx_getting.specs.Emptied.{held_terms, values_held, all_held}
-use Rattle.dx_getting.specs.Bound.{IsBound, AreLinks}
+use Rattle.dx_tags.specs.HeldTerms.{held_terms}
+use Rattle.dx_links.specs.Emptied.{values_held, all_held}
+use Rattle.dx_getting.specs.Bound.{IsBound, AreLinks, BeginHeld}
 use Rattle.dx_getting.specs.Terms.{BoundValues}
 use Rattle.dx_getting.specs.Told.{Told, Adds}
 use Rattle.dx_getting.specs.declared.event.Event.{Event as ShownEvent}
@@ -58,7 +59,7 @@ use Rattle.dx_engine.specs.Beginning.{EffectsAre, course_of}
 use Rattle.dx_engine.specs.Leaving.{links_behind, ValuesLeft}
 use Rattle.dx_engine.specs.declared.gathered.Gathered.{Gathered}
 use Rattle.dx_engine.specs.declared.state.State.{State}
-use Rattle.dx_engine.proofs.FitsBehind.{behind_fits, held_fits, held_are_exact, held_are_below}
+use Rattle.dx_engine.proofs.FitsBehind.{behind_fits, held_fits, held_are_exact, held_are_below, begin_held}
 use Rattle.dx_engine.proofs.ValuesBehind.{values_behind}
 
 -- ---- the calls of a graph have lawful attributes
@@ -96,7 +97,7 @@ files_left st g = after_exports st.written.files (gathers g).exports
 pub record IsCarried (st st' : State) (g : Gathered) (st2 : State) : Type 0 where
   pub tags : st2.at.tags ≡ st'.at.tags
   pub links : st2.links.links ≡ links_left st g
-  pub held : st2.held ≡ st.held
+  pub held : st2.links.held ≡ st.links.held
   pub entries : st2.at.work.cache.entries ≡ st'.at.work.cache.entries
   pub written : st2.written.files ≡ files_left st g
 
@@ -104,32 +105,34 @@ pub record IsCarried (st st' : State) (g : Gathered) (st2 : State) : Type 0 wher
 pub record IsEmptied (st : State) (g : Gathered) (st2 : State) : Type 0 where
   pub tags : st2.at.tags ≡ held_terms (length (links_left st g))
   pub links : st2.links.links ≡ all_held (links_left st g)
-  pub held : st2.held ≡ values_held (links_left st g)
+  pub held : st2.links.held ≡ values_held (links_left st g)
   pub entries : st2.at.work.cache.entries ≡ []
   pub written : st2.written.files ≡ files_left st g
 
 -- ---- it fits
 
-pub carried_fits : (st st' st2 : State) (g : Gathered) → StateFits st' → st'.links ≡ st.links → st'.held ≡ st.held → ChangesFit st'.at.tags g.changes → IsCarried st st' g st2 → IsBound st2.links.links st2.bound → StateFits st2
-carried_fits st st' st2 g f same held c is bound =
+pub carried_fits : (st st' st2 : State) (g : Gathered) → StateFits st' → st'.links ≡ st.links → st'.links.held ≡ st.links.held → st2.bound.from ≡ st'.bound.from → ChangesFit st'.at.tags g.changes → IsCarried st st' g st2 → IsBound st2.links.links st2.bound → StateFits st2
+carried_fits st st' st2 g f same held from c is bound =
     let links : AllFit st'.at.tags st.links.links = subst (λ (l : Linked). AllFit st'.at.tags l.links) same f.links in
     let calls : AreCalls st'.at.tags st2.at.work.cache.entries = subst (AreCalls st'.at.tags) (sym is.entries) f.entries in
     record {
       exact = subst AreExact (sym is.tags) f.exact;
-      held = subst (HeldBelow (length st2.held)) (sym is.tags) (subst (λ (vs : Values). HeldBelow (length vs) st'.at.tags) (held ∙ sym is.held) f.held);
+      held = subst (HeldBelow (length st2.links.held)) (sym is.tags) (subst (λ (vs : Values). HeldBelow (length vs) st'.at.tags) (held ∙ sym is.held) f.held);
       links = subst (λ ts. AllFit ts st2.links.links) (sym is.tags) (subst (AllFit st'.at.tags) (sym is.links) (behind_fits st'.at.tags st.links.links (is_some g.error) g.changes links c));
       bound = bound;
+      below = subst (λ n. BeginHeld n st2.at.tags) (sym from) (subst (BeginHeld st'.bound.from) (sym is.tags) f.below);
       entries = subst (λ ts. AreCalls ts st2.at.work.cache.entries) (sym is.tags) calls;
     }
 
-pub emptied_fits : (st st2 : State) (g : Gathered) → IsEmptied st g st2 → IsBound st2.links.links st2.bound → StateFits st2
-emptied_fits st st2 g is bound =
+pub emptied_fits : (st st2 : State) (g : Gathered) → IsEmptied st g st2 → st2.bound.from ≡ length (links_left st g) → IsBound st2.links.links st2.bound → StateFits st2
+emptied_fits st st2 g is from bound =
     let links = links_left st g in
     record {
       exact = subst AreExact (sym is.tags) (held_are_exact (length links));
-      held = subst (HeldBelow (length st2.held)) (sym is.tags) (subst (λ (vs : Values). HeldBelow (length vs) (held_terms (length links))) (sym is.held) (held_are_below links));
+      held = subst (HeldBelow (length st2.links.held)) (sym is.tags) (subst (λ (vs : Values). HeldBelow (length vs) (held_terms (length links))) (sym is.held) (held_are_below links));
       links = subst (λ ts. AllFit ts st2.links.links) (sym is.tags) (subst (AllFit (held_terms (length links))) (sym is.links) (held_fits links));
       bound = bound;
+      below = subst (λ n. BeginHeld n st2.at.tags) (sym from) (subst (BeginHeld (length links)) (sym is.tags) (begin_held (length links)));
       entries = subst (AreCalls st2.at.tags) (sym is.entries) tt;
     }
 
@@ -169,12 +172,12 @@ module _ (x : Fixed) (st st' st2 : State) (effects : List CallTree) (nodes : Lis
   files_are : files_left st g ≡ done.written
   files_are = ap (after_exports st.written.files) are.exports
 
-  pub kept_behind : kept_with st' (links_left st g) (files_left st g) st.held ≡ done
+  pub kept_behind : kept_with st' (links_left st g) (files_left st g) st.links.held ≡ done
   kept_behind = λ i. record {
     entries = are.entries i;
     terms = are.terms i;
     links = links_are i;
-    held = st.held;
+    held = st.links.held;
     written = files_are i;
   }
 
@@ -187,7 +190,7 @@ module _ (x : Fixed) (st st' st2 : State) (effects : List CallTree) (nodes : Lis
   emptied_so : is_full (named_terms st'.at.tags) ≡ true → unless_full done ≡ emptied done
   emptied_so full = ap (λ (b : Bool). if b then emptied done else done) (full_there true full)
 
-  carried_is : IsCarried st st' g st2 → kept_of st2 ≡ kept_with st' (links_left st g) (files_left st g) st.held
+  carried_is : IsCarried st st' g st2 → kept_of st2 ≡ kept_with st' (links_left st g) (files_left st g) st.links.held
   carried_is is = λ i. record {
     entries = map (named (heads_of (is.tags i))) (is.entries i);
     terms = named_terms (is.tags i);
@@ -219,13 +222,13 @@ right_with : (terms : List Term) (held : Values) (links links' : BoundValues) (f
 right_with terms held links links' files [] h = tt
 right_with terms held links links' files (x ∷ xs) h = (h.0, right_with terms held links links' files xs h.1)
 
-pub right_carried : (st st' st2 : State) (g : Gathered) (files : World) → st'.held ≡ st.held → IsCarried st st' g st2 → EntriesRight (setting_of st') files st'.at.work.cache.entries → EntriesRight (setting_of st2) files st2.at.work.cache.entries
+pub right_carried : (st st' st2 : State) (g : Gathered) (files : World) → st'.links.held ≡ st.links.held → IsCarried st st' g st2 → EntriesRight (setting_of st') files st'.at.work.cache.entries → EntriesRight (setting_of st2) files st2.at.work.cache.entries
 right_carried st st' st2 g files same is right =
-    let held : st'.held ≡ st2.held = same ∙ sym is.held in
+    let held : st'.links.held ≡ st2.links.held = same ∙ sym is.held in
     subst (λ (es : List Entry). EntriesRight (setting_of st2) files es) (sym is.entries)
-    (subst (λ (ts : List Term). EntriesRight (record { terms = ts; links = st2.bound.pairs; held = st2.held; formed = [] }) files st'.at.work.cache.entries) (sym is.tags)
+    (subst (λ (ts : List Term). EntriesRight (record { terms = ts; links = st2.bound.pairs; held = st2.links.held; formed = [] }) files st'.at.work.cache.entries) (sym is.tags)
     (subst (λ (vs : Values). EntriesRight (record { terms = st'.at.tags; links = st2.bound.pairs; held = vs; formed = [] }) files st'.at.work.cache.entries) held
-    (right_with st'.at.tags st'.held st'.bound.pairs st2.bound.pairs files st'.at.work.cache.entries right)))
+    (right_with st'.at.tags st'.links.held st'.bound.pairs st2.bound.pairs files st'.at.work.cache.entries right)))
 
 pub right_emptied : (st st2 : State) (g : Gathered) (files : World) → IsEmptied st g st2 → EntriesRight (setting_of st2) files st2.at.work.cache.entries
 right_emptied st st2 g files is = subst (λ (es : List Entry). EntriesRight (setting_of st2) files es) (sym is.entries) tt
@@ -264,7 +267,7 @@ module _ (x : Fixed) (st st' st2 : State) (effects : List CallTree) (nodes : Lis
       bound from
       (subst (λ (ts : List Term). LinksRight a (links_of (heads_of ts) st2.links.links)) is.tags right)
 
-  pub sound_carried : is_full (named_terms st'.at.tags) ≡ false → st'.held ≡ st.held → IsCarried st st' g st2 → ComeFrom g.changes st.bound.pairs st2.bound.pairs → IsSoundState x st2
+  pub sound_carried : is_full (named_terms st'.at.tags) ≡ false → st'.links.held ≡ st.links.held → IsCarried st st' g st2 → ComeFrom g.changes st.bound.pairs st2.bound.pairs → IsSoundState x st2
   sound_carried full held is from =
       sound_behind x st st2 effects sound lawful budget (kept_carried x st st' st2 effects nodes base before g now written are fits on full is)
       (values_carried full is from) (right_carried st st' st2 g (world x.answer x.file) held is are.right)
@@ -318,15 +321,15 @@ module _ (st st' st2 : State) (g : Gathered) (links : LinkMap) (full : Bool)
     (links_so : links ≡ links_left st g)
     (tags_are : st2.at.tags ≡ (if full then held_terms (length links) else st'.at.tags))
     (links_are : st2.links.links ≡ (if full then all_held links else links))
-    (held_are : st2.held ≡ (if full then values_held links else st'.held))
+    (held_are : st2.links.held ≡ (if full then values_held links else st'.links.held))
     (entries_are : st2.at.work.cache.entries ≡ (if full then [] else st'.at.work.cache.entries))
     (written_is : st2.written.files ≡ files_left st g)
-    (held_same : st'.held ≡ st.held) where
+    (held_same : st'.links.held ≡ st.links.held) where
   is_carried : full ≡ false → IsCarried st st' g st2
   is_carried off = record {
     tags = subst (λ (b : Bool). st2.at.tags ≡ (if b then held_terms (length links) else st'.at.tags)) off tags_are;
     links = subst (λ (b : Bool). st2.links.links ≡ (if b then all_held links else links)) off links_are ∙ links_so;
-    held = subst (λ (b : Bool). st2.held ≡ (if b then values_held links else st'.held)) off held_are ∙ held_same;
+    held = subst (λ (b : Bool). st2.links.held ≡ (if b then values_held links else st'.links.held)) off held_are ∙ held_same;
     entries = subst (λ (b : Bool). st2.at.work.cache.entries ≡ (if b then [] else st'.at.work.cache.entries)) off entries_are;
     written = written_is;
   }
@@ -335,15 +338,18 @@ module _ (st st' st2 : State) (g : Gathered) (links : LinkMap) (full : Bool)
   is_emptied so = record {
     tags = subst (λ (b : Bool). st2.at.tags ≡ (if b then held_terms (length links) else st'.at.tags)) so tags_are ∙ ap (λ (ls : LinkMap). held_terms (length ls)) links_so;
     links = subst (λ (b : Bool). st2.links.links ≡ (if b then all_held links else links)) so links_are ∙ ap all_held links_so;
-    held = subst (λ (b : Bool). st2.held ≡ (if b then values_held links else st'.held)) so held_are ∙ ap values_held links_so;
+    held = subst (λ (b : Bool). st2.links.held ≡ (if b then values_held links else st'.links.held)) so held_are ∙ ap values_held links_so;
     entries = subst (λ (b : Bool). st2.at.work.cache.entries ≡ (if b then [] else st'.at.work.cache.entries)) so entries_are;
     written = written_is;
   }
 
-  pub fits_behind : StateFits st' → st'.links ≡ st.links → ChangesFit st'.at.tags g.changes → IsBound st2.links.links st2.bound → StateFits st2
-  fits_behind f same c bound = cases full
-      (λ so. emptied_fits st st2 g (is_emptied so) bound)
-      (λ off. carried_fits st st' st2 g f same held_same c (is_carried off) bound)
+  pub fits_behind : StateFits st' → st'.links ≡ st.links → st2.bound.from ≡ (if full then length links else st'.bound.from) → ChangesFit st'.at.tags g.changes → IsBound st2.links.links st2.bound → StateFits st2
+  fits_behind f same from c bound = cases full
+      (λ so. emptied_fits st st2 g (is_emptied so) (from_at true so ∙ ap length links_so) bound)
+      (λ off. carried_fits st st' st2 g f same held_same (from_at false off) c (is_carried off) bound)
+    where
+      from_at : (b : Bool) → full ≡ b → st2.bound.from ≡ (if b then length links else st'.bound.from)
+      from_at b e = from ∙ ap (λ (y : Bool). if y then length links else st'.bound.from) e
 
   module _ (x : Fixed) (effects : List CallTree) (nodes : List Node) (base : Told) (before : Option (List ℕ)) (now : Told) (written : Option (List ℕ)) (are : EffectsAre x st effects nodes base before g st' now written) (fits : StateFits st) (on : GoesOn st.at.tags st'.at.tags) (full_is : is_full (named_terms st'.at.tags) ≡ full) where
     pub kept_there : kept_of st2 ≡ (executed x effects (kept_of st)).kept

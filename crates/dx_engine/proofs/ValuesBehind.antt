@@ -1,5 +1,5 @@
 -- What is found by a term behind an execution is the value of a link: both are what the term denotes.
-use Rattle.std.proofs.Common.{◌≡◌, List, [], ◌∷◌, inl, inr, Bool, true, Option, Some, sym, ap, ◌∙◌, subst}
+use Rattle.std.proofs.Common.{◌≡◌, List, [], ◌∷◌, inl, inr, Option, Some, sym, ap, ◌∙◌, subst}
 use Rattle.std.specs.Prelude.{◌⊎◌, is_some, option_map, Result, Ok}
 use Rattle.std.specs.Map.{lookup}
 use Rattle.dx_base.specs.Object.{Tree as Object}
@@ -17,7 +17,7 @@ use Rattle.dx_meaning.specs.Outcome.{Value}
 use Rattle.dx_performing.specs.Meant.{LinksRight}
 use Rattle.dx_performing.specs.SoundLinks.{LinkRight, SetsRight}
 use Rattle.dx_looking.specs.Setting.{links_of}
-use Rattle.dx_looking.proofs.Bound.{tag_there}
+use Rattle.dx_looking.proofs.Bound.{tag_found}
 use Rattle.dx_looking.proofs.Bridge.{link_denotes}
 use Rattle.dx_ending.specs.InPlace.{IsSet, ComeFrom}
 use Rattle.dx_ending.specs.Terms.{link_of, set_terms_of}
@@ -37,9 +37,6 @@ set_denotes a hs (c ∷ cs) r t o (inr is) = set_denotes a hs cs r.1 t o is
 
 -- ---- values of links before and of what was set are those of the links behind
 
-found_there : (o : Object) (r : Option Object) (b : Bool) → is_some r ≡ b → r ≡ Some o → b ≡ true
-found_there o r b e f = sym e ∙ ap is_some f
-
 module _ (a : Around) (hs : List Head) (old new : LinkMap) (changes : List Change) (was : BoundValues) (bound : Table)
     (values : AreLinks old was) (right : LinksRight a (links_of hs old)) (sets : SetsRight a (set_terms_of hs changes))
     (is : IsBound new bound) (from : ComeFrom changes was bound.pairs) (right_behind : LinksRight a (links_of hs new)) where
@@ -55,7 +52,7 @@ module _ (a : Around) (hs : List Head) (old new : LinkMap) (changes : List Chang
 
   pub values_behind : AreLinks new bound.pairs
   values_behind t o e =
-      let has = tag_there t new (found_there o (lookup (tags.ghosts.eq t) bound.pairs) _ (is.found t) e) in
+      let has = tag_found new bound is t (ap is_some e) in
       let there : denotes a (value_term hs t) ≡ Ok (Some has.link.1.value) =
       subst (λ (u : ValueTag). denotes a (value_term hs u) ≡ Ok (Some has.link.1.value)) has.tag (link_denotes a hs new right_behind has.place has.link has.at) in
       record { place = has.place; link = has.link; at = has.at; tag = has.tag; object = same_value t o has.link.1.value (found_denotes t o e) there }

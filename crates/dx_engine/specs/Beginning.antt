@@ -78,4 +78,4 @@ pub record IsFresh (what : Seen) (terms : List Term) (entries : Cached) (at : Pr
 
 -- it stands at this, and the rest is as before
 abbrev pub standing_at : State → Progress → State
-standing_at st at = record { at = at; links = st.links; bound = st.bound; held = st.held; written = st.written }
+standing_at st at = record { at = at; links = st.links; bound = st.bound; written = st.written }

@@ -11,7 +11,8 @@ pub record IsCutFrom (old new : State) : Type 0 where
   pub links : new.links.links ≡ old.links.links
   pub bound : new.bound.pairs ≡ old.bound.pairs
   pub counts : new.bound.counts ≡ old.bound.counts
-  pub held : new.held ≡ old.held
+  pub from : new.bound.from ≡ old.bound.from
+  pub held : new.links.held ≡ old.links.held
   pub budget : new.at.work.cache.budget ≡ old.at.work.cache.budget
 
 -- no result is cached any more, and all else that counts behind an execution is as it was
@@ -21,7 +22,6 @@ pub record IsForgotten (old new : State) : Type 0 where
   pub tags : new.at.tags ≡ old.at.tags
   pub links : new.links ≡ old.links
   pub bound : new.bound ≡ old.bound
-  pub held : new.held ≡ old.held
   pub written : new.written ≡ old.written
 
 -- all but what is known and told is as it was
@@ -32,5 +32,4 @@ pub record IsGivenBack (old new : State) : Type 0 where
   pub seen : new.at.seen ≡ old.at.seen
   pub links : new.links ≡ old.links
   pub bound : new.bound ≡ old.bound
-  pub held : new.held ≡ old.held
   pub written : new.written ≡ old.written

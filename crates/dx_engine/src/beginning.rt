@@ -46,7 +46,6 @@ impl State {
         ensures write_cause { Cause WriteFault (O.faults out.old) (O.faults out.new) result }
         ensures links { self.new.links ≡ self.old.links }
         ensures bound { self.new.bound ≡ self.old.bound }
-        ensures held { self.new.held ≡ self.old.held }
         ensures written { self.new.written ≡ self.old.written }
         ensures budget { self.new.at.work.cache.budget ≡ self.old.at.work.cache.budget }
         ensures fits { OnOk result (StateFits self.new) }
@@ -62,7 +61,6 @@ impl State {
             graph: g,
             links: &self.links,
             bound: &self.bound,
-            held: &self.held,
             written: &self.written,
         };
         run_effects(&setup, &mut self.at, files, lib, out)

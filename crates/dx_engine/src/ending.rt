@@ -59,18 +59,14 @@ impl State {
         match prepared {
             Prepared::Kept => {}
             Prepared::Changed(ready) => change_in_place(&mut self.links, &mut self.bound, ready),
-            Prepared::Emptied(next) => {
-                let next = next.into_inner();
-                empty(
-                    next.emptied,
-                    &mut self.links,
-                    &mut self.at.tags,
-                    &mut self.held,
-                    &mut self.at.work.cache,
-                    &mut self.at.work.events,
-                );
-                self.bound = next.bound;
-            }
+            Prepared::Emptied(changes) => empty(
+                &mut self.links,
+                &mut self.bound,
+                &mut self.at.tags,
+                &mut self.at.work.cache,
+                &mut self.at.work.events,
+                changes,
+            ),
         }
     }
 
@@ -89,8 +85,8 @@ impl State {
         ensures error { ErrorIs (graph_of g.now).nodes gathered.error result }
         ensures cut { CutsPuts result (X.puts exports.old) (X.puts exports.new) self.old.written.files self.new.written.files (exports_of gathered.puts.items) }
         ensures links { OnCut result (self.new.links.links ≡ self.old.links.links) }
-        ensures bound { OnCut result ((self.new.bound.pairs ≡ self.old.bound.pairs) × (self.new.bound.counts ≡ self.old.bound.counts)) }
-        ensures same { OnCut result ((self.new.at.tags ≡ self.old.at.tags) × (self.new.held ≡ self.old.held) × (self.new.at.work.cache ≡ self.old.at.work.cache)) }
+        ensures bound { OnCut result ((self.new.bound.pairs ≡ self.old.bound.pairs) × (self.new.bound.counts ≡ self.old.bound.counts) × (self.new.bound.from ≡ self.old.bound.from)) }
+        ensures same { OnCut result ((self.new.at.tags ≡ self.old.at.tags) × (self.new.links.held ≡ self.old.links.held) × (self.new.at.work.cache ≡ self.old.at.work.cache)) }
         ensures faults { ¬ (result ≡ Err ReadFault) × ¬ (result ≡ Err WriteFault) }
         ensures cause { Cause ExportFault (X.faults exports.old) (X.faults exports.new) result }
     {

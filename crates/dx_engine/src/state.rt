@@ -10,18 +10,16 @@ use dx_demand::Seen;
 use dx_getting::{Bound, Event, Known, Work};
 use dx_links::Links;
 use dx_looking::{Progress, ToldValues};
-use dx_objects::Outs;
 use dx_tags::{Tags, Written};
 use std::alloc::Global;
 
 /// What is kept: the terms that were formed, the cache and the events of the last execution, with all that it saw on its way, which
-/// counts for nothing; the links and their values by their terms; the values held since the last emptying; and the files that were
-/// written.
+/// counts for nothing; the links, with the values that were held at the last emptying, and the values of links by their terms; and the
+/// files that were written.
 pub struct State {
     pub(crate) at: Progress,
     pub(crate) links: Links,
     pub(crate) bound: Bound,
-    pub(crate) held: Outs,
     pub(crate) written: Written,
 }
 
@@ -32,7 +30,6 @@ impl Drop for State {
             at: _,
             links: _,
             bound: _,
-            held: _,
             written: _,
         } = self;
     }
@@ -60,7 +57,6 @@ impl State {
             },
             links: Links::new(alloc),
             bound: Bound::new(alloc),
-            held: Outs::new(alloc),
             written: Written::new(alloc),
         }
     }

@@ -66,7 +66,7 @@ pub record Setting : Type 0 where
   pub formed : FormedCalls
 
 abbrev pub setting_of : Scene → FormedCalls → Setting
-setting_of scene formed = record { terms = scene.tags.now; links = scene.links.now.pairs; held = scene.held.now; formed = formed }
+setting_of scene formed = record { terms = scene.tags.now; links = scene.links.now.pairs; held = scene.held.now.held; formed = formed }
 
 -- what modules answer, and the files
 pub record World : Type 0 where

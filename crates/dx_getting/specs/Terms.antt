@@ -15,8 +15,9 @@ BoundValues = List (ValueTag × Tree)
 abbrev pub Counts : Type 0
 Counts = List (ValueTag × ℕ)
 
--- the values of links by their terms, how many links hold each, and the room for more terms
+-- from which tag on values are kept, the values of links by their terms, how many links hold each, and the room for more terms
 pub record Table : Type 0 where
+  pub from : ℕ
   pub pairs : BoundValues
   pub counts : Counts
   pub room : ℕ
@@ -52,7 +53,7 @@ coded_counts = coded_list (coded× coded_tag coded_ℕ)
 
 abbrev pub coded_table : Coded Table
 coded_table =
-    code_by (BoundValues × (Counts × ℕ)) (coded× coded_bound (coded× coded_counts coded_ℕ))
-    (λ t. (t.pairs, (t.counts, t.room)))
-    (λ p. record { pairs = p.0; counts = p.1.0; room = p.1.1 })
+    code_by (ℕ × (BoundValues × (Counts × ℕ))) (coded× coded_ℕ (coded× coded_bound (coded× coded_counts coded_ℕ)))
+    (λ t. (t.from, (t.pairs, (t.counts, t.room))))
+    (λ p. record { from = p.0; pairs = p.1.0; counts = p.1.1.0; room = p.1.1.1 })
     (λ _. refl)

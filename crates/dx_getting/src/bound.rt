@@ -6,7 +6,7 @@ ghost use Rattle.dx_tags.specs.contracts.term.ValueTagPartialEq.TheImpl as tags;
 ghost use Rattle.dx_getting.specs.Terms.{count_in};
 
 use dx_objects::Object;
-use dx_tags::ValueTag;
+use dx_tags::{Tag, ValueTag};
 use indexmap::IndexMap;
 use std::alloc::{AllocError, Global};
 use std::marker::Model;
@@ -20,10 +20,13 @@ struct Binding {
 }
 
 /// What links hold, by the tags of their terms, so that a term is looked up in one step, however many links there are, and so
-/// is whether the last link of a term goes. Contracts see a list of pairs in which no tag stands twice, how many links hold
-/// each, and the room for more terms.
+/// is whether the last link of a term goes. The terms of held values are below the tag from which on values are kept: those
+/// need no look. Contracts see that tag, a list of pairs in which no tag stands twice, how many links hold each, and the room
+/// for more terms.
 #[derive(Drop)]
 pub struct Bound {
+    alloc: Global,
+    from: Tag,
     table: IndexMap<ValueTag, Binding>,
 }
 
@@ -35,21 +38,24 @@ impl Model for Bound {
 
     ghost coded = { coded_table };
 
-    ghost view = { λ b. record { pairs = bound_values b.table.entries; counts = bound_counts b.table.entries; room = spare b.table } };
+    ghost view = { λ b. record { from = b.from; pairs = bound_values b.table.entries; counts = bound_counts b.table.entries; room = spare b.table } };
 }
 
 impl Bound {
     /// No links, which takes no memory.
     pub fn new(alloc: Global) -> Bound
+        ensures from { result.from ≡ 0 }
         ensures pairs { result.pairs ≡ [] }
         ensures counts { result.counts ≡ [] }
     {
         Bound {
+            alloc,
+            from: 0,
             table: IndexMap::new(alloc),
         }
     }
 
-    /// The value of the links whose term a tag names, and none exactly where no link has this term.
+    /// The value that is kept under a tag, which is that of the links with this term, and none exactly where none is kept.
     pub fn get(&self, tag: ValueTag) -> Option<&Rc<Object>>
         ensures { MatchOption result (lookup (tags.ghosts.eq tag) self.now.pairs ≡ None) (λ o. lookup (tags.ghosts.eq tag) self.now.pairs ≡ Some o.now.value) }
     {
@@ -57,6 +63,23 @@ impl Bound {
             Some(binding) => Some(&binding.value),
             None => None,
         }
+    }
+
+    /// The tag from which on values are kept.
+    pub fn from(&self) -> Tag
+        ensures { result ≡ self.now.from }
+    {
+        self.from
+    }
+
+    /// No values, and from which tag on they are kept. This takes no memory, and gives back what the values took.
+    pub fn empty(&mut self, from: Tag)
+        ensures from { self.new.from ≡ from }
+        ensures pairs { self.new.pairs ≡ [] }
+        ensures counts { self.new.counts ≡ [] }
+    {
+        self.from = from;
+        self.table = IndexMap::new(self.alloc);
     }
 
     // How many links hold the value of a term.
@@ -73,6 +96,7 @@ impl Bound {
     pub fn reserve(&mut self, terms: usize) -> Result<(), AllocError>
         ensures pairs { self.new.pairs ≡ self.old.pairs }
         ensures counts { self.new.counts ≡ self.old.counts }
+        ensures from { self.new.from ≡ self.old.from }
         ensures room { OnOk result (terms ≤ self.new.room) }
         ensures kept { self.old.room ≤ self.new.room }
     {
@@ -86,6 +110,7 @@ impl Bound {
         ensures values { (t : ValueTag) → lookup (tags.ghosts.eq t) self.new.pairs ≡ (if tags.ghosts.eq tag t then Some value.value else lookup (tags.ghosts.eq t) self.old.pairs) }
         ensures counts { (t : ValueTag) → count_in t self.new.counts ≡ (if tags.ghosts.eq tag t then 1 + count_in tag self.old.counts else count_in t self.old.counts) }
         ensures once { IsDistinct tags.ghosts.eq (keys_of self.new.pairs) }
+        ensures from { self.new.from ≡ self.old.from }
         ensures room { self.old.room ≤ self.new.room + 1 }
     {
         let links = self.count(tag) + 1;
@@ -101,6 +126,7 @@ impl Bound {
         ensures values { (t : ValueTag) → lookup (tags.ghosts.eq t) self.new.pairs ≡ lookup (tags.ghosts.eq t) self.old.pairs }
         ensures counts { (t : ValueTag) → count_in t self.new.counts ≡ (if tags.ghosts.eq tag t then count_in tag self.old.counts - 1 else count_in t self.old.counts) }
         ensures once { IsDistinct tags.ghosts.eq (keys_of self.new.pairs) }
+        ensures from { self.new.from ≡ self.old.from }
         ensures room { self.old.room ≤ self.new.room }
     {
         match self.table.get_mut(&tag) {
@@ -114,6 +140,7 @@ impl Bound {
         ensures values { (t : ValueTag) → lookup (tags.ghosts.eq t) self.new.pairs ≡ (if tags.ghosts.eq tag t then None else lookup (tags.ghosts.eq t) self.old.pairs) }
         ensures counts { (t : ValueTag) → count_in t self.new.counts ≡ (if tags.ghosts.eq tag t then 0 else count_in t self.old.counts) }
         ensures once { IsDistinct tags.ghosts.eq (keys_of self.new.pairs) }
+        ensures from { self.new.from ≡ self.old.from }
         ensures room { self.old.room ≤ self.new.room }
     {
         self.table.swap_remove(&tag);
@@ -124,6 +151,7 @@ impl Bound {
         ensures values { (t : ValueTag) → lookup (tags.ghosts.eq t) self.new.pairs ≡ (if tags.ghosts.eq tag t && (count_in tag self.old.counts - 1 == 0) then None else lookup (tags.ghosts.eq t) self.old.pairs) }
         ensures counts { (t : ValueTag) → count_in t self.new.counts ≡ (if tags.ghosts.eq tag t then count_in tag self.old.counts - 1 else count_in t self.old.counts) }
         ensures once { IsDistinct tags.ghosts.eq (keys_of self.new.pairs) }
+        ensures from { self.new.from ≡ self.old.from }
         ensures room { self.old.room ≤ self.new.room }
     {
         if self.count(tag) > 1 {

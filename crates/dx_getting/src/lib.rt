@@ -20,7 +20,7 @@ mod working;
 
 pub use all::get_all;
 pub use bound::Bound;
-pub use emptying::{Emptied, empty, prepare_emptying};
+pub use emptying::empty;
 pub use event::Event;
 pub use fail::GetFail;
 pub use known::Known;

@@ -2,17 +2,18 @@
 
 use crate::bound::Bound;
 use dx_base::Bytes;
-use dx_objects::Outs;
+use dx_links::Links;
 use dx_tags::{Tag, Tags};
 use std::alloc::{AllocError, Global};
 
-/// The terms, the values of links by their terms, and the values that were kept at the last emptying by their numbers.
+/// The terms, the values of links by their terms, and the links, which have the values that were held at the last emptying by
+/// their numbers.
 #[derive(Drop)]
 pub struct Scene<'a> {
     pub alloc: Global,
     pub tags: &'a Tags,
     pub links: &'a Bound,
-    pub held: &'a Outs,
+    pub held: &'a Links,
 }
 
 /// The site and the cache attribute of the first call that formed a term in this execution.

@@ -14,8 +14,9 @@ use crate::known::Known;
 use crate::scene::{Called, Scene, Sites};
 use dx_ast::Const;
 use dx_consts::object_of;
+use dx_links::Links;
 use dx_objects::{Object, Outs, Value};
-use dx_tags::{Tag, Term, ValueTag};
+use dx_tags::{Named, Tag, Term, ValueTag};
 use std::alloc::{AllocError, Global};
 use std::rc::Rc;
 
@@ -43,6 +44,16 @@ pub(crate) fn value_in(outs: &Outs, i: usize) -> Result<Value, AllocError>
     }
 }
 
+// The value of a number that was held at the last emptying.
+fn value_held(links: &Links, n: u64) -> Result<Value, AllocError>
+    ensures { IfOk result (λ v. value_of v ≡ value_at links.now.held n) }
+{
+    match links.value_held(n as usize) {
+        None => Ok(None),
+        Some(object) => shared(object),
+    }
+}
+
 // The value of a constant that a tag names: its object is shared where the terms keep it, and else made.
 #[tactic(auto, using(dx_tags::proofs::MadeLaws::made_value))]
 fn constant_value(scene: &Scene, tag: Tag, c: &Const) -> Result<Value, AllocError>
@@ -63,10 +74,11 @@ pub(crate) fn value_given(scene: &Scene, t: ValueTag) -> Result<Given, AllocErro
     ensures { IfOk result (λ g. (formed : _) → GivenBy (setting_of scene.now formed) t (head_at (heads_of scene.now.tags.now) t.tag) g) }
 {
     match scene.tags.term(t.tag) {
-        Term::Constant(c) => Ok(Given::Ready(constant_value(scene, t.tag, c)?)),
-        Term::Held(n) => Ok(Given::Ready(value_in(scene.held, *n as usize)?)),
-        Term::File(_) => Ok(Given::Ready(None)),
-        Term::Call(_, _) => match scene.links.get(t) {
+        Named::Held(n) => Ok(Given::Ready(value_held(scene.held, n)?)),
+        Named::Formed(Term::Held(n)) => Ok(Given::Ready(value_held(scene.held, *n)?)),
+        Named::Formed(Term::Constant(c)) => Ok(Given::Ready(constant_value(scene, t.tag, c)?)),
+        Named::Formed(Term::File(_)) => Ok(Given::Ready(None)),
+        Named::Formed(Term::Call(_, _)) => match scene.links.get(t) {
             None => Ok(Given::ToGet),
             Some(object) => Ok(Given::Ready(shared(object)?)),
         },

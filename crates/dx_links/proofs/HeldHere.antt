@@ -1,5 +1,7 @@
 -- A link is what its key holds.
 use Rattle.std.proofs.Common.{◌≡◌, ℕ, ◌<◌, length, get_or, Some, sym, ap, ◌∙◌, subst, refl}
+use Rattle.std.specs.Prelude.{slice_get}
+use Rattle.std.proofs.lemmas.Option.{slice_get-get_or}
 use Rattle.std.specs.Ordering.{ordering_reverse}
 use Rattle.std.specs.declared.cmp.Ordering.{Ordering}
 use Rattle.std.specs.declared.cmp.Ordering.TheVariants.{Less, Equal, Greater}
@@ -17,7 +19,9 @@ own_way Greater e = cc
 pub itself : (k : Key) → key_cmp k k ≡ Equal
 itself k = own_way (key_cmp k k) (key_cmp_total.antisymm k k)
 
-pub held_here : (links : LinkMap) (i : ℕ) (l : Key × Holding) → AreSorted links → i < length links → l ≡ get_or links i l → held_at l.0 links ≡ Some l.1
-held_here links i l s within at =
-    lookup_found key_cmp_total l.0 links i l s within (subst (λ (x : Key × Holding). key_cmp x.0 l.0 ≡ Equal) at (itself l.0))
-    ∙ ap (λ (x : Key × Holding). Some x.1) (sym at)
+pub held_here : (links : LinkMap) (i : ℕ) (l : Key × Holding) → AreSorted links → i < length links → slice_get links i ≡ Some l → held_at l.0 links ≡ Some l.1
+held_here links i l s within e =
+    let here = slice_get-get_or links i l within in
+    let at : get_or links i l ≡ l = cc in
+    lookup_found key_cmp_total l.0 links i l s within (subst (λ (x : Key × Holding). key_cmp x.0 l.0 ≡ Equal) (sym at) (itself l.0))
+    ∙ ap (λ (x : Key × Holding). Some x.1) at

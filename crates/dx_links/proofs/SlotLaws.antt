@@ -229,7 +229,7 @@ take_slot slots rest order left i j a b o h l at_i at_j last shorter fewer =
       (λ t. links_of (now t) (fewer t)) ∙ drop_slot (swap slots a b) (swap order i j) i swapped within at ∙ ap (λ es. remove es i) same,
     )
 
--- ---- links that stand in their order
+-- ---- no links
 
 pub none_ordered : (slots : LinkMap) (order : List ℕ) → slots ≡ [] → order ≡ [] → AreOrdered slots order
 none_ordered slots order e f = subst (λ ss. AreOrdered ss order) (sym e) (subst (AreOrdered []) (sym f) (record {
@@ -237,6 +237,8 @@ none_ordered slots order e f = subst (λ ss. AreOrdered ss order) (sym e) (subst
   each = λ n l. absurd (omega (arith, l));
   sorted = none_sorted [] refl;
 }))
+
+-- ---- links that stand in their order
 
 listed_links : (slots : LinkMap) → links_of slots (range_with_len 0 (length slots)) ≡ slots
 listed_links slots = read_all no_link slots

@@ -4,6 +4,7 @@ use Rattle.std.specs.Coded.{Coded, code_by, coded×, coded_ℕ}
 use Rattle.dx_base.specs.Object.{Tree}
 use Rattle.dx_base.specs.ObjectCode.{coded_tree}
 use Rattle.dx_tags.specs.declared.term.ValueTag.{ValueTag}
+use Rattle.dx_links.specs.declared.held.HeldRef.{HeldRef}
 
 -- an object, with the tag of a term that denotes it
 pub record Holding : Type 0 where
@@ -16,3 +17,7 @@ coded_holding =
     (λ h. (h.value, (h.tag.tag, h.tag.result)))
     (λ p. record { value = p.0; tag = record { tag = p.1.0; result = p.1.1 } })
     (λ _. refl)
+
+-- what a link holds, as a borrow of it tells
+abbrev pub holding_of : HeldRef → Holding
+holding_of h = record { value = h.value.now.value; tag = h.tag }

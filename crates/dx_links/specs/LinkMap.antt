@@ -5,6 +5,8 @@ use Rattle.std.specs.Map.{lookup, remove_entry}
 use Rattle.std.specs.BTreeMap.{insert_entry, is_at}
 use Rattle.std.specs.declared.cmp.Ordering.{Ordering}
 use Rattle.std.specs.declared.cmp.Ordering.TheVariants.{Less, Greater}
+use Rattle.dx_base.specs.ObjectCode.{coded_tree}
+use Rattle.dx_objects.specs.Runs.{Values}
 use Rattle.dx_tags.specs.declared.term.ValueTag.{ValueTag}
 use Rattle.dx_links.specs.declared.key.Key.{Key}
 use Rattle.dx_links.specs.declared.key.Key.TheVariants.{Global, Local}
@@ -16,10 +18,17 @@ use Rattle.dx_links.specs.Holding.{Holding, coded_holding}
 abbrev pub LinkMap : Type 0
 LinkMap = List (Key × Holding)
 
--- the links, and the room for more keys
-pub record Linked : Type 0 where
+-- links, and the room for more keys
+pub record Slotted : Type 0 where
   pub links : LinkMap
   pub room : ℕ
+
+-- the links, the values that were held at the last emptying, by number, the room for more keys, and the room for more keys at an emptying
+pub record Linked : Type 0 where
+  pub links : LinkMap
+  pub held : Values
+  pub room : ℕ
+  pub spare : ℕ
 
 -- global keys before local ones; those by name, these by path and then by name
 abbrev pub key_cmp : Key → Key → Ordering
@@ -48,11 +57,21 @@ key_back (Local p n) = refl
 abbrev pub coded_key : Coded Key
 coded_key = code_by (Option (List ℕ) × List ℕ) (coded× (coded_option (coded_list coded_ℕ)) (coded_list coded_ℕ)) parts_of_key key_of_parts key_back
 
-abbrev pub coded_linked : Coded Linked
-coded_linked =
-    code_by (LinkMap × ℕ) (coded× (coded_list (coded× coded_key coded_holding)) coded_ℕ)
+abbrev coded_links : Coded LinkMap
+coded_links = coded_list (coded× coded_key coded_holding)
+
+abbrev pub coded_slotted : Coded Slotted
+coded_slotted =
+    code_by (LinkMap × ℕ) (coded× coded_links coded_ℕ)
     (λ l. (l.links, l.room))
     (λ p. record { links = p.0; room = p.1 })
+    (λ _. refl)
+
+abbrev pub coded_linked : Coded Linked
+coded_linked =
+    code_by (LinkMap × (Values × (ℕ × ℕ))) (coded× coded_links (coded× (coded_list (coded_option coded_tree)) (coded× coded_ℕ coded_ℕ)))
+    (λ l. (l.links, (l.held, (l.room, l.spare))))
+    (λ p. record { links = p.0; held = p.1.0; room = p.1.1.0; spare = p.1.1.1 })
     (λ _. refl)
 
 abbrev pub coded_change : Coded Change

@@ -64,6 +64,13 @@ impl Held {
     }
 }
 
+/// What a link holds: its value, and the tag of a term that denotes it.
+#[derive(Drop)]
+pub struct HeldRef<'a> {
+    pub value: &'a Rc<Object>,
+    pub tag: ValueTag,
+}
+
 /// What a Set does: a value is kept under a key, or the key is taken away.
 #[derive(Drop)]
 pub struct Change {

@@ -7,13 +7,13 @@ ghost use Rattle.dx_links.specs.LinkMap.{key_cmp, put_at};
 
 use crate::held::{Change, Held};
 use crate::key::Key;
-use crate::links::Links;
 use crate::places::{place_of, place_of_slot};
+use crate::slots::Slots;
 
-impl Links {
+impl Slots {
     /// A key holds this from now on, or nothing any more. This takes no memory. The order is searched by halving; a new key, and
     /// one that is taken away, moves the numbers of those above it, and no links.
-    pub fn put(&mut self, change: Change)
+    pub(crate) fn put(&mut self, change: Change)
         requires room { 0 < self.old.room }
         ensures made { self.new.links ≡ put_at self.old.links change.key change.held }
         ensures room { self.old.room ≤ self.new.room + 1 }

@@ -1,6 +1,6 @@
-//! Links after commits of a few changes, in the order of their keys.
+//! Links after commits of a few changes and after emptyings, in the order of their keys.
 use dx_base::Bytes;
-use dx_links::{Change, Changes, Held, Key, Links};
+use dx_links::{Change, Changes, Held, HeldRef, Key, Links};
 use dx_objects::{Object, Parts};
 use dx_tags::ValueTag;
 use std::alloc::{AllocError, Global};
@@ -46,22 +46,35 @@ fn change(alloc: Global, row: &Row) -> Result<Change, Fail> {
     })
 }
 
-// Makes these changes in one commit.
-fn commit(alloc: Global, links: &mut Links, rows: &[Row]) -> Result<(), Fail> {
+fn changes(alloc: Global, rows: &[Row]) -> Result<Changes, Fail> {
     let mut changes = Changes::new(alloc);
     for row in rows {
         changes.push(change(alloc, row)?)?;
     }
+    Ok(changes)
+}
+
+// Makes these changes in one commit.
+fn commit(alloc: Global, links: &mut Links, rows: &[Row]) -> Result<(), Fail> {
+    let changes = changes(alloc, rows)?;
     links.reserve(changes.len())?;
     links.commit(changes);
     Ok(())
 }
 
+// Makes these changes at an emptying.
+fn empty(alloc: Global, links: &mut Links, rows: &[Row]) -> Result<(), Fail> {
+    let changes = changes(alloc, rows)?;
+    links.reserve_emptying(changes.len())?;
+    links.empty(changes);
+    Ok(())
+}
+
 // Whether a key of the row with its tag and its own text stands there.
-fn is(alloc: Global, found: (&Key, &Held), row: &Row) -> Result<bool, AllocError> {
+fn is(alloc: Global, found: (&Key, HeldRef<'_>), row: &Row) -> Result<bool, AllocError> {
     let (found, held) = found;
     let key = key(alloc, row)?;
-    Ok(*found == key && held.tag().tag == row.2 && held.value().as_text() == Some(row.1))
+    Ok(*found == key && held.tag.tag == row.2 && held.value.as_text() == Some(row.1))
 }
 
 // Whether these links stand there, in this order, and no others.
@@ -77,7 +90,7 @@ fn tag_of(alloc: Global, links: &Links, row: &Row) -> Result<u64, AllocError> {
     let key = key(alloc, row)?;
     Ok(match links.get(&key) {
         None => 0,
-        Some(held) => held.tag().tag,
+        Some(held) => held.tag.tag,
     })
 }
 
@@ -162,34 +175,83 @@ fn keys_stand_in_their_order(rt: HostRuntime) -> Result<(), Fail> {
     Ok(())
 }
 
-const BEFORE: &[Row] = &[(None, b"a", 1), (None, b"b", 2), (Some(b"m:1"), b"a", 3)];
+// Whether a value is held by this number, and is this text.
+fn is_held(links: &Links, k: usize, text: &[u8]) -> bool {
+    match links.value_held(k) {
+        None => false,
+        Some(value) => value.as_text() == Some(text),
+    }
+}
 
-const LATER: &[Row] = &[(None, b"b", 0), (Some(b"m:1"), b"a", 4), (None, b"c", 5)];
+// Whether these texts are held by their numbers, and no others.
+fn are_held(links: &Links, texts: &[&[u8]]) -> bool {
+    let mut same = links.value_held(texts.len()).is_none();
+    for (k, text) in texts.iter().enumerate() {
+        same = is_held(links, k, text) && same;
+    }
+    same
+}
 
-const AFTER: &[Row] = &[(None, b"a", 1), (None, b"c", 5), (Some(b"m:1"), b"a", 4)];
+const BEFORE: &[Row] = &[(None, b"a", 1), (None, b"b", 2), (Some(b"m:1"), b"d", 3)];
+
+const LATER: &[Row] = &[(None, b"b", 0), (Some(b"m:1"), b"d", 4), (None, b"c", 5)];
+
+const EMPTIED: &[Row] = &[(None, b"a", 0), (None, b"c", 1), (Some(b"m:1"), b"d", 2)];
+
+const EMPTIED_HELD: &[&[u8]] = &[b"a", b"c", b"d"];
+
+#[test]
+fn at_an_emptying_a_link_gets_the_term_of_its_place(rt: HostRuntime) -> Result<(), Fail> {
+    let mut links = Links::new(rt.alloc());
+    commit(rt.alloc(), &mut links, BEFORE)?;
+    assert!(rt; are(rt.alloc(), &links, BEFORE)? && are_held(&links, &[]));
+    empty(rt.alloc(), &mut links, LATER)?;
+    assert!(rt; are(rt.alloc(), &links, EMPTIED)? && hold(rt.alloc(), &links, EMPTIED)?);
+    assert!(rt; are_held(&links, EMPTIED_HELD));
+    Ok(())
+}
 
 #[test]
 fn a_copy_stays_as_it_was(rt: HostRuntime) -> Result<(), Fail> {
     let mut links = Links::new(rt.alloc());
     commit(rt.alloc(), &mut links, BEFORE)?;
     let copy = links.copy(rt.alloc())?;
-    commit(rt.alloc(), &mut links, LATER)?;
-    assert!(rt; are(rt.alloc(), &links, AFTER)?);
-    assert!(rt; are(rt.alloc(), &copy, BEFORE)?);
+    empty(rt.alloc(), &mut links, LATER)?;
+    let behind = links.copy(rt.alloc())?;
+    empty(rt.alloc(), &mut links, BEHIND)?;
+    assert!(rt; are(rt.alloc(), &copy, BEFORE)? && are(rt.alloc(), &behind, EMPTIED)?);
     Ok(())
 }
 
-const TAGS: &[Row] = &[(None, b"a", 1), (None, b"b", 2), (Some(b""), b"b", 3)];
+// A key before the others, and one that is taken away.
+const BEHIND: &[Row] = &[(None, b"A", 7), (Some(b"m:1"), b"d", 0)];
 
-const OTHER_TAGS: &[Row] = &[(None, b"a", 1), (None, b"b", 9), (Some(b""), b"b", 3)];
+const CHANGED_BEHIND: &[Row] = &[(None, b"A", 7), (None, b"a", 0), (None, b"c", 1)];
 
 #[test]
-fn a_tag_is_changed_alone(rt: HostRuntime) -> Result<(), Fail> {
+fn links_keep_their_terms_behind_an_emptying(rt: HostRuntime) -> Result<(), Fail> {
     let mut links = Links::new(rt.alloc());
-    commit(rt.alloc(), &mut links, TAGS)?;
-    if links.len() == 3 {
-        links.set_tag(1, ValueTag { tag: 9, result: 0 });
-    }
-    assert!(rt; are(rt.alloc(), &links, OTHER_TAGS)?);
+    commit(rt.alloc(), &mut links, BEFORE)?;
+    empty(rt.alloc(), &mut links, LATER)?;
+    links.reserve(1)?;
+    assert!(rt; are(rt.alloc(), &links, EMPTIED)? && are_held(&links, EMPTIED_HELD));
+    commit(rt.alloc(), &mut links, BEHIND)?;
+    assert!(rt; are(rt.alloc(), &links, CHANGED_BEHIND)? && are_held(&links, EMPTIED_HELD));
+    Ok(())
+}
+
+const EMPTIED_AGAIN: &[Row] = &[(None, b"A", 0), (None, b"a", 1), (None, b"c", 2)];
+
+#[test]
+fn an_emptying_without_changes_counts_the_places_again(rt: HostRuntime) -> Result<(), Fail> {
+    let mut links = Links::new(rt.alloc());
+    commit(rt.alloc(), &mut links, BEFORE)?;
+    empty(rt.alloc(), &mut links, LATER)?;
+    commit(rt.alloc(), &mut links, BEHIND)?;
+    empty(rt.alloc(), &mut links, &[])?;
+    assert!(rt; are(rt.alloc(), &links, EMPTIED_AGAIN)? && are_held(&links, &[b"A", b"a", b"c"]));
+    // And again where the links are settled.
+    empty(rt.alloc(), &mut links, &[(None, b"0", 9)])?;
+    assert!(rt; are_held(&links, &[b"0", b"A", b"a", b"c"]));
     Ok(())
 }

@@ -5,7 +5,7 @@ ghost use Rattle.dx_tags.specs.Closed.{AllFormed, Fits, IsFormed, heads_of};
 
 use dx_ast::Const;
 use dx_base::{Bytes, Module, Shared};
-use dx_tags::{Content, Tag, Tags, Term, ValueTag, ValueTags};
+use dx_tags::{Content, Named, Tag, Tags, Term, ValueTag, ValueTags};
 use std::alloc::Global;
 use std::test::Fail;
 
@@ -59,7 +59,7 @@ fn is_there(tags: &Tags, t: ValueTag) -> bool
         return false;
     }
     match tags.term(t.tag) {
-        Term::Call(_, _) => true,
+        Named::Formed(Term::Call(_, _)) => true,
         _ => t.result == 0,
     }
 }
@@ -149,7 +149,8 @@ fn held(tags: &Tags, tag: Tag) -> Option<u64> {
         return None;
     }
     match tags.term(tag) {
-        Term::Held(n) => Some(*n),
+        Named::Held(n) => Some(n),
+        Named::Formed(Term::Held(n)) => Some(*n),
         _ => None,
     }
 }
@@ -163,9 +164,52 @@ fn tags_are_forgotten(rt: HostRuntime) -> Result<(), Fail> {
     let mut tags = Tags::new(rt.alloc());
     assert!(rt; have(rt.alloc(), &mut tags, THREE)?);
     assert!(rt; held(&tags, 0) == None && held(&tags, 1) == Some(8) && held(&tags, 2) == Some(9));
-    tags.clear();
+    tags.empty(0);
     assert!(rt; tags.count() == 0 && held(&tags, 1) == None);
     assert!(rt; have(rt.alloc(), &mut tags, TWO)?);
     assert!(rt; tags.count() == 2 && held(&tags, 0) == Some(9));
+    Ok(())
+}
+
+// Whether the first so many terms are those of held values, each that of its number.
+fn hold(tags: &Tags, count: u64) -> bool {
+    for n in 0..count {
+        if held(tags, n) != Some(n) {
+            return false;
+        }
+    }
+    true
+}
+
+// Behind three held values: those, one that is none of them, a constant, and a call.
+const BEHIND: &[(Row, Tag)] = &[
+    (Row::Held(1), 1),
+    (Row::Held(0), 0),
+    (Row::Held(5), 3),
+    (Row::Int(7), 4),
+    (Row::Call(Module::Select, 2, 0), 5),
+    (Row::Held(2), 2),
+    (Row::Held(5), 3),
+];
+
+const BEHIND_ONE: &[(Row, Tag)] = &[(Row::Int(7), 1), (Row::Held(0), 0), (Row::Held(1), 2)];
+
+#[test]
+fn an_emptying_leaves_held_values(rt: HostRuntime) -> Result<(), Fail> {
+    let mut tags = Tags::new(rt.alloc());
+    assert!(rt; have(rt.alloc(), &mut tags, THREE)?);
+    tags.empty(3);
+    assert!(rt; tags.count() == 3 && hold(&tags, 3) && held(&tags, 3) == None);
+    assert!(rt; tag_of(rt.alloc(), &mut tags, Row::Held(1))? == 1);
+    assert!(rt; tags.count() == 3);
+    assert!(rt; tag_of(rt.alloc(), &mut tags, Row::Held(5))? == 3);
+    assert!(rt; tags.count() == 4 && held(&tags, 3) == Some(5));
+    assert!(rt; have(rt.alloc(), &mut tags, BEHIND)?);
+    assert!(rt; tags.count() == 6 && hold(&tags, 3) && held(&tags, 4) == None);
+    // Another emptying.
+    tags.empty(1);
+    assert!(rt; tags.count() == 1 && hold(&tags, 1));
+    assert!(rt; have(rt.alloc(), &mut tags, BEHIND_ONE)?);
+    assert!(rt; tags.count() == 3);
     Ok(())
 }

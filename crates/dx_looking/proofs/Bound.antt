@@ -1,9 +1,10 @@
 -- What is found by tags of links, as lists.
-use Rattle.std.proofs.Common.{◌≡◌, ℕ, zero, suc, ◌+◌, ◌<◌, [], ◌∷◌, Option, Some, None, is_some, Bool, true, false, cond, arith, refl, sym, ap, ◌∙◌, subst}
+use Rattle.std.proofs.Common.{◌≡◌, ◌⊎◌, inl, inr, ⊎_elim, ℕ, zero, suc, ◌+◌, ◌<◌, ◌≤◌, [], ◌∷◌, Option, Some, None, is_some, Bool, true, false, cond, arith, refl, sym, ap, ◌∙◌, subst}
 use Rattle.std.specs.Prelude.{slice_get, ◌==◌, not, if◌then◌else◌}
 use Rattle.std.specs.Cmp.{IsEquivalence, unsigned_Decides}
 use Rattle.std.specs.List.{IsDistinct}
 use Rattle.std.specs.Map.{keys_of, lookup}
+use Rattle.std.proofs.lemmas.Bool.{cases_lt}
 use Rattle.std.proofs.lemmas.Map.Entries.{lookup_from_place}
 use Rattle.dx_base.specs.Object.{Tree as Object}
 use Rattle.dx_cache.proofs.Places.{cases}
@@ -14,7 +15,7 @@ use Rattle.dx_links.specs.Holding.{Holding}
 use Rattle.dx_links.specs.LinkMap.{LinkMap}
 use Rattle.dx_machine.proofs.SameTerms.{same_test}
 use Rattle.dx_getting.specs.Bound.{IsBound, IsLink, AreLinks, links_with}
-use Rattle.dx_getting.specs.Terms.{BoundValues, Table}
+use Rattle.dx_getting.specs.Terms.{BoundValues, Table, count_in}
 use Rattle.dx_getting.proofs.Names.{tag_decides}
 
 -- ---- tags
@@ -67,21 +68,24 @@ later_counted t l ls e = still_some (if tags.ghosts.eq t l.1.tag then 1 else 0) 
 
 -- ---- the value of each link
 
--- a value is found by the tag of each link
-abbrev pub AllBound : LinkMap → BoundValues → Type 0
-AllBound [] bound = Unit {0}
-AllBound (l ∷ ls) bound = ((o : Object) × (lookup (tags.ghosts.eq l.1.tag) bound ≡ Some o)) × AllBound ls bound
+-- each link has a tag below this one, or a value is found by its tag
+abbrev pub AllBound : ℕ → LinkMap → BoundValues → Type 0
+AllBound from [] bound = Unit {0}
+AllBound from (l ∷ ls) bound = ((l.1.tag.tag < from) ⊎ ((o : Object) × (lookup (tags.ghosts.eq l.1.tag) bound ≡ Some o))) × AllBound from ls bound
 
 value_there : (o : Option Object) → is_some o ≡ true → (x : Object) × (o ≡ Some x)
 value_there None e = cc
 value_there (Some x) e = (x, refl)
 
-all_found : (bound : BoundValues) (links : LinkMap) → ((t : ValueTag) → not (links_with t links == 0) ≡ true → is_some (lookup (tags.ghosts.eq t) bound) ≡ true) → AllBound links bound
-all_found bound [] f = tt
-all_found bound (l ∷ ls) f = (value_there (lookup (tags.ghosts.eq l.1.tag) bound) (f l.1.tag (first_counted l ls)), all_found bound ls (λ t e. f t (later_counted t l ls e)))
+all_found : (from : ℕ) (bound : BoundValues) (links : LinkMap) → ((t : ValueTag) → from ≤ t.tag → not (links_with t links == 0) ≡ true → is_some (lookup (tags.ghosts.eq t) bound) ≡ true) → AllBound from links bound
+all_found from bound [] f = tt
+all_found from bound (l ∷ ls) f = (
+  ⊎_elim (λ h. inl h) (λ h. inr (value_there (lookup (tags.ghosts.eq l.1.tag) bound) (f l.1.tag h (first_counted l ls)))) (cases_lt l.1.tag.tag from),
+  all_found from bound ls (λ t h e. f t h (later_counted t l ls e)),
+)
 
-pub all_bound : (links : LinkMap) (bound : Table) → IsBound links bound → AllBound links bound.pairs
-all_bound links bound b = all_found bound.pairs links (λ t e. b.found t ∙ e)
+pub all_bound : (links : LinkMap) (bound : Table) → IsBound links bound → AllBound bound.from links bound.pairs
+all_bound links bound b = all_found bound.from bound.pairs links (λ t h e. b.found t ∙ ap (λ n. not (n == 0)) (b.counted t h) ∙ e)
 
 -- ---- the link of each value
 
@@ -101,8 +105,17 @@ all_there links (x ∷ xs) f = (
   all_there links xs (λ t e. f t (found_by (tags.ghosts.eq t x.0) x.1 (lookup (tags.ghosts.eq t) xs) e)),
 )
 
+-- what is found is counted, and so it is the value of a link
+pub tag_found : (links : LinkMap) (bound : Table) → IsBound links bound → (t : ValueTag) → is_some (lookup (tags.ghosts.eq t) bound.pairs) ≡ true → HasTag links t
+tag_found links bound b t e =
+    let some : not (count_in t bound.counts == 0) ≡ true = sym (b.found t) ∙ e in
+    ⊎_elim
+    (λ h. let none = b.below t h in let one = are_some (count_in t bound.counts) some in absurd (omega (arith, none, one)))
+    (λ h. tag_there t links (ap (λ n. not (n == 0)) (sym (b.counted t h)) ∙ some))
+    (cases_lt t.tag bound.from)
+
 pub all_tagged : (links : LinkMap) (bound : Table) → IsBound links bound → AllTagged links bound.pairs
-all_tagged links bound b = all_there links bound.pairs (λ t e. tag_there t links (sym (b.found t) ∙ e))
+all_tagged links bound b = all_there links bound.pairs (tag_found links bound b)
 
 -- each is what a link with its tag holds
 abbrev pub AllHeld : LinkMap → BoundValues → Type 0

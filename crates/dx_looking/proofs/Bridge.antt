@@ -1,5 +1,5 @@
 -- What getting a value needs, and its frame, from where looking stands.
-use Rattle.std.proofs.Common.{◌≡◌, ℕ, zero, suc, ◌≤◌, List, [], ◌∷◌, ◌++◌, length, map, Bool, true, false, cond, Some, refl, sym, ap, ◌∙◌, subst}
+use Rattle.std.proofs.Common.{◌≡◌, ◌⊎◌, inl, inr, ⊎_elim, ℕ, zero, suc, ◌<◌, ◌≤◌, List, [], ◌∷◌, ◌++◌, length, map, Bool, true, false, cond, Some, refl, sym, ap, ◌∙◌, subst}
 use Rattle.std.specs.Prelude.{slice_get, ◌==◌, ◌||◌, Ok}
 use Rattle.std.specs.Map.{lookup}
 use Rattle.std.specs.Cmp.{unsigned_Decides}
@@ -12,7 +12,9 @@ use Rattle.dx_macros.specs.Site.{steps_text}
 use Rattle.dx_tags.specs.declared.term.Term.{Term}
 use Rattle.dx_tags.specs.declared.term.ValueTag.{ValueTag}
 use Rattle.dx_tags.specs.contracts.term.ValueTagPartialEq.TheImpl as tags
-use Rattle.dx_tags.specs.Closed.{ValueTerm, Head, CallHead, heads_of, value_term, value_terms, Fits, AreEarlier}
+use Rattle.dx_tags.specs.Closed.{ValueTerm, HeldTerm, ResultTerm, CallTerm, Head, HeldHead, CallHead, head_at, heads_of, result_of_head, value_term, value_terms, Fits, AreEarlier}
+use Rattle.dx_tags.specs.declared.term.Term.TheVariants.{Held as HeldBy}
+use Rattle.dx_tags.proofs.ClosedTerms.{head_unfolds}
 use Rattle.dx_links.specs.declared.key.Key.{Key}
 use Rattle.dx_links.specs.Denotes.{Around, denotes}
 use Rattle.dx_links.specs.Getting.{has_value, same_value}
@@ -23,13 +25,13 @@ use Rattle.dx_machine.specs.Machine.{FormedCall, Frame, State, get, get_all}
 use Rattle.dx_machine.specs.Covered.{is_formed, IsCovered}
 use Rattle.dx_machine.specs.Sound.{HaveAttributes}
 use Rattle.dx_machine.proofs.SameTerms.{value_is, value_true, same_test}
-use Rattle.dx_getting.specs.Bound.{IsBound}
+use Rattle.dx_getting.specs.Bound.{IsBound, BeginHeld}
 use Rattle.dx_getting.specs.Terms.{BoundValues, Table}
 use Rattle.dx_getting.specs.Stands.{Setting, World, IsCall, AreLawful, LinksFit, LinksDenote, MayGetValue, call_of_head, frame_of, formed_calls, link_terms, around_of, world}
 use Rattle.dx_getting.specs.Stands as getting
 use Rattle.dx_demand.specs.Terms as demand
 use Rattle.dx_demand.specs.Memo.{formed_of}
-use Rattle.dx_demand.specs.Found.{IsFound, AllFound}
+use Rattle.dx_demand.specs.Found.{NeedsNoCall, IsFound, AllFound}
 use Rattle.dx_demand.specs.Forming.{Entries, IsCallTag, found_in, formings}
 use Rattle.dx_objects.specs.Values.{value_at}
 use Rattle.dx_links.specs.Getting.{same_call}
@@ -42,7 +44,7 @@ use Rattle.dx_performing.specs.Meant.{LinksRight}
 use Rattle.dx_performing.proofs.Alike as alike
 use Rattle.dx_resuming.specs.Covering.{LinksBound}
 use Rattle.dx_resuming.specs.Formed.{formed_in}
-use Rattle.dx_resuming.specs.Links.{SameLinks}
+use Rattle.dx_resuming.specs.Links.{SameResults, SameLinks}
 use Rattle.dx_resuming.proofs.Covers.{closed_covers, all_closed_cover, linked_value}
 use Rattle.dx_resuming.proofs.FormedFirst.{formed_same}
 use Rattle.dx_resuming.proofs.LinkTerms as links_alike
@@ -80,11 +82,20 @@ lawful_from terms nodes small named (x ∷ xs) h = ((h 0 x refl, small x.1, name
 
 -- ---- links
 
-link_held : (links : LinkMap) (bound : BoundValues) → AllBound links bound → LinksBound links bound
-link_held [] bound a key h e = cc
-link_held (l ∷ ls) bound a key h e = cases (is_at (key_cmp key) l.0)
-    (λ q. let same : l.1 ≡ h = (let o : Some l.1 ≡ Some h = subst (λ b. cond b (Some l.1) (held_at key ls) ≡ Some h) q e in cc) in subst (λ (x : Holding). (o : Object) × (lookup (tags.ghosts.eq x.tag) bound ≡ Some o)) same a.0)
-    (λ q. link_held ls bound a.1 key h (subst (λ b. cond b (Some l.1) (held_at key ls) ≡ Some h) q e))
+-- so many heads in front are those of held values
+abbrev BeginHeads : ℕ → List Head → Type 0
+BeginHeads n hs = (k : ℕ) → k < n → head_at hs k ≡ HeldHead k
+
+begin_heads : (terms : List Term) → demand.AreExact terms → (n : ℕ) → BeginHeld n terms → BeginHeads n (heads_of terms)
+begin_heads terms x n b k h = head_unfolds terms x.formed k (HeldBy k) (b k h)
+
+link_held : (hs : List Head) (n : ℕ) → BeginHeads n hs → (links : LinkMap) (bound : BoundValues) → AllBound n links bound → LinksBound hs links bound
+link_held hs n b [] bound a key h e = cc
+link_held hs n b (l ∷ ls) bound a key h e = cases (is_at (key_cmp key) l.0)
+    (λ q. let same : l.1 ≡ h = (let o : Some l.1 ≡ Some h = subst (λ b. cond b (Some l.1) (held_at key ls) ≡ Some h) q e in cc) in
+    subst (λ (x : Holding). NeedsNoCall (head_at hs x.tag.tag) ⊎ ((o : Object) × (lookup (tags.ghosts.eq x.tag) bound ≡ Some o))) same
+    (⊎_elim (λ low. inl (subst NeedsNoCall (sym (b l.1.tag.tag low)) tt)) (λ there. inr there) a.0))
+    (λ q. link_held hs n b ls bound a.1 key h (subst (λ b. cond b (Some l.1) (held_at key ls) ≡ Some h) q e))
 
 links_fit : (terms : List Term) (links : LinkMap) → AllFit terms links → (bound : BoundValues) → AllTagged links bound → LinksFit terms bound
 links_fit terms links f [] a = tt
@@ -104,7 +115,7 @@ bound_denote e files links r (x ∷ xs) a = (
   bound_denote e files links r xs a.1,
 )
 
--- the terms of the links and of what is bound are the same
+-- the results of calls that links have as terms and those of what is bound are the same
 link_has : (hs : List Head) (links : LinkMap) (i : ℕ) (l : Key × Holding) → slice_get links i ≡ Some l → has_value (map (λ (l : Key × Link). l.1.term) (links_of hs links)) (value_term hs l.1.tag) ≡ true
 link_has hs [] i l e = cc
 link_has hs (x ∷ xs) zero l e =
@@ -118,14 +129,20 @@ bound_to_link hs links (x ∷ xs) a t e = cases (same_value (value_term hs x.0) 
     (λ q. subst (λ u. has_value (map (λ (l : Key × Link). l.1.term) (links_of hs links)) u ≡ true) (ap (value_term hs) a.0.tag ∙ value_is (value_term hs x.0) t q) (link_has hs links a.0.place a.0.link a.0.at))
     (λ q. bound_to_link hs links xs a.1 t (subst (λ b. (b || has_value (link_terms hs xs) t) ≡ true) q e))
 
-link_to_bound : (hs : List Head) (links : LinkMap) (bound : BoundValues) → AllBound links bound → (t : ValueTerm) → has_value (map (λ (l : Key × Link). l.1.term) (links_of hs links)) t ≡ true → has_value (link_terms hs bound) t ≡ true
-link_to_bound hs [] bound a t e = cc
-link_to_bound hs (l ∷ ls) bound a t e = cases (same_value (value_term hs l.1.tag) t)
-    (λ q. subst (λ u. has_value (link_terms hs bound) u ≡ true) (value_is (value_term hs l.1.tag) t q) (linked_value hs bound l.1.tag a.0.0 a.0.1))
-    (λ q. link_to_bound hs ls bound a.1 t (subst (λ b. (b || has_value (map (λ (x : Key × Link). x.1.term) (links_of hs ls)) t) ≡ true) q e))
+link_to_bound : (hs : List Head) (n : ℕ) → BeginHeads n hs → (links : LinkMap) (bound : BoundValues) → AllBound n links bound → (result : ℕ) (c : CallTerm) →
+    has_value (map (λ (l : Key × Link). l.1.term) (links_of hs links)) (ResultTerm result c) ≡ true → has_value (link_terms hs bound) (ResultTerm result c) ≡ true
+link_to_bound hs n b [] bound a result c e = cc
+link_to_bound hs n b (l ∷ ls) bound a result c e = cases (same_value (value_term hs l.1.tag) (ResultTerm result c))
+    (λ q. let is = value_is (value_term hs l.1.tag) (ResultTerm result c) q in
+    ⊎_elim
+    (λ low. absurd (let other : HeldTerm l.1.tag.tag ≡ ResultTerm result c = sym (ap (λ h. result_of_head h l.1.tag.result) (b l.1.tag.tag low)) ∙ is in cc))
+    (λ there. subst (λ u. has_value (link_terms hs bound) u ≡ true) is (linked_value hs bound l.1.tag there.0 there.1))
+    a.0)
+    (λ q. link_to_bound hs n b ls bound a.1 result c (subst (λ b. (b || has_value (map (λ (x : Key × Link). x.1.term) (links_of hs ls)) (ResultTerm result c)) ≡ true) q e))
 
-pub same_links : (hs : List Head) (links : LinkMap) (bound : Table) → IsBound links bound → (t : ValueTerm) → has_value (map (λ (l : Key × Link). l.1.term) (links_of hs links)) t ≡ has_value (link_terms hs bound.pairs) t
-same_links hs links bound b t = same_test _ _ (link_to_bound hs links bound.pairs (all_bound links bound b) t) (bound_to_link hs links bound.pairs (all_tagged links bound b) t)
+pub same_links : (hs : List Head) (links : LinkMap) (bound : Table) → BeginHeads bound.from hs → IsBound links bound → SameResults (link_terms hs bound.pairs) (map (λ (l : Key × Link). l.1.term) (links_of hs links))
+same_links hs links bound h b result c =
+    same_test _ _ (link_to_bound hs bound.from h links bound.pairs (all_bound links bound b) result c) (bound_to_link hs links bound.pairs (all_tagged links bound b) (ResultTerm result c))
 
 -- ---- what getting needs
 
@@ -137,8 +154,11 @@ formed_lawful setup at l =
     lawful_from at.tags (nodes_in setup) (attributes_small (nodes_in setup) (nodes_of (graph_of setup.graph.now) setup.graph.now.lawful)) (nodes_named setup.graph.now) at.seen.memo.formed.entries
     (λ i e h. let r = entry_found at.seen.memo.formed.entries i e h in call_there at.tags e.0 (l.formed.memo.calls e.0 r.0 r.1))
 
-pub links_bound : (setup : Setup) (at : Progress) → IsLooking setup at → LinksBound setup.links.now.links setup.bound.now.pairs
-links_bound setup at l = link_held setup.links.now.links setup.bound.now.pairs (all_bound setup.links.now.links setup.bound.now l.bound)
+begins_so : (setup : Setup) (at : Progress) → IsLooking setup at → BeginHeads setup.bound.now.from (heads_of at.tags)
+begins_so setup at l = begin_heads at.tags l.exact setup.bound.now.from l.below
+
+pub links_bound : (setup : Setup) (at : Progress) → IsLooking setup at → LinksBound (heads_of at.tags) setup.links.now.links setup.bound.now.pairs
+links_bound setup at l = link_held (heads_of at.tags) setup.bound.now.from (begins_so setup at l) setup.links.now.links setup.bound.now.pairs (all_bound setup.links.now.links setup.bound.now l.bound)
 
 pub is_covered : (setup : Setup) (at : Progress) → IsLooking setup at → (t : ValueTag) → Fits at.tags t → IsFound setup.links.now.links at.tags (formed_of at.seen.memo) t →
     IsCovered (formed_calls (heads_of at.tags) (setting_in setup at).formed) (link_terms (heads_of at.tags) setup.bound.now.pairs) (value_term (heads_of at.tags) t)
@@ -171,7 +191,8 @@ getting_frame setup at x later = with_formed (frame_of (setting_in setup at) (wo
 frames_alike : (setup : Setup) (at : Progress) → IsLooking setup at → (x : Fixed) (k : Kept) → IsKept (heads_of at.tags) setup k → (later : List FormedCall) → SameLinks (getting_frame setup at x later) (frame_with x k later)
 frames_alike setup at l x k kept later = record {
   around = sym (around_same setup at x k kept);
-  links = λ t. ap (λ (ls : LinkTerms). has_value (map (λ (l : Key × Link). l.1.term) ls) t) kept.links ∙ same_links (heads_of at.tags) setup.links.now.links setup.bound.now l.bound t;
+  links = λ result c. ap (λ (ls : LinkTerms). has_value (map (λ (l : Key × Link). l.1.term) ls) (ResultTerm result c)) kept.links
+      ∙ same_links (heads_of at.tags) setup.links.now.links setup.bound.now (begins_so setup at l) l.bound result c;
   formed = refl;
   budget = refl;
 }

@@ -1,5 +1,5 @@
 -- What looking has at hand stays the same as terms are formed.
-use Rattle.std.proofs.Common.{◌≡◌, ℕ, zero, suc, List, [], ◌∷◌, map, cond, Some, refl, sym, ap, ap₂, ◌∙◌, subst, arith}
+use Rattle.std.proofs.Common.{◌≡◌, ℕ, zero, suc, List, [], ◌∷◌, ◌++◌, map, cond, Some, refl, sym, ap, ap₂, ◌∙◌, subst, arith}
 use Rattle.std.specs.Prelude.{option_map, slice_get}
 use Rattle.std.specs.Map.{lookup}
 use Rattle.std.specs.BTreeMap.{is_at}
@@ -7,6 +7,7 @@ use Rattle.dx_cache.proofs.Places.{cases}
 use Rattle.dx_cache.specs.declared.entry.Entry.{Entry}
 use Rattle.dx_objects.specs.Runs.{Values}
 use Rattle.dx_tags.specs.declared.term.Term.{Term}
+use Rattle.dx_tags.specs.declared.term.Term.TheVariants.{Held as HeldBy}
 use Rattle.dx_tags.specs.declared.term.ValueTag.{ValueTag}
 use Rattle.dx_tags.specs.contracts.term.ValueTagPartialEq.TheImpl as tags
 use Rattle.dx_tags.specs.Closed.{ValueTerm, CallTerm, Head, CallHead, heads_of, value_term, GoesOn}
@@ -17,6 +18,7 @@ use Rattle.dx_links.specs.Getting.{same_value}
 use Rattle.dx_links.specs.Holding.{Holding}
 use Rattle.dx_links.specs.LinkMap.{LinkMap, held_at, key_cmp}
 use Rattle.dx_machine.specs.Machine.{Cached, State}
+use Rattle.dx_getting.specs.Bound.{BeginHeld}
 use Rattle.dx_getting.specs.Told.{Told}
 use Rattle.dx_getting.specs.Stands.{Setting, World, FormedCalls, IsCall, Stands, EntriesRight, KnownRight, call_at, call_of_head, named, known_calls, around_of}
 use Rattle.dx_getting.specs.Steps.{AreCalls}
@@ -41,6 +43,15 @@ pub fit_at : (terms : List Term) (links : LinkMap) → AllFit terms links → (i
 fit_at terms [] f i l e = cc
 fit_at terms (x ∷ xs) f zero l e = let same : x ≡ l = cc in subst (λ (y : Key × Holding). IsValue terms y.1.tag) same f.0
 fit_at terms (x ∷ xs) f (suc i) l e = fit_at terms xs f.1 i l e
+
+-- the terms of held values in front stay
+get_left : {A : Type 0} (xs ys : List A) (i : ℕ) (x : A) → slice_get xs i ≡ Some x → slice_get (xs ++ ys) i ≡ Some x
+get_left [] ys i x e = cc
+get_left (y ∷ xs) ys zero x e = e
+get_left (y ∷ xs) ys (suc i) x e = get_left xs ys i x e
+
+pub begin_held_grows : (n : ℕ) (old new : List Term) → GoesOn old new → BeginHeld n old → BeginHeld n new
+begin_held_grows n old new g b k h = ap (λ ts. slice_get ts k) g.1 ∙ get_left old g.0 k (HeldBy k) (b k h)
 
 -- and of what a key holds
 pub fits_held : (terms : List Term) (links : LinkMap) → AllFit terms links → LinksFit terms links

@@ -13,7 +13,7 @@ use Rattle.dx_looking.specs.Setting.{nodes_in, links_of, told_terms, told_sight,
 use Rattle.dx_looking.specs.Looking.{IsLooking}
 use Rattle.dx_looking.specs.declared.setup.Setup.{Setup}
 use Rattle.dx_looking.specs.declared.progress.Progress.{Progress}
-use Rattle.dx_looking.proofs.Growth.{links_same, all_fit_grows, told_same, values_grow, calls_grow, sees_so}
+use Rattle.dx_looking.proofs.Growth.{begin_held_grows, links_same, all_fit_grows, told_same, values_grow, calls_grow, sees_so}
 use Rattle.dx_looking.proofs.Ways.{with_seen}
 use Rattle.std.specs.Map.{lookup}
 use Rattle.dx_tags.specs.contracts.term.ValueTagPartialEq.TheImpl as tags
@@ -42,6 +42,7 @@ module _ (setup : Setup) (at : Progress) (new : List Term) (seen : Seen) (l : Is
     exact = x;
     links = all_fit_grows at.tags new g setup.links.now.links l.links;
     bound = l.bound;
+    below = begin_held_grows setup.bound.now.from at.tags new g l.below;
     entries = calls_grow at.tags new g at.work.cache.entries l.entries;
     told = values_grow at.tags new g at.told l.told;
     fits = fits;

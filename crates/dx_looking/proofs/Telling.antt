@@ -84,6 +84,7 @@ looking_on setup at told work t v l i e calls =
       exact = l.exact;
       links = l.links;
       bound = l.bound;
+      below = l.below;
       entries = calls;
       told = subst (AreValues at.tags) (sym e) (values_push at.tags at.told t v l.told i);
       fits = l.fits;

@@ -13,7 +13,7 @@ use Rattle.dx_links.specs.Denotes.{Around, denotes}
 use Rattle.dx_links.specs.LinkMap.{LinkMap}
 use Rattle.dx_machine.specs.Machine.{FormedCall, Frame, State, Got, Went, Stopped, state_at, tasks_of, get_all}
 use Rattle.dx_machine.specs.Sound.{IsSound}
-use Rattle.dx_getting.specs.Bound.{IsBound}
+use Rattle.dx_getting.specs.Bound.{IsBound, BeginHeld}
 use Rattle.dx_getting.specs.Told.{Told, AddsSome}
 use Rattle.dx_getting.specs.Stands.{Answers, IsCall, Stands, call_at, world}
 use Rattle.dx_getting.specs.Steps.{AreCalls}
@@ -58,6 +58,7 @@ pub record IsLooking (setup : Setup) (at : Progress) : Type 0 where
   pub exact : AreExact at.tags
   pub links : AllFit at.tags setup.links.now.links
   pub bound : IsBound setup.links.now.links setup.bound.now
+  pub below : BeginHeld setup.bound.now.from at.tags
   pub entries : AreCalls at.tags at.work.cache.entries
   pub told : AreValues at.tags at.told
   pub fits : SeenFits (nodes_in setup) at.tags at.seen

@@ -35,7 +35,7 @@ links_of hs links = map (λ (l : Key × Holding). (l.0, record { object = l.1.va
 pub record IsKept (hs : List Head) (setup : Setup) (k : Kept) : Type 0 where
   pub links : k.links ≡ links_of hs setup.links.now.links
   pub values : AreLinks setup.links.now.links setup.bound.now.pairs
-  pub held : k.held ≡ setup.held.now
+  pub held : k.held ≡ setup.links.now.held
   pub written : k.written ≡ setup.written.now.files
 
 -- ---- what is told
@@ -60,7 +60,7 @@ sight_in setup at = told_sight (links_of (heads_of at.tags) setup.links.now.link
 -- ---- what getting has
 
 abbrev pub setting_in : Setup → Progress → Setting
-setting_in setup at = record { terms = at.tags; links = setup.bound.now.pairs; held = setup.held.now; formed = formed_in (nodes_in setup) at.seen.memo.formed.entries }
+setting_in setup at = record { terms = at.tags; links = setup.bound.now.pairs; held = setup.links.now.held; formed = formed_in (nodes_in setup) at.seen.memo.formed.entries }
 
 abbrev pub fixed : Answers → InputFiles → ℕ → Fixed
 fixed answer file budget = record { answer = answer; file = file; budget = budget }

@@ -47,7 +47,7 @@ pub(crate) fn tell_selector<F: Files, L: Library>(
         alloc: setup.alloc,
         tags: &at.tags,
         links: setup.bound,
-        held: setup.held,
+        held: setup.links,
     };
     let calls = Calls {
         graph: setup.graph,

@@ -91,7 +91,7 @@ call_where terms f tag c h (Call m ts) e = (
 
 -- ---- values
 
-module _ (links : LinkMap) (terms : List Term) (bound : BoundValues) (nodes : List Node) (m : Memo) (f : AllFormed terms) (found : MemoFound links terms m) (b : LinksBound links bound) where
+module _ (links : LinkMap) (terms : List Term) (bound : BoundValues) (nodes : List Node) (m : Memo) (f : AllFormed terms) (found : MemoFound links terms m) (b : LinksBound (heads_of terms) links bound) where
   abbrev Covers : ValueTag → Type 0
   Covers t = IsCovered (formed_calls (heads_of terms) (formed_in nodes m.formed.entries)) (link_terms (heads_of terms) bound) (value_term (heads_of terms) t)
 
@@ -118,10 +118,12 @@ module _ (links : LinkMap) (terms : List Term) (bound : BoundValues) (nodes : Li
       by_call c h none = ⊎_elim
           (λ (no : NeedsNoCall (head_at (heads_of terms) t.tag)). absurd (subst NeedsNoCall h no))
           (λ (other : IsLinked links t ⊎ IsFirst (formed_of m) t.tag). ⊎_elim
-          (λ (l : IsLinked links t). absurd (true≢false (
-          let o = b l.key l.held l.at in
+          (λ (l : IsLinked links t). absurd (⊎_elim
+          (λ (no : NeedsNoCall (head_at (heads_of terms) l.held.tag.tag)). subst NeedsNoCall (ap (λ (x : ValueTag). head_at (heads_of terms) x.tag) l.tag ∙ h) no)
+          (λ (o : (x : Object) × (lookup (tags.ghosts.eq l.held.tag) bound ≡ Some x)). true≢false (
           let at = linked_value (heads_of terms) bound t o.0 (subst (λ x. lookup (tags.ghosts.eq x) bound ≡ Some o.0) l.tag o.1) in
-          sym at ∙ ap (λ x. has_value (link_terms (heads_of terms) bound) (result_of_head x t.result)) h ∙ none)))
+          sym at ∙ ap (λ x. has_value (link_terms (heads_of terms) bound) (result_of_head x t.result)) h ∙ none))
+          (b l.key l.held l.at)))
           (λ (first : IsFirst (formed_of m) t.tag).
           call_covers t.tag before c h first (call_where terms f t.tag c h (get_or terms t.tag (Held 0)) (slice_get-get_or terms t.tag (Held 0) within)))
           other)

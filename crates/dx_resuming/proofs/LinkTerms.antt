@@ -5,16 +5,16 @@ use Rattle.dx_base.specs.declared.function.Module.{Module}
 use Rattle.dx_objects.specs.Runs.{Answer}
 use Rattle.dx_tags.specs.Closed.{ValueTerm, ConstantTerm, HeldTerm, ResultTerm, FileTerm, CallTerm, CallOf, ValueTerms, NoTerm, AndTerm}
 use Rattle.dx_links.specs.Denotes.{own_file, file_of, all_denote}
-use Rattle.dx_links.specs.Getting.{has_value, has_call}
+use Rattle.dx_links.specs.Getting.{has_call}
 use Rattle.dx_machine.specs.Machine.{FormedCall, Frame, State, Got, RanAt, and_then, with_event, task_of, site_of, after_run, run_call, has_entry, obtain, unless_link, get, get_call, get_all}
 use Rattle.dx_machine.specs.Covered.{IsCovered, IsCoveredCall, AreCovered}
 use Rattle.dx_performing.specs.Resuming.{is_ready}
-use Rattle.dx_resuming.specs.Links.{SameLinks, LinksAlike, AllLinksAlike, ReadyAlike, CoveredAlike, AllCoveredAlike}
+use Rattle.dx_resuming.specs.Links.{SameResults, SameLinks, LinksAlike, AllLinksAlike, ReadyAlike, CoveredAlike, AllCoveredAlike}
 
 abbrev with_links : Frame → List ValueTerm → Frame
 with_links k ls = record { around = k.around; links = ls; formed = k.formed; budget = k.budget }
 
-module _ (k : Frame) (ls : List ValueTerm) (h : (t : ValueTerm) → has_value ls t ≡ has_value k.links t) where
+module _ (k : Frame) (ls : List ValueTerm) (h : SameResults k.links ls) where
   after_same : (c : CallTerm) (a : Answer) (s : State) → after_run (with_links k ls) c a s ≡ after_run k c a s
   after_same c (Ok results) s = refl
   after_same c (Err code) s = refl
@@ -37,7 +37,7 @@ module _ (k : Frame) (ls : List ValueTerm) (h : (t : ValueTerm) → has_value ls
     value_alike (ConstantTerm c) s = refl
     value_alike (HeldTerm n) s = refl
     value_alike (FileTerm b) s = refl
-    value_alike (ResultTerm result c) s = λ i. unless_link (h (ResultTerm result c) i) s (call_alike c s i)
+    value_alike (ResultTerm result c) s = λ i. unless_link (h result c i) s (call_alike c s i)
 
     call_alike : (c : CallTerm) (s : State) → get_call (with_links k ls) c s ≡ get_call k c s
     call_alike (CallOf m ts) s =
@@ -51,7 +51,7 @@ module _ (k : Frame) (ls : List ValueTerm) (h : (t : ValueTerm) → has_value ls
   ready_same (ConstantTerm c) s = refl
   ready_same (HeldTerm n) s = refl
   ready_same (FileTerm b) s = refl
-  ready_same (ResultTerm result c) s = ap (λ b. b || has_call s.known c) (h (ResultTerm result c))
+  ready_same (ResultTerm result c) s = ap (λ b. b || has_call s.known c) (h result c)
 
 -- but for its links the one frame is the other
 by_links : (k k' : Frame) → SameLinks k k' → k' ≡ with_links k k'.links
@@ -68,13 +68,13 @@ ready_alike k k' h t s = ap (λ x. is_ready x s t) (by_links k k' h) ∙ ready_s
 
 -- ---- what getting can reach
 
-module _ (fs : List FormedCall) (ls ls' : List ValueTerm) (h : (t : ValueTerm) → has_value ls' t ≡ has_value ls t) where
+module _ (fs : List FormedCall) (ls ls' : List ValueTerm) (h : SameResults ls ls') where
   mutual
     value_covered : (t : ValueTerm) → IsCovered fs ls t → IsCovered fs ls' t
     value_covered (ConstantTerm c) v = tt
     value_covered (HeldTerm n) v = tt
     value_covered (FileTerm b) v = tt
-    value_covered (ResultTerm result c) v = λ e. call_covered c (v (sym (h (ResultTerm result c)) ∙ e))
+    value_covered (ResultTerm result c) v = λ e. call_covered c (v (sym (h result c) ∙ e))
 
     call_covered : (c : CallTerm) → IsCoveredCall fs ls c → IsCoveredCall fs ls' c
     call_covered (CallOf m ts) v = (v.0, values_covered ts v.1)

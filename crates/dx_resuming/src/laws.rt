@@ -15,8 +15,8 @@ pub fn first_calls_stay()
     ensures { FormedStays }
 {}
 
-/// A getting asks links alone whether they have a term: with links of the same terms it is the same, the same is ready, and what it
-/// can reach was formed.
+/// A getting asks links alone whether they have a result of a call as a term: with links that have the same ones it is the same,
+/// the same is ready, and what it can reach was formed.
 pub fn links_alike()
     ensures one { LinksAlike }
     ensures all { AllLinksAlike }

@@ -9,8 +9,7 @@ use Rattle.dx_ast.specs.declared.constants.Const.{Const}
 use Rattle.dx_ast.specs.Value.{value_of}
 use Rattle.dx_tags.specs.declared.term.Term.{Term}
 use Rattle.dx_tags.specs.declared.term.Term.TheVariants.{Constant}
-use Rattle.dx_tags.specs.Closed.{Head, IsFormed}
-use Rattle.dx_tags.specs.Made.{IsMade, AreMade}
+use Rattle.dx_tags.specs.Made.{IsMade, AreMade, IsLawfulTerm}
 
 abbrev Kept : Type 0
 Kept = Option (Rc Tree Global)
@@ -44,9 +43,9 @@ made_after terms os new o place true e at made is =
     subst (AreMade terms) (sym e) (λ i x s. made_at terms os o i x made here (at_end os o i (Some x) s))
 made_after terms os new o place false e at made is = subst (AreMade terms) (sym e) made
 
--- a constant that is formed is lawful
-pub lawful_in : (hs : List Head) (n : ℕ) (t : Term) (c : Const) → IsFormed hs n t → Some t ≡ Some (Constant c) → ∥ IsLawfulConst c ∥₁
-lawful_in hs n t c f e = let same : t ≡ Constant c = cc in subst (IsFormed hs n) same f
+-- a constant that is a lawful term is lawful
+pub lawful_in : (t : Term) (c : Const) → IsLawfulTerm t → Some t ≡ Some (Constant c) → ∥ IsLawfulConst c ∥₁
+lawful_in t c f e = let same : t ≡ Constant c = cc in subst IsLawfulTerm same f
 
 at_front : (ks : List Term) (t : Term) (i : ℕ) (x : Term) → slice_get ks i ≡ Some x → slice_get (ks ++ t ∷ []) i ≡ Some x
 at_front [] t i x e = cc

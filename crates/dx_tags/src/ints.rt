@@ -59,8 +59,4 @@ impl Ints {
             *last = tag;
         }
     }
-
-    pub(crate) fn clear(&mut self) {
-        self.tags.clear();
-    }
 }

@@ -2,6 +2,7 @@
 #![tactic(auto)]
 
 mod content;
+mod formed;
 mod ints;
 mod made;
 mod recent;
@@ -11,5 +12,5 @@ mod written;
 
 pub use content::Content;
 pub use tags::{Tags, names_are_exact};
-pub use term::{Tag, Term, ValueTag, ValueTags};
+pub use term::{Named, Tag, Term, ValueTag, ValueTags};
 pub use written::Written;

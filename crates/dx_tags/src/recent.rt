@@ -45,11 +45,6 @@ impl Recent {
             }
         }
     }
-
-    pub(crate) fn clear(&mut self) {
-        self.tags.clear();
-        self.oldest = 0;
-    }
 }
 
 // The place behind one of so many, the first behind the last.

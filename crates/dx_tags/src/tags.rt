@@ -1,51 +1,66 @@
-//! The table of terms, which is list and index at once.
-ghost use Rattle.std.specs.Prelude.{◌≡◌, ◌<◌, ◌++◌, ◌∷◌, [], ◌⊎◌, Some, slice_get, length, IfOk, IfSome, OnOk, OnErr};
-ghost use Rattle.dx_ast.specs.Lawful.{IsLawfulConst};
-ghost use Rattle.dx_ast.specs.declared.constants.Const.{Const};
-ghost use Rattle.dx_tags.specs.declared.term.Term.TheVariants.{Constant};
+//! Terms by their numbers: those of held values, which are counted alone, and behind them those that were formed.
+ghost use Rattle.std.specs.Prelude.{◌≡◌, ◌<◌, ◌++◌, ◌∷◌, [], ◌⊎◌, Some, slice_get, length, IfOk, IfSome, OnOk, OnErr, MatchOption};
+ghost use Rattle.dx_tags.specs.declared.term.Term.TheVariants.{Held as HeldBy};
 ghost use Rattle.dx_tags.specs.Closed.{AllFormed, AreDistinct, IsFormed, heads_of, NamesExactly};
-ghost use Rattle.dx_tags.specs.Made.{IsMade};
+ghost use Rattle.dx_tags.specs.HeldTerms.{held_terms};
+ghost use Rattle.dx_tags.specs.Made.{IsMade, IsLawfulTerm};
+ghost use Rattle.dx_tags.specs.NamedTerms.{term_named, IsOther, StandBehind};
 
-use crate::ints::{Ints, int_in};
-use crate::made::{is_large, keep, object_at, tag_among};
-use crate::recent::Recent;
-use crate::term::{Tag, Term};
+use crate::formed::Formed;
+use crate::term::{Named, Tag, Term};
 use dx_objects::Object;
-use indexmap::IndexSet;
 use std::alloc::{AllocError, Global};
 use std::marker::Model;
 use std::rc::Rc;
 
-/// Of how many large constants the objects are kept.
-const MOST_LARGE: usize = 4;
-
-/// Of how many other constants the objects are kept.
-const MOST_SMALL: usize = 1024;
-
-/// Terms, each named by the number of its place. Each has earlier tags alone, and no term stands twice.
+/// Terms, each named by a number: first those of so many held values, and behind them those that were formed, each by its place.
+/// Each has earlier tags alone, and no term stands twice.
 #[derive(Drop)]
 pub struct Tags {
-    alloc: Global,
-    terms: IndexSet<Term>,
-    /// At the places of constants their objects, as far as they are kept.
-    objects: Vec<Option<Rc<Object>>>,
-    /// The large constants, and the others, whose objects were made last.
-    large: Recent,
-    small: Recent,
-    ints: Ints,
+    held: u64,
+    formed: Formed,
 }
 
 impl Model for Tags {
-    ghost use Rattle.std.specs.Prelude.{List};
+    ghost use Rattle.std.specs.Prelude.{List, ◌++◌};
     ghost use Rattle.dx_tags.specs.declared.term.Term.{Term};
 
     ghost Value = { List Term };
 
-    ghost view = { λ a. a.terms.keys };
+    ghost use Rattle.dx_tags.specs.HeldTerms.{held_terms};
+    ghost use Rattle.dx_tags.specs.NamedTerms.{StandBehind};
 
-    ghost use Rattle.dx_tags.specs.Made.{AreMade};
+    ghost view = { λ a. held_terms a.held ++ a.formed };
 
-    ghost invariant = { λ a. AreMade a.terms.keys a.objects.items };
+    ghost invariant = { λ a. StandBehind a.held a.formed };
+}
+
+// The tag of a term that is one of so many held values.
+fn held_tag(t: &Term, held: u64) -> Option<Tag>
+    ensures { MatchOption result (IsOther held t.now) (λ k. (k < held) × (t.now ≡ HeldBy k)) }
+{
+    match t {
+        Term::Held(k) if *k < held => Some(*k),
+        _ => None,
+    }
+}
+
+// The tag of a term that is none of the held values, where there is a number for one more.
+fn form(held: u64, formed: &mut Formed, t: Term) -> Result<Tag, AllocError>
+    requires lawful { IsLawfulTerm t }
+    requires behind { StandBehind held formed.old }
+    requires other { IsOther held t }
+    ensures behind { StandBehind held formed.new }
+    ensures named { IfOk result (λ tag. slice_get (held_terms held ++ formed.new) tag ≡ Some t) }
+    ensures exact { IfOk result (λ tag. (other : _) → slice_get (held_terms held ++ formed.new) other ≡ Some t → other ≡ tag) }
+    ensures kept { OnOk result ((held_terms held ++ formed.new ≡ held_terms held ++ formed.old) ⊎ (held_terms held ++ formed.new ≡ (held_terms held ++ formed.old) ++ t ∷ [])) }
+    ensures err { OnErr result (formed.new ≡ formed.old) }
+{
+    if formed.count() >= u64::MAX - held {
+        return Err(AllocError);
+    }
+    let place = formed.intern(t)?;
+    Ok(held + place)
 }
 
 impl Tags {
@@ -54,18 +69,13 @@ impl Tags {
         ensures { result ≡ [] }
     {
         Tags {
-            alloc,
-            terms: IndexSet::new(alloc),
-            objects: Vec::new(alloc),
-            large: Recent::new(alloc, MOST_LARGE),
-            small: Recent::new(alloc, MOST_SMALL),
-            ints: Ints::new(alloc),
+            held: 0,
+            formed: Formed::new(alloc),
         }
     }
 
     /// The tag of a term, which is new where no tag names the term. Equal terms have one tag and different terms two; the terms
     /// of earlier tags stay.
-    #[tactic(auto, using(crate::proofs::MadeLaws::lawful_in))]
     pub fn intern(&mut self, t: Term) -> Result<Tag, AllocError>
         requires formed { IsFormed (heads_of self.old) (length self.old) t }
         ensures named { IfOk result (λ tag. slice_get self.new tag ≡ Some t) }
@@ -75,103 +85,9 @@ impl Tags {
         ensures formed { AllFormed self.old → AllFormed self.new }
         ensures distinct { AreDistinct self.old → AreDistinct self.new }
     {
-        let is_large = is_large(&t);
-        let tag = self.tag_of(t, is_large)?;
-        if self.object(tag).is_none() {
-            self.make(tag, is_large);
-        }
-        Ok(tag)
-    }
-
-    // The tag of a term, found among those that were named last, or else by its hash.
-    fn tag_of(&mut self, t: Term, is_large: bool) -> Result<Tag, AllocError>
-        requires formed { IsFormed (heads_of self.old) (length self.old) t }
-        ensures named { IfOk result (λ tag. slice_get self.new tag ≡ Some t) }
-        ensures exact { IfOk result (λ tag. (other : _) → slice_get self.new other ≡ Some t → other ≡ tag) }
-        ensures kept { OnOk result ((self.new ≡ self.old) ⊎ (self.new ≡ self.old ++ t ∷ [])) }
-        ensures err { OnErr result (self.new ≡ self.old) }
-        ensures formed { AllFormed self.old → AllFormed self.new }
-        ensures distinct { AreDistinct self.old → AreDistinct self.new }
-    {
-        if let Some(tag) = self.lately(&t, is_large) {
-            return Ok(tag);
-        }
-        let int = int_in(&t);
-        let tag = self.insert(t)?;
-        self.note_int(int, tag);
-        Ok(tag)
-    }
-
-    // The int of this tag is the latest with its last byte.
-    fn note_int(&mut self, int: Option<i32>, tag: Tag)
-        ensures { self.new ≡ self.old }
-    {
-        if let Some(n) = int {
-            self.ints.put(n, tag);
-        }
-    }
-
-    // The tags of a large constant or of an int may be among these.
-    fn candidates(&self, t: &Term, is_large: bool) -> &[Tag] {
-        if is_large {
-            return self.large.tags();
-        }
-        match int_in(t) {
-            Some(n) => self.ints.like(n),
-            None => &[],
-        }
-    }
-
-    // The tag of a term that is among the constants whose objects were made last.
-    #[tactic(auto, using(crate::proofs::SameTerm::one_place))]
-    fn lately(&self, t: &Term, is_large: bool) -> Option<Tag>
-        ensures named { IfSome result (λ tag. slice_get self.now tag ≡ Some t.now) }
-        ensures exact { IfSome result (λ tag. (other : _) → slice_get self.now other ≡ Some t.now → other ≡ tag) }
-    {
-        // (beside their number `len` says that no two terms are the same)
-        if self.terms.len() == 0 {
-            return None;
-        }
-        tag_among(&self.terms, self.candidates(t, is_large), t)
-    }
-
-    // The tag of a term, found by its hash.
-    fn insert(&mut self, t: Term) -> Result<Tag, AllocError>
-        requires formed { IsFormed (heads_of self.old) (length self.old) t }
-        ensures named { IfOk result (λ tag. slice_get self.new tag ≡ Some t) }
-        ensures exact { IfOk result (λ tag. (other : _) → slice_get self.new other ≡ Some t → other ≡ tag) }
-        ensures kept { OnOk result ((self.new ≡ self.old) ⊎ (self.new ≡ self.old ++ t ∷ [])) }
-        ensures err { OnErr result (self.new ≡ self.old) }
-        ensures formed { AllFormed self.old → AllFormed self.new }
-        ensures distinct { AreDistinct self.old → AreDistinct self.new }
-    {
-        let (index, _) = self.terms.insert_full(t)?;
-        Ok(index as u64)
-    }
-
-    // Makes the object of the term that a tag names, if that is a constant.
-    fn make(&mut self, tag: Tag, is_large: bool)
-        requires lawful { (c : Const) → slice_get self.old tag ≡ Some (Constant c) → ∥ IsLawfulConst c ∥₁ }
-        ensures { self.new ≡ self.old }
-    {
-        let object = object_at(self.alloc, &self.terms, tag as usize);
-        if object.is_some() {
-            self.note(tag, is_large);
-        }
-        keep(&mut self.objects, tag as usize, object);
-    }
-
-    // The constant of this tag is the latest of its kind, and the object of the oldest goes, where there are too many.
-    fn note(&mut self, tag: Tag, is_large: bool)
-        ensures { self.new ≡ self.old }
-    {
-        let oldest = if is_large {
-            self.large.put(tag)
-        } else {
-            self.small.put(tag)
-        };
-        if let Some(oldest) = oldest {
-            keep(&mut self.objects, oldest as usize, None);
+        match held_tag(&t, self.held) {
+            Some(tag) => Ok(tag),
+            None => form(self.held, &mut self.formed, t),
         }
     }
 
@@ -179,20 +95,22 @@ impl Tags {
     pub fn object(&self, tag: Tag) -> Option<&Rc<Object>>
         ensures made { IfSome result (λ o. IsMade self.now tag o.now.value) }
     {
-        match self.objects.get(tag as usize) {
-            Some(Some(object)) => Some(object),
-            _ => None,
+        if tag < self.held {
+            None
+        } else {
+            self.formed.object(tag - self.held)
         }
     }
 
     /// The term of a tag below `count`.
-    pub fn term(&self, tag: Tag) -> &Term
+    pub fn term(&self, tag: Tag) -> Named<'_>
         requires { tag < length self.now }
-        ensures { slice_get self.now tag ≡ Some result.now }
+        ensures { slice_get self.now tag ≡ Some (term_named result) }
     {
-        match self.terms.get_index(tag as usize) {
-            Some(t) => t,
-            None => unreachable!(),
+        if tag < self.held {
+            Named::Held(tag)
+        } else {
+            Named::Formed(self.formed.term(tag - self.held))
         }
     }
 
@@ -200,18 +118,16 @@ impl Tags {
     pub fn count(&self) -> u64
         ensures { result ≡ length self.now }
     {
-        self.terms.len() as u64
+        self.held + self.formed.count()
     }
 
-    /// Forgets all terms.
-    pub fn clear(&mut self)
-        ensures { self.new ≡ [] }
+    /// Forgets all terms. So many held values have terms then, each that of its number. This takes no memory, and goes through no
+    /// held value.
+    pub fn empty(&mut self, held: u64)
+        ensures { self.new ≡ held_terms held }
     {
-        self.terms.clear();
-        self.objects.clear();
-        self.large.clear();
-        self.small.clear();
-        self.ints.clear();
+        self.held = held;
+        self.formed.clear();
     }
 }
 

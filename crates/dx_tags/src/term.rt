@@ -28,3 +28,10 @@ pub enum Term {
     /// The bytes of a written file, which stand behind the arguments of a call that reads it.
     File(Content),
 }
+
+/// A term as it is named: a held value by its number alone, or a term that was formed.
+#[derive(Clone, Copy, Debug)]
+pub enum Named<'a> {
+    Held(u64),
+    Formed(&'a Term),
+}

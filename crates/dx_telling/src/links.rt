@@ -39,7 +39,7 @@ fn push_each(alloc: Global, out: &mut Vec<u8>, links: &Links) -> Result<(), Allo
 {
     for i in 0..links.len() {
         let (key, held) = links.at(i);
-        push_link(alloc, out, key, held.value())?;
+        push_link(alloc, out, key, held.value)?;
     }
     Ok(())
 }

@@ -1,4 +1,4 @@
-use Rattle.std.proofs.Common.{◌≡◌, ◌∷◌, [], List, length, ap, sym, ◌∙◌, subst, arith}
+use Rattle.std.proofs.Common.{◌≡◌, ◌∷◌, [], List, length, refl, ap, sym, ◌∙◌, subst, arith}
 use Rattle.std.specs.Vec.Iter.{into_iter_items}
 use Rattle.dx_links.specs.LinkMap.{LinkMap, after}
 use Rattle.dx_ending.specs.declared.in_place.Ready.{Ready}
@@ -26,6 +26,8 @@ loop-change-init c =
       bound = c.requires.bound;
       so_far = ap (λ (rs : List Ready). after c.args.links.now.links (changes_in rs)) gives.0;
       from = λ new from. subst (λ (rs : List Ready). ComeFrom (changes_in rs) c.args.bound.now.pairs new) gives.0 from;
+      held = refl;
+      kept_from = refl;
     }
 
 pub change_one-requires : goal.change_one-requires
@@ -74,6 +76,8 @@ loop-change-preserved c =
       from = λ new from. at.invariant.from new
           (subst (λ (rs : List Ready). ComeFrom (changes_in rs) at.bound.pairs new) (sym steps)
           (come_more change (changes_in rest) at.bound.pairs c.change_one.new.bound.pairs new made.values from));
+      held = made.held ∙ at.invariant.held;
+      kept_from = made.from ∙ at.invariant.kept_from;
     }
 
 pub returns : goal.returns
@@ -86,4 +90,6 @@ returns c =
       links = ap (λ (rs : List Ready). after at.links.links (changes_in rs)) (sym over) ∙ at.invariant.so_far;
       bound = at.invariant.bound;
       values = at.invariant.from at.bound.pairs (subst (λ (rs : List Ready). ComeFrom (changes_in rs) at.bound.pairs at.bound.pairs) (sym over) (come_none at.bound.pairs));
+      held = at.invariant.held;
+      from = at.invariant.kept_from;
     }

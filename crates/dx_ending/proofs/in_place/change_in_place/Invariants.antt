@@ -17,4 +17,6 @@ invariant-loop-change l = record {
   bound : IsBound l.links.links l.bound;
   so_far : after l.links.links (changes_in (into_iter_items l.change-iterator)) ≡ after l.fn.links.links (changes_in l.fn.ready.changes.items);
   from : (new : BoundValues) → ComeFrom (changes_in (into_iter_items l.change-iterator)) l.bound.pairs new → ComeFrom (changes_in l.fn.ready.changes.items) l.fn.bound.pairs new;
+  held : l.links.held ≡ l.fn.links.held;
+  kept_from : l.bound.from ≡ l.fn.bound.from;
 }

@@ -11,11 +11,12 @@ hold_new-requires-clause-few c = few_released c.args.links.now.links _ c.release
 pub returns-clause-bound : goal.returns-clause-bound
 returns-clause-bound c =
     subst (λ (ls : LinkMap). IsBound ls c.hold_new.new.bound) (sym c.put.ensures.made)
-    (changed c.args.links.now.links c.args.ready.change.key c.args.ready.change.held c.release_old.new.bound c.hold_new.new.bound c.requires.room.sorted c.release_old.ensures.bound c.hold_new.ensures.counts c.hold_new.ensures.values c.hold_new.ensures.once)
+    (changed c.args.links.now.links c.args.ready.change.key c.args.ready.change.held c.release_old.new.bound c.hold_new.new.bound c.requires.room.sorted c.release_old.ensures.bound
+    (record { from = c.hold_new.ensures.from; counts = c.hold_new.ensures.counts; values = c.hold_new.ensures.values; counts_below = c.hold_new.ensures.counts_below; values_below = c.hold_new.ensures.values_below; once = c.hold_new.ensures.once }))
 
 pub returns-clause-values : goal.returns-clause-values
 returns-clause-values c =
-    come_set c.args.ready.change c.args.bound.now.pairs c.release_old.new.bound.pairs c.hold_new.new.bound.pairs c.release_old.ensures.values c.hold_new.ensures.values
+    come_set c.args.ready.change c.args.bound.now.pairs c.release_old.new.bound c.hold_new.new.bound c.release_old.ensures.values c.hold_new.ensures.values c.hold_new.ensures.values_below
 
 pub returns-clause-sorted : goal.returns-clause-sorted
 returns-clause-sorted c =

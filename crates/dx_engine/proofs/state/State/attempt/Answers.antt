@@ -26,7 +26,8 @@ returns-in_err-gathered-clause-cut g c =
       links = ap (λ (l : Linked). l.links) c.run.ensures.links;
       bound = ap (λ (t : Table). t.pairs) c.run.ensures.bound;
       counts = ap (λ (t : Table). t.counts) c.run.ensures.bound;
-      held = c.run.ensures.held;
+      from = ap (λ (t : Table). t.from) c.run.ensures.bound;
+      held = ap (λ (l : Linked). l.held) c.run.ensures.links;
       budget = c.run.ensures.budget;
     })
 
@@ -42,7 +43,8 @@ returns-clause-cut g c =
       links = ap (λ (l : Linked). l.links) c.run.ensures.links;
       bound = ap (λ (t : Table). t.pairs) c.run.ensures.bound;
       counts = ap (λ (t : Table). t.counts) c.run.ensures.bound;
-      held = c.run.ensures.held;
+      from = ap (λ (t : Table). t.from) c.run.ensures.bound;
+      held = ap (λ (l : Linked). l.held) c.run.ensures.links;
       budget = c.run.ensures.budget;
     })
     c.finish.ensures.links c.finish.ensures.bound c.finish.ensures.same
@@ -50,12 +52,12 @@ returns-clause-cut g c =
 pub returns-clause-fits : goal.returns-clause-fits
 returns-clause-fits g c =
     fits_behind c.args.self.now c.run.new.self c.finish.new.self (graph_of c.args.g.now).nodes c.in_ok-gathered.gathered c.finish.result _ _
-    (record { links = c.run.ensures.links; bound = c.run.ensures.bound; held = c.run.ensures.held; written = c.run.ensures.written; budget = c.run.ensures.budget })
+    (record { links = c.run.ensures.links; bound = c.run.ensures.bound; written = c.run.ensures.written; budget = c.run.ensures.budget })
     c.in_ok-gathered.ensures.fits c.in_ok-gathered.ensures.gathers c.finish.ensures.left c.finish.ensures.put
 
 pub returns-clause-executes : goal.returns-clause-executes
 returns-clause-executes g c = λ map content sound.
     execute_so (fixed g.L.Library.answer map c.args.self.now.at.work.cache.budget) c.args.self.now c.run.new.self c.finish.new.self (unfolded (graph_of c.args.g.now)) (graph_of c.args.g.now).nodes c.in_ok-gathered.gathered _ _
     (c.in_ok-gathered.ensures.effects map content sound) c.requires.fits c.in_ok-gathered.ensures.goes_on (lawful_calls (graph_of c.args.g.now) c.args.g.now.lawful) sound
-    (record { links = c.run.ensures.links; bound = c.run.ensures.bound; held = c.run.ensures.held; written = c.run.ensures.written; budget = c.run.ensures.budget })
+    (record { links = c.run.ensures.links; bound = c.run.ensures.bound; written = c.run.ensures.written; budget = c.run.ensures.budget })
     c.finish.result c.finish.ensures.left c.finish.ensures.put c.finish.ensures.error c.finish.ensures.cut c.finish.ensures.faults

@@ -37,28 +37,28 @@ pub returns-in_err-prepared-clause-links : goal.returns-in_err-prepared-clause-l
 returns-in_err-prepared-clause-links g c = on_cut c.from_residual-in_err-prepared.result _ c.prepare.ensures.links
 
 pub returns-in_err-prepared-clause-bound : goal.returns-in_err-prepared-clause-bound
-returns-in_err-prepared-clause-bound g c = on_cut c.from_residual-in_err-prepared.result _ (c.prepare.ensures.pairs, c.prepare.ensures.counts)
+returns-in_err-prepared-clause-bound g c = on_cut c.from_residual-in_err-prepared.result _ (c.prepare.ensures.pairs, c.prepare.ensures.counts, c.prepare.ensures.from)
 
 pub returns-in_err-reserve-clause-links : goal.returns-in_err-reserve-clause-links
 returns-in_err-reserve-clause-links g c = on_cut c.from_residual-in_err-reserve.result _ c.prepare.ensures.links
 
 pub returns-in_err-reserve-clause-bound : goal.returns-in_err-reserve-clause-bound
-returns-in_err-reserve-clause-bound g c = on_cut c.from_residual-in_err-reserve.result _ (c.prepare.ensures.pairs, c.prepare.ensures.counts)
+returns-in_err-reserve-clause-bound g c = on_cut c.from_residual-in_err-reserve.result _ (c.prepare.ensures.pairs, c.prepare.ensures.counts, c.prepare.ensures.from)
 
 pub returns-in_err-reserve-2-clause-links : goal.returns-in_err-reserve-2-clause-links
 returns-in_err-reserve-2-clause-links g c = on_cut c.from_residual-in_err-reserve-2.result _ c.prepare.ensures.links
 
 pub returns-in_err-reserve-2-clause-bound : goal.returns-in_err-reserve-2-clause-bound
-returns-in_err-reserve-2-clause-bound g c = on_cut c.from_residual-in_err-reserve-2.result _ (c.prepare.ensures.pairs, c.prepare.ensures.counts)
+returns-in_err-reserve-2-clause-bound g c = on_cut c.from_residual-in_err-reserve-2.result _ (c.prepare.ensures.pairs, c.prepare.ensures.counts, c.prepare.ensures.from)
 
 pub returns-in_err-make_puts-clause-links : goal.returns-in_err-make_puts-clause-links
 returns-in_err-make_puts-clause-links g c = on_cut c.from_residual-in_err-make_puts.result _ c.prepare.ensures.links
 
 pub returns-in_err-make_puts-clause-bound : goal.returns-in_err-make_puts-clause-bound
-returns-in_err-make_puts-clause-bound g c = on_cut c.from_residual-in_err-make_puts.result _ (c.prepare.ensures.pairs, c.prepare.ensures.counts)
+returns-in_err-make_puts-clause-bound g c = on_cut c.from_residual-in_err-make_puts.result _ (c.prepare.ensures.pairs, c.prepare.ensures.counts, c.prepare.ensures.from)
 
 pub returns-in_err-make_puts-clause-same : goal.returns-in_err-make_puts-clause-same
-returns-in_err-make_puts-clause-same g c = on_cut c.from_residual-in_err-make_puts.result _ (refl, refl, refl)
+returns-in_err-make_puts-clause-same g c = on_cut c.from_residual-in_err-make_puts.result _ (refl, c.prepare.ensures.held, refl)
 
 pub returns-in_err-make_puts-clause-faults : goal.returns-in_err-make_puts-clause-faults
 returns-in_err-make_puts-clause-faults g c =
@@ -69,7 +69,7 @@ pub returns-in_err-make_puts-clause-cause : goal.returns-in_err-make_puts-clause
 returns-in_err-make_puts-clause-cause g c = unput_cause c.in_err-make_puts.field-0.0 _ _ c.make_puts.result c.from_residual-in_err-make_puts.result c.in_err-make_puts.was (unput_is _ _ c.from_residual-in_err-make_puts.ensures.1) c.make_puts.ensures.cause
 
 pub keep-requires-clause-bound : goal.keep-requires-clause-bound
-keep-requires-clause-bound g c = bound_stays c.args.self.now.links.links c.prepare.new.links.links c.args.self.now.bound c.prepare.new.bound c.prepare.ensures.links c.prepare.ensures.pairs c.prepare.ensures.counts c.requires.bound
+keep-requires-clause-bound g c = bound_stays c.args.self.now.links.links c.prepare.new.links.links c.args.self.now.bound c.prepare.new.bound c.prepare.ensures.links c.prepare.ensures.pairs c.prepare.ensures.counts c.prepare.ensures.from c.requires.bound
 
 pub returns-clause-left : goal.returns-clause-left
 returns-clause-left g c =
@@ -78,7 +78,7 @@ returns-clause-left g c =
     let links = links_behind c.args.self.now.links.links c.is_some-failed.result changes in
     on_end c.ended.result _
     (left_behind c.args.self.now _ c.keep.new.self (graph_of c.args.g.now).nodes c.args.gathered c.in_ok-site.site c.is_some-failed.result
-    c.in_ok-site.ensures c.is_some-failed.ensures c.prepare.ensures.pairs refl refl refl c.reserve-2.ensures.items
+    c.in_ok-site.ensures c.is_some-failed.ensures c.prepare.ensures.pairs c.prepare.ensures.from refl c.prepare.ensures.held refl c.reserve-2.ensures.items
     (c.keep.ensures.left changes full links (subst (λ (ls : LinkMap). PreparedSo ls changes full links c.in_ok-prepared.prepared) (sym c.prepare.ensures.links) c.in_ok-prepared.ensures.prepared)))
 
 pub returns-clause-put : goal.returns-clause-put

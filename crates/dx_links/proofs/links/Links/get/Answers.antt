@@ -1,24 +1,25 @@
-use Rattle.std.proofs.Common.{◌≡◌, ◌<◌, Some, None, length, subst, sym}
-use Rattle.dx_links.specs.LinkMap.{held_at, Linked}
-use Rattle.dx_links.specs.Slots.{links_of}
-use Rattle.dx_links.proofs.LinkLaws.{found, not_found}
-use Rattle.dx_links.proofs.SlotLaws.{links_count, read_link, seen_links}
+use Rattle.std.proofs.Common.{◌≡◌, ◌<◌, None, length, subst, ap, ◌∙◌, arith}
+use Rattle.std.specs.Prelude.{slice_get}
+use Rattle.std.specs.Cmp.{tied_back}
+use Rattle.std.specs.declared.cmp.Ordering.TheVariants.{Equal}
+use Rattle.dx_links.specs.LinkMap.{held_at, key_cmp, Linked}
+use Rattle.dx_links.specs.Slots.{no_link}
+use Rattle.dx_links.proofs.LinkLaws.{key_cmp_total}
+use Rattle.dx_links.proofs.SettledLaws.{held_tied, seen_key, seen_length, seen_none}
 use Rattle.dx_links.proofs.links.Links.get.Goals as goal
 
-pub returns-in-Ok : goal.returns-in-Ok
-returns-in-Ok c =
-    let slots = c.self.inside.slots.items in
-    let order = c.self.inside.order.items in
-    let i = c.in-Ok.i in
-    let r = c.index-in-Ok.result.now in
-    let seen = seen_links _ _ _ _ c.deref.ensures.value c.deref-2.ensures.value in
-    let within : i < length order = subst (λ ns. i < length ns) c.deref-2.ensures.value c.in-Ok.ensures.range in
-    let read = read_link slots order i c.index.result.now r c.self.invariant within c.index.ensures c.index-in-Ok.ensures in
-    subst (λ (l : Linked). held_at c.args.key.now l.links ≡ Some r.1) c.self.view_is
-    (found (links_of slots order) _ c.args.key.now i r c.self.invariant.sorted seen (subst (λ n. i < n) (sym (links_count _ _)) c.in-Ok.ensures.range) c.in-Ok.ensures.place read)
+pub at-requires : goal.at-requires
+at-requires c =
+    let n = seen_length c.self.inside.settled c.self.inside.slots.links in
+    let h = c.in-Some.ensures.within in
+    record { within = subst (λ (l : Linked). c.in-Some.i < length l.links) c.self.view_is (omega (arith, h, n)) }
 
-pub returns-in-Err : goal.returns-in-Err
-returns-in-Err c =
-    let seen = seen_links _ _ _ _ c.deref.ensures.value c.deref-2.ensures.value in
-    subst (λ (l : Linked). held_at c.args.key.now l.links ≡ None) c.self.view_is
-    (not_found (links_of c.self.inside.slots.items c.self.inside.order.items) _ c.args.key.now c.in-Err.field-0 c.self.invariant.sorted seen c.in-Err.ensures.place)
+pub returns-in-None : goal.returns-in-None
+returns-in-None c = subst (λ (l : Linked). held_at c.args.key.now l.links ≡ None) c.self.view_is (seen_none c.self.inside.settled c.args.key.now c.self.inside.slots.links c.in-None.ensures)
+
+pub returns-in-Some : goal.returns-in-Some
+returns-in-Some c =
+    let at = ap (λ (l : Linked). slice_get l.links c.in-Some.i) c.self.view_is ∙ c.at.ensures.at in
+    let same = seen_key c.self.inside.settled c.self.inside.slots.links c.in-Some.i _ no_link c.in-Some.ensures.within at in
+    held_tied c.args.key.now c.at.result.0.now c.args.self.now.links (tied_back key_cmp_total c.at.result.0.now c.args.key.now (subst (λ k. key_cmp k c.args.key.now ≡ Equal) same c.in-Some.ensures.key))
+    ∙ c.at.ensures.held
