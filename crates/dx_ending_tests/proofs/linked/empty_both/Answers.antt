@@ -9,4 +9,4 @@ pub returns : goal.returns
 returns c =
     let links = after c.reserve_emptying.new.self.links c.in_ok-changes.changes in
     let count = c.empty-2.ensures.from ∙ c.len-2.ensures ∙ ap length c.empty.ensures.links ∙ all_length links in
-    subst (λ (ls : LinkMap). IsBound ls c.empty-2.new.self) (sym c.empty.ensures.links) (emptied_bound links c.empty-2.new.self count c.empty-2.ensures.pairs c.empty-2.ensures.counts)
+    record { bound = subst (λ (ls : LinkMap). IsBound ls c.empty-2.new.self) (sym c.empty.ensures.links) (emptied_bound links c.empty-2.new.self count c.empty-2.ensures.pairs c.empty-2.ensures.counts) }
