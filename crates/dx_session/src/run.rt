@@ -13,7 +13,7 @@ ghost use Rattle.dx_outcome.specs.Meaning.{AreDemanded, EndsAsMeant, IsMeaning, 
 ghost use Rattle.dx_outcome.specs.Outcome.{IsOutcome, Outcome, listings_of, outcome, seen_of, shown_of, status_of};
 ghost use Rattle.dx_outcome.specs.Plan.{IsPlan, Plan};
 ghost use Rattle.dx_outcome.specs.Reads.{AsksAs};
-ghost use Rattle.dx_session.specs.Ends.{Ends, SeesSo, end_of};
+ghost use Rattle.dx_session.specs.Ends.{Ends, SeesSo, end_of, exit_of as spec_exit_of};
 ghost use Rattle.dx_words.specs.Range.{IsInRange};
 ghost use Rattle.dx_sessions.specs.Does.{devices};
 ghost use Rattle.dx_shown.specs.Listed.{any_error};
@@ -126,7 +126,14 @@ fn run<F: Files, X: Exports, O: Sink, L: Library>(
     ensures write_fault { result ≡ 5 → Rose (O.faults out.old) (O.faults out.new) }
     ensures export_fault { result ≡ 6 → Rose (X.faults exports.old) (X.faults exports.new) }
 {
-    match answer_words(alloc, words, files, exports, out, lib) {
+    exit_of(answer_words(alloc, words, files, exports, out, lib))
+}
+
+// The status of a call that came to its end, or that of what cut it short.
+fn exit_of(ended: Result<u8, End>) -> u8
+    ensures { result ≡ spec_exit_of ended }
+{
+    match ended {
         Ok(status) => status,
         Err(End::ReadFault) => 4,
         Err(End::WriteFault) => 5,
