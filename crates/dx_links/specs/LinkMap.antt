@@ -3,8 +3,9 @@ use Rattle.std.specs.Prelude.{◌≡◌, ℕ, zero, suc, List, [], ◌∷◌, Op
 use Rattle.std.specs.Coded.{Coded, code_by, coded×, coded_ℕ, coded_list, coded_option}
 use Rattle.std.specs.Map.{lookup, remove_entry}
 use Rattle.std.specs.BTreeMap.{insert_entry, is_at}
+use Rattle.std.specs.Ordering.{nat_cmp}
+use Rattle.std.specs.Cmp.Lexicographic.{slice_cmp}
 use Rattle.std.specs.declared.cmp.Ordering.{Ordering}
-use Rattle.std.specs.declared.cmp.Ordering.TheVariants.{Less, Greater}
 use Rattle.dx_base.specs.ObjectCode.{coded_tree}
 use Rattle.dx_objects.specs.Runs.{Values}
 use Rattle.dx_tags.specs.declared.term.ValueTag.{ValueTag}
@@ -30,15 +31,13 @@ pub record Linked : Type 0 where
   pub room : ℕ
   pub spare : ℕ
 
+-- the first byte that differs decides; a text is before the longer ones that begin with it
+abbrev pub by_bytes : List ℕ → List ℕ → Ordering
+by_bytes = slice_cmp nat_cmp
+
 -- global keys before local ones; those by name, these by path and then by name
 abbrev pub key_cmp : Key → Key → Ordering
 key_cmp = keys.ghosts.cmp
-
-pub global_first : (n p m : List ℕ) → key_cmp (Global n) (Local p m) ≡ Less
-global_first n p m = refl
-
-pub local_last : (n p m : List ℕ) → key_cmp (Local p m) (Global n) ≡ Greater
-local_last n p m = refl
 
 -- ---- a key in code
 

@@ -41,6 +41,7 @@ impl Changes {
         self.list.len()
     }
 
+    /// Whether there is no change.
     pub fn is_empty(&self) -> bool
         ensures { result ≡ (length self.now == 0) }
     {

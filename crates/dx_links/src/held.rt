@@ -34,12 +34,14 @@ impl Held {
         Held { value, tag }
     }
 
+    /// The value.
     pub fn value(&self) -> &Rc<Object>
         ensures { result.now.value ≡ self.now.value }
     {
         &self.value
     }
 
+    /// The tag of its term, by which it is known.
     pub fn tag(&self) -> ValueTag
         ensures { result ≡ self.now.tag }
     {

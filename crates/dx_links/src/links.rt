@@ -147,14 +147,15 @@ impl Links {
         self.slots.commit(changes);
     }
 
-    /// The same links in memory of their own, which share the values.
+    /// The same links in memory of their own, which share the values, with the values that were held at the last emptying.
     pub fn copy(&self, alloc: Global) -> Result<Links, AllocError>
-        ensures { IfOk result (λ copy. copy.links ≡ self.now.links) }
+        ensures links { IfOk result (λ copy. copy.links ≡ self.now.links) }
+        ensures held { IfOk result (λ copy. copy.held ≡ self.now.held) }
     {
         Ok(Links {
             alloc,
             slots: self.slots.copy(alloc)?,
-            held: Outs::new(alloc),
+            held: self.held.copy(alloc)?,
             settled: self.settled,
         })
     }

@@ -220,6 +220,19 @@ fn a_copy_stays_as_it_was(rt: HostRuntime) -> Result<(), Fail> {
     let behind = links.copy(rt.alloc())?;
     empty(rt.alloc(), &mut links, BEHIND)?;
     assert!(rt; are(rt.alloc(), &copy, BEFORE)? && are(rt.alloc(), &behind, EMPTIED)?);
+    assert!(rt; are_held(&copy, &[]) && are_held(&behind, EMPTIED_HELD));
+    Ok(())
+}
+
+#[test]
+fn a_copy_has_the_values_held_before_its_links_changed(rt: HostRuntime) -> Result<(), Fail> {
+    let mut links = Links::new(rt.alloc());
+    commit(rt.alloc(), &mut links, BEFORE)?;
+    empty(rt.alloc(), &mut links, LATER)?;
+    commit(rt.alloc(), &mut links, BEHIND)?;
+    let copy = links.copy(rt.alloc())?;
+    empty(rt.alloc(), &mut links, &[])?;
+    assert!(rt; are(rt.alloc(), &copy, CHANGED_BEHIND)? && are_held(&copy, EMPTIED_HELD));
     Ok(())
 }
 
