@@ -23,9 +23,9 @@ use dx_objects::Library;
 ///
 /// For files that tell their content, links that are right and work that stands where the machine's state is: what is answered is
 /// what the inputs come to by all values, the machine got the selectors and then the values, or stopped at the call that is
-/// refused; or the work was cut short on the machine's way. A fault is answered only where the files' count of faults has risen.
-/// Where the value of an input is refused, or all have values, the inputs are settled with values; where a selector is refused, looking
-/// by what is told stops at that of the node, and looking by all values at the same.
+/// refused; or the work was cut short on the machine's way. A fault is answered only where the files' count of faults has risen;
+/// with any other answer the count stays. Where the value of an input is refused, or all have values, the inputs are settled with
+/// values; where a selector is refused, looking by what is told stops at that of the node, and looking by all values at the same.
 pub fn arguments_of<F: Files, L: Library>(
     n: u32,
     setup: &Setup,

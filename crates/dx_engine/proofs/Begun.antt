@@ -1,5 +1,5 @@
 -- From what is kept to where the effects begin, and from where they end to what is kept.
-use Rattle.std.proofs.Common.{true≢false, ◌≡◌, ℕ, List, [], ◌∷◌, length, map, Option, Some, None, refl, sym, ap, subst}
+use Rattle.std.proofs.Common.{true≢false, ◌≡◌, inl, ℕ, List, [], ◌∷◌, length, map, Option, Some, None, refl, sym, ap, subst, arith}
 use Rattle.std.specs.Prelude.{Result, Ok, Err, OnOk, IfOk}
 use Rattle.dx_base.specs.declared.code.Code.{Code}
 use Rattle.dx_io.specs.Devices.{FileMap as InputFiles}
@@ -9,13 +9,10 @@ use Rattle.dx_tags.specs.declared.term.Term.{Term}
 use Rattle.dx_tags.specs.Closed.{heads_of, GoesOn}
 use Rattle.dx_tags.proofs.Growth.{held_grows}
 use Rattle.dx_links.specs.LinkMap.{Linked}
-use Rattle.dx_machine.specs.Machine.{State as Machine, tasks_of}
+use Rattle.dx_machine.specs.Machine.{State as Machine}
 use Rattle.dx_getting.specs.Told.{Told}
 use Rattle.dx_getting.proofs.TellLaws.{adds_none, grows_nothing}
 use Rattle.std.specs.Result.{IsErr}
-use Rattle.dx_performing.specs.Execution.{execution}
-use Rattle.dx_engine.proofs.Fronts.{front_all}
-use Rattle.dx_engine.proofs.Coursing.{course_more}
 use Rattle.dx_effects.proofs.NextInput.{by_budget}
 use Rattle.dx_getting.specs.Stands.{Answers, EntriesRight, KnownRight, FormedCalls, World, known_calls, world}
 use Rattle.dx_cache.specs.declared.entry.Entry.{Entry}
@@ -26,7 +23,7 @@ use Rattle.dx_demand.specs.Steps.{SeenFits, SeenRight}
 use Rattle.dx_demand.specs.declared.seen.Seen.{Seen}
 use Rattle.dx_meaning.specs.Forming.{Formings}
 use Rattle.dx_performing.specs.Kept.{Kept}
-use Rattle.dx_performing.specs.Course.{Fixed, begins, course, world_of, around_of, frame_with}
+use Rattle.dx_performing.specs.Course.{Fixed, begins, around_of, frame_with}
 use Rattle.dx_looking.specs.Setting.{links_of, nodes_in, told_terms, sight_in, setting_in, fixed}
 use Rattle.dx_looking.specs.Looking.{FromHere, AllFit, AreValues, AllDenote, AllReady, IsLooking, StandsAt}
 use Rattle.dx_looking.specs.declared.setup.Setup.{Setup}
@@ -123,17 +120,23 @@ effects_so setup st is x base all before (Ok g) at now written h = record {
   right = entries_alike at.tags setup.bound.now.pairs st.bound.pairs setup.links.now.held st.links.held (held_is setup st is) (setting_in setup at).formed [] (world x.answer x.file) at.work.cache.entries h.stands.work.sound.entries;
   sound = h.stands.sound;
 }
-effects_so setup st is x base all before (Err short) at now written h = record { printed = h.printed; told = h.told }
+effects_so setup st is x base all before (Err short) at now written h = h
 
 -- it was cut short before anything was done
 pub nothing_done : (x : Fixed) (st : State) (all : List CallTree) (nodes : List Node) (base : Told) (before : Option (List ℕ)) (r : Result Gathered Short) → IsErr r → (st' : State) → EffectsSo x st all nodes base before r st' base before
 nothing_done x st all nodes base before (Ok g) e st' = absurd (true≢false (sym e))
-nothing_done x st all nodes base before (Err short) e st' =
-    let m = course_more x (kept_of st) all (begins (kept_of st)) in
-    record {
-      printed = ([], (execution (world_of x (kept_of st)) all).printed, refl, grows_nothing before);
-      told = front_all _ base base [] m.more (tasks_of (course x (kept_of st) all (begins (kept_of st))).state.events) (adds_none base) m.runs;
-    }
+nothing_done x st all nodes base before (Err short) e st' = record {
+  whole = [];
+  next = [];
+  rest = all;
+  all = refl;
+  few = omega arith;
+  front = [];
+  left = [];
+  text = refl;
+  printed = grows_nothing before;
+  told = inl (adds_none base);
+}
 
 -- ---- what fits
 

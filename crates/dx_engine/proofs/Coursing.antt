@@ -1,5 +1,5 @@
 -- How far the effects of an execution were performed, and what is left of them.
-use Rattle.std.proofs.Common.{◌≡◌, ℕ, List, [], ◌∷◌, ◌++◌, Bool, true, false, Option, Some, None, refl, sym, ap, ap₂, ◌∙◌, subst, append_assoc, append-nil}
+use Rattle.std.proofs.Common.{◌≡◌, inl, inr, ℕ, List, [], ◌∷◌, ◌++◌, Bool, true, false, Option, Some, None, refl, sym, ap, ap₂, ◌∙◌, subst, append_assoc, append-nil, arith}
 use Rattle.std.specs.Prelude.{option_map}
 use Rattle.dx_base.specs.declared.function.Effect.{Effect}
 use Rattle.dx_base.specs.declared.function.Function.TheVariants as function
@@ -13,8 +13,8 @@ use Rattle.dx_links.specs.declared.held.Change.{Change}
 use Rattle.dx_links.specs.Holding.{Holding}
 use Rattle.dx_machine.specs.Machine.{State, Task, tasks_of}
 use Rattle.dx_machine.proofs.Grows.{RunsGrow, all_grow, grows_then, grows_none}
-use Rattle.dx_getting.specs.Told.{Told}
-use Rattle.dx_getting.proofs.TellLaws.{grows_more, grows_nothing, some_later}
+use Rattle.dx_getting.specs.Told.{Told, Adds, AddsSome}
+use Rattle.dx_getting.proofs.TellLaws.{grows_more, grows_nothing}
 use Rattle.dx_demand.proofs.Growing.{term_grows}
 use Rattle.dx_meaning.specs.Forming.{Formings}
 use Rattle.dx_meaning.specs.Scan.{Scanned, Forms, Ends}
@@ -31,11 +31,10 @@ use Rattle.dx_looking.specs.declared.progress.Progress.{Progress}
 use Rattle.dx_effects.specs.Coming.{node_trees}
 use Rattle.dx_engine.specs.Gathering.{ahead, text_in, puts_in, changes_in, is_end, Gathering, nothing, gathered_with, error_of}
 use Rattle.dx_engine.specs.Doing.{HoldingFits, DoneSo, node_looked, node_got, place_of_node}
-use Rattle.dx_engine.specs.Fronts.{AddsFront}
-use Rattle.dx_engine.specs.Running.{from_state, ChangesFit, AreCutShort}
+use Rattle.dx_engine.specs.Running.{from_state, ChangesFit}
+use Rattle.dx_engine.specs.Stopping.{StopsIn, printed_by}
 use Rattle.dx_engine.specs.declared.done.Done.{Done}
 use Rattle.dx_engine.specs.declared.done.Done.TheVariants as done
-use Rattle.dx_engine.proofs.Fronts.{front_all, front_later, front_some}
 
 -- ---- the course only adds runs
 
@@ -54,17 +53,12 @@ pub record MoreRuns (s s' : State) : Type 0 where
 more_then : (a b c : State) → MoreRuns a b → MoreRuns b c → MoreRuns a c
 more_then a b c m n = record { more = m.more ++ n.more; runs = n.runs ∙ ap (λ ts. ts ++ n.more) m.runs ∙ append_assoc (tasks_of a.events) m.more n.more }
 
-more_none : (s : State) → MoreRuns s s
+pub more_none : (s : State) → MoreRuns s s
 more_none s = record { more = []; runs = sym (append-nil (tasks_of s.events)) }
 
 unless_more : (s : State) (b : Bool) (now later : At) → MoreRuns s now.state → MoreRuns now.state later.state → MoreRuns s (unless b now later).state
 unless_more s true now later m n = m
 unless_more s false now later m n = more_then s now.state later.state m n
-
--- behind what is worked
-behind_worked : (b : Bool) (now later : At) → MoreRuns now.state later.state → MoreRuns now.state (unless b now later).state
-behind_worked true now later n = more_none now.state
-behind_worked false now later n = n
 
 worked_more : (x : Fixed) (k : Kept) (e : Effect) (p : Place) (looked : Looked) (at : At) → MoreRuns at.state (worked x k e p looked at).state
 worked_more x k e p looked at = let g = effect_grows (frame_with x k (formed_calls (worked x k e p looked at).formings)) looked at.state in record { more = g.more; runs = g.runs }
@@ -130,19 +124,37 @@ ahead_front nodes site (done.Ends n code) x = ([], refl)
 
 -- ---- on the course
 
+-- these effects were performed, and none ended the execution
 pub record OnCourse (setup : Setup) (x : Fixed) (k : Kept) (base : Told) (all rest : List CallTree) (s : State) (f : Formings) (before : Option (List ℕ)) (g : Gathering) (at : Progress) (now : Told) (written : Option (List ℕ)) : Type 0 where
+  pub done : List CallTree
+  pub all_are : all ≡ done ++ rest
   pub state : State
   pub formed : Formings
   pub stands : StandsAt setup x k base at now state formed
-  pub course : course x k all (from_state s f) ≡ course x k rest (record { state = state; formings = formed; sets = set_terms_of (heads_of at.tags) g.changes })
+  pub course : (more : List CallTree) → course x k (done ++ more) (from_state s f) ≡ course x k more (record { state = state; formings = formed; sets = set_terms_of (heads_of at.tags) g.changes })
   pub text : List ℕ
   pub wrote : Grows before written text
-  pub printed : (execution (world_of x k) all).printed ≡ text ++ (execution (world_of x k) rest).printed
+  pub printed : (more : List CallTree) → printed_by x k (done ++ more) ≡ text ++ printed_by x k more
   pub exports : (execution (world_of x k) all).exports ≡ g.exports ++ (execution (world_of x k) rest).exports
   pub error : (execution (world_of x k) all).error ≡ (execution (world_of x k) rest).error
 
 pub begun : (setup : Setup) (x : Fixed) (k : Kept) (base : Told) (all : List CallTree) (s : State) (f : Formings) (before : Option (List ℕ)) (at : Progress) (now : Told) → StandsAt setup x k base at now s f → OnCourse setup x k base all all s f before nothing at now before
-begun setup x k base all s f before at now st = record { state = s; formed = f; stands = st; course = refl; text = []; wrote = grows_nothing before; printed = refl; exports = refl; error = refl }
+begun setup x k base all s f before at now st = record { done = []; all_are = refl; state = s; formed = f; stands = st; course = λ more. refl; text = []; wrote = grows_nothing before; printed = λ more. refl; exports = refl; error = refl }
+
+module _ (setup : Setup) (x : Fixed) (k : Kept) (base : Told) (all rest : List CallTree) (s : State) (f : Formings) (before : Option (List ℕ)) (g : Gathering) (at : Progress) (now : Told) (written : Option (List ℕ)) (o : OnCourse setup x k base all rest s f before g at now written) where
+  all_course : course x k all (from_state s f) ≡ course x k rest (record { state = o.state; formings = o.formed; sets = set_terms_of (heads_of at.tags) g.changes })
+  all_course = ap (λ cs. course x k cs (from_state s f)) o.all_are ∙ o.course rest
+
+  all_printed : printed_by x k all ≡ o.text ++ printed_by x k rest
+  all_printed = ap (printed_by x k) o.all_are ∙ o.printed rest
+
+  done_printed : printed_by x k o.done ≡ o.text
+  done_printed = ap (printed_by x k) (sym (append-nil o.done)) ∙ o.printed [] ∙ append-nil o.text
+
+-- it ends there, or goes on with nothing
+unless_same : (b : Bool) (at : At) → unless b at at ≡ at
+unless_same true at = refl
+unless_same false at = refl
 
 module _ (setup : Setup) (x : Fixed) (k : Kept) (base : Told) (all rest : List CallTree) (s : State) (f : Formings) (before : Option (List ℕ)) (g : Gathering) (at : Progress) (now : Told) (written : Option (List ℕ)) (n : ℕ) (e : Effect) (o : OnCourse setup x k base all (TreeCall (function.Effect e) (place_of_node setup n) (node_trees setup n) ∷ rest) s f before g at now written) where
   abbrev here : At
@@ -160,14 +172,29 @@ module _ (setup : Setup) (x : Fixed) (k : Kept) (base : Told) (all rest : List C
   abbrev ends : Bool
   ends = ends_by e place (came (around_of x k) looked.terms)
 
+  abbrev call : CallTree
+  call = TreeCall (function.Effect e) place (node_trees setup n)
+
+  text_is : printed_by x k o.done ≡ o.text
+  text_is = done_printed setup x k base all (call ∷ rest) s f before g at now written o
+
+  there : course x k (o.done ++ call ∷ []) (from_state s f) ≡ behind
+  there = o.course (call ∷ []) ∙ unless_same ends behind
+
   -- cut short while it is performed
-  pub cut_there : (now' : Told) → IsCutIn base now' (node_got setup x k n o.state o.formed) → AreCutShort true x k base all s f before now' written
-  cut_there now' h =
-      let m = behind_worked ends behind (course x k rest behind) (course_more x k rest behind) in
-      record {
-        printed = (o.text, (execution (world_of x k) (TreeCall (function.Effect e) place (node_trees setup n) ∷ rest)).printed, o.printed, o.wrote);
-        told = subst (λ (a : At). AddsFront true base now' (tasks_of a.state.events)) (sym o.course) (front_some base now' (tasks_of (unless ends behind (course x k rest behind)).state.events) (some_later base now' (tasks_of behind.state.events) m.more (tasks_of (unless ends behind (course x k rest behind)).state.events) h m.runs));
-      }
+  pub cut_there : (now' : Told) → IsCutIn base now' (node_got setup x k n o.state o.formed) → StopsIn true x k all (from_state s f) base before now' written
+  cut_there now' h = record {
+    whole = o.done;
+    next = call ∷ [];
+    rest = rest;
+    all = o.all_are;
+    few = omega arith;
+    front = [];
+    left = printed_by x k (call ∷ []);
+    text = o.printed (call ∷ []) ∙ ap (λ y. y ++ printed_by x k (call ∷ [])) (sym text_is);
+    printed = subst (Grows before written) (sym (append-nil (printed_by x k o.done) ∙ text_is)) o.wrote;
+    told = inr (refl, refl, subst (λ (a : At). AddsSome base now' (tasks_of a.state.events)) (sym there) h);
+  }
 
   module _ (d : Done) (at' : Progress) (now' : Told) (so : DoneSo setup x k base n e o.state o.formed d at' now') (on : GoesOn at.tags at'.tags) (fits : ChangesFit at.tags g.changes) where
     sets_behind : behind.sets ≡ set_terms_of (heads_of at'.tags) (g.changes ++ changes_in d)
@@ -176,29 +203,38 @@ module _ (setup : Setup) (x : Fixed) (k : Kept) (base : Told) (all rest : List C
     behind_is : behind ≡ record { state = behind.state; formings = behind.formings; sets = set_terms_of (heads_of at'.tags) (g.changes ++ changes_in d) }
     behind_is = ap (λ z. record { state = behind.state; formings = behind.formings; sets = z }) sets_behind
 
-    decided : (execution (world_of x k) (TreeCall (function.Effect e) place (node_trees setup n) ∷ rest)).printed ≡ (ahead (nodes_in setup) place.site d (execution (world_of x k) rest)).printed
-    decided = ap (λ (y : Execution). y.printed) (so.decides (execution (world_of x k) rest))
+    decided : (more : List CallTree) → printed_by x k (call ∷ more) ≡ (ahead (nodes_in setup) place.site d (execution (world_of x k) more)).printed
+    decided more = ap (λ (y : Execution). y.printed) (so.decides (execution (world_of x k) more))
 
     -- cut short while its text is printed
-    pub cut_printing : (ahead : Bool) (written' : Option (List ℕ)) → GrowsInto written written' (text_in d) → AreCutShort ahead x k base all s f before now' written'
+    pub cut_printing : (ahead : Bool) (written' : Option (List ℕ)) → GrowsInto written written' (text_in d) → StopsIn ahead x k all (from_state s f) base before now' written'
     cut_printing ahead written' p =
-        let m = behind_worked ends behind (course x k rest behind) (course_more x k rest behind) in
-        let a = ahead_front (nodes_in setup) place.site d (execution (world_of x k) rest) in
+        let a = ahead_front (nodes_in setup) place.site d (execution (world_of x k) []) in
         record {
-          printed = (o.text ++ p.0, p.1 ++ a.0, o.printed ∙ ap (λ y. o.text ++ y) (decided ∙ a.1 ∙ ap (λ y. y ++ a.0) p.2 ∙ append_assoc p.0 p.1 a.0) ∙ sym (append_assoc o.text p.0 (p.1 ++ a.0)), grows_more before written written' o.text p.0 o.wrote p.3);
-          told = subst (λ (y : At). AddsFront ahead base now' (tasks_of y.state.events)) (sym o.course) (front_all ahead base now' (tasks_of behind.state.events) m.more (tasks_of (unless ends behind (course x k rest behind)).state.events) so.stands.work.told m.runs);
+          whole = o.done;
+          next = call ∷ [];
+          rest = rest;
+          all = o.all_are;
+          few = omega arith;
+          front = p.0;
+          left = p.1 ++ a.0;
+          text = o.printed (call ∷ []) ∙ ap (λ y. y ++ printed_by x k (call ∷ [])) (sym text_is) ∙ ap (λ y. printed_by x k o.done ++ y) (decided [] ∙ a.1 ∙ ap (λ y. y ++ a.0) p.2 ∙ append_assoc p.0 p.1 a.0);
+          printed = subst (λ y. Grows before written' (y ++ p.0)) (sym text_is) (grows_more before written written' o.text p.0 o.wrote p.3);
+          told = inl (subst (λ (y : At). Adds base now' (tasks_of y.state.events)) (sym there) so.stands.work.told);
         }
 
     -- it goes on with the others
     pub goes_on : is_end d ≡ false → (written' : Option (List ℕ)) → Grows written written' (text_in d) → OnCourse setup x k base all rest s f before (gathered_with d g) at' now' written'
     goes_on none written' p = record {
+      done = o.done ++ call ∷ [];
+      all_are = o.all_are ∙ sym (append_assoc o.done (call ∷ []) rest);
       state = behind.state;
       formed = behind.formings;
       stands = so.stands;
-      course = o.course ∙ ap (λ b. unless b behind (course x k rest behind)) (so.ends ∙ none) ∙ ap (course x k rest) behind_is;
+      course = λ more. ap (λ cs. course x k cs (from_state s f)) (append_assoc o.done (call ∷ []) more) ∙ o.course (call ∷ more) ∙ ap (λ b. unless b behind (course x k more behind)) (so.ends ∙ none) ∙ ap (course x k more) behind_is;
       text = o.text ++ text_in d;
       wrote = grows_more before written written' o.text (text_in d) o.wrote p;
-      printed = o.printed ∙ ap (λ y. o.text ++ y) (decided ∙ ahead_printed (nodes_in setup) place.site d (execution (world_of x k) rest) none) ∙ sym (append_assoc o.text (text_in d) (execution (world_of x k) rest).printed);
+      printed = λ more. ap (printed_by x k) (append_assoc o.done (call ∷ []) more) ∙ o.printed (call ∷ more) ∙ ap (λ y. o.text ++ y) (decided more ∙ ahead_printed (nodes_in setup) place.site d (execution (world_of x k) more) none) ∙ sym (append_assoc o.text (text_in d) (printed_by x k more));
       exports = o.exports ∙ ap (λ y. g.exports ++ y) (ap (λ (y : Execution). y.exports) (so.decides (execution (world_of x k) rest)) ∙ ahead_exports (nodes_in setup) place.site d (execution (world_of x k) rest) none) ∙ sym (append_assoc g.exports (puts_in d) (execution (world_of x k) rest).exports);
       error = o.error ∙ ap (λ (y : Execution). y.error) (so.decides (execution (world_of x k) rest)) ∙ ahead_error (nodes_in setup) place.site d (execution (world_of x k) rest) none;
     }
@@ -215,11 +251,11 @@ pub record IsDone (setup : Setup) (x : Fixed) (k : Kept) (base : Told) (all : Li
 
 pub done_so : (setup : Setup) (x : Fixed) (k : Kept) (base : Told) (all : List CallTree) (s : State) (f : Formings) (before : Option (List ℕ)) (g : Gathering) (at : Progress) (now : Told) (written : Option (List ℕ)) → g.error ≡ None → OnCourse setup x k base all [] s f before g at now written → IsDone setup x k base all s f before g at now written
 done_so setup x k base all s f before g at now written none o = record {
-  printed = subst (Grows before written) (sym (o.printed ∙ append-nil o.text)) o.wrote;
+  printed = subst (Grows before written) (sym (all_printed setup x k base all [] s f before g at now written o ∙ append-nil o.text)) o.wrote;
   exports = sym (o.exports ∙ append-nil g.exports);
   error = ap (error_of (nodes_in setup)) none ∙ sym o.error;
-  sets = sym (ap (λ (a : At). a.sets) o.course);
-  stands = subst (λ (a : At). StandsAt setup x k base at now a.state a.formings) (sym o.course) o.stands;
+  sets = sym (ap (λ (a : At). a.sets) (all_course setup x k base all [] s f before g at now written o));
+  stands = subst (λ (a : At). StandsAt setup x k base at now a.state a.formings) (sym (all_course setup x k base all [] s f before g at now written o)) o.stands;
 }
 
 module _ (setup : Setup) (x : Fixed) (k : Kept) (base : Told) (all rest : List CallTree) (s : State) (f : Formings) (before : Option (List ℕ)) (g : Gathering) (at : Progress) (now : Told) (written : Option (List ℕ)) (n : ℕ) (e : Effect) (o : OnCourse setup x k base all (TreeCall (function.Effect e) (place_of_node setup n) (node_trees setup n) ∷ rest) s f before g at now written) (at' : Progress) (now' : Told) (on : GoesOn at.tags at'.tags) (fits : ChangesFit at.tags g.changes) where
@@ -231,10 +267,11 @@ module _ (setup : Setup) (x : Fixed) (k : Kept) (base : Told) (all rest : List C
   end_by (done.Ends m code) so is written' p =
       let w = world_of x k in
       let b = behind setup x k base all rest s f before g at now written n e o in
-      let there : course x k all (from_state s f) ≡ b = o.course ∙ ap (λ y. unless y b (course x k rest b)) so.ends in
+      let cs = call setup x k base all rest s f before g at now written n e o ∷ rest in
+      let there : course x k all (from_state s f) ≡ b = all_course setup x k base all cs s f before g at now written o ∙ ap (λ y. unless y b (course x k rest b)) so.ends in
       let ended = so.decides (execution w rest) in
       record {
-        printed = subst (Grows before written') (sym (o.printed ∙ ap (λ y. o.text ++ y) (ap (λ (y : Execution). y.printed) ended))) (grows_more before written written' o.text [] o.wrote p);
+        printed = subst (Grows before written') (sym (all_printed setup x k base all cs s f before g at now written o ∙ ap (λ y. o.text ++ y) (ap (λ (y : Execution). y.printed) ended))) (grows_more before written written' o.text [] o.wrote p);
         exports = sym (o.exports ∙ ap (λ y. g.exports ++ y) (ap (λ (y : Execution). y.exports) ended));
         error = sym (o.error ∙ ap (λ (y : Execution). y.error) ended);
         sets = sym (sets_behind setup x k base all rest s f before g at now written n e o (done.Ends m code) at' now' so on fits) ∙ sym (ap (λ (a : At). a.sets) there);

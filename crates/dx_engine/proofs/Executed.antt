@@ -1,5 +1,5 @@
 -- What the parts of an execution come to.
-use Rattle.std.proofs.Common.{◌≡◌, inl, inr, ℕ, List, [], append-nil, Bool, true, false, Option, refl, sym, ap, ◌∙◌, subst}
+use Rattle.std.proofs.Common.{◌≡◌, inl, inr, ℕ, List, [], append-nil, true, Option, refl, sym, ap, ◌∙◌, subst, arith}
 use Rattle.std.specs.Prelude.{Result, Ok, Err, IsErrAnd}
 use Rattle.dx_base.specs.declared.code.Code.{Code}
 use Rattle.dx_graph.specs.Graph.{Node}
@@ -11,14 +11,15 @@ use Rattle.dx_demand.specs.Memo.{site_of}
 use Rattle.dx_io.specs.Devices.{Grows}
 use Rattle.dx_io.proofs.Growing.{grows_by_nothing}
 use Rattle.dx_performing.specs.Execution.{Error, Export, execution}
-use Rattle.dx_performing.specs.Course.{Fixed, world_of, committed, executed}
+use Rattle.dx_performing.specs.Course.{Fixed, world_of, begins, executed}
 use Rattle.dx_performing.specs.SoundEntries.{AreLawfulCalls}
 use Rattle.dx_ending.specs.Putting.{ArePut, ArePutBefore, exports_of}
 use Rattle.dx_engine.specs.Gathering.{error_of}
 use Rattle.dx_engine.specs.Keeping.{StateFits, kept_of, IsSoundState}
-use Rattle.dx_engine.specs.Beginning.{EffectsAre, EffectsCut, GathersFit, course_of}
+use Rattle.dx_engine.specs.Beginning.{EffectsAre, GathersFit}
 use Rattle.dx_engine.specs.Leaving.{LeavesSo}
-use Rattle.dx_engine.specs.Fronts.{AddsFront, reads_ahead}
+use Rattle.dx_engine.specs.Fronts.{reads_ahead}
+use Rattle.dx_engine.specs.Stopping.{printed_by, runs_by}
 use Rattle.dx_engine.specs.Ending.{OnEnd, ErrorIs, CutsPuts, short_error}
 use Rattle.dx_engine.specs.Executing.{Devices, EndsIn, IsExecuted, IsCutEarly, IsCutLate, NonePut, ExecutesSo}
 use Rattle.dx_engine.specs.declared.exec_error.ExecError.{ExecError}
@@ -27,27 +28,23 @@ use Rattle.dx_engine.specs.declared.gathered.Gathered.{Gathered}
 use Rattle.dx_engine.specs.declared.short.Short.{Short}
 use Rattle.dx_engine.specs.declared.short.Short.TheVariants as short
 use Rattle.dx_engine.specs.declared.state.State.{State}
-use Rattle.dx_engine.proofs.Fronts.{front_all}
 use Rattle.dx_engine.proofs.LeftBehind.{IsFinished, fits_left, kept_left, sound_left, events_left, told_left, current_left}
-use Rattle.dx_engine.proofs.SoundBehind.{tasks_stay, told_behind}
+use Rattle.dx_engine.proofs.SoundBehind.{told_behind}
 
 -- ---- cut short before its end
 
-cut_so : (x : Fixed) (st st' : State) (effects : List CallTree) (was now : Devices) (s : Short) → EffectsCut (reads_ahead s) x st effects was.told was.written now.told now.written → now.puts ≡ was.puts → st'.written ≡ st.written → ExecutesSo x st effects was (Err (short_error s)) st' now
+cut_so : (x : Fixed) (st st' : State) (effects : List CallTree) (was now : Devices) (s : Short) → IsCutEarly (reads_ahead s) x st effects was now → now.puts ≡ was.puts → st'.written ≡ st.written → ExecutesSo x st effects was (Err (short_error s)) st' now
 cut_so x st st' effects was now s cut puts files = by s cut
   where
-    early : (ahead : Bool) → EffectsCut ahead x st effects was.told was.written now.told now.written → IsCutEarly ahead x st effects was now
-    early ahead c = record { printed = c.printed; told = subst (AddsFront ahead was.told now.told) (sym (tasks_stay (committed (kept_of st) (execution (world_of x (kept_of st)) effects) (course_of x st effects)) (course_of x st effects))) c.told }
-
     none : NonePut st was st' now
     none = record { puts = puts; files = ap (λ w. w.files) files }
 
-    by : (s : Short) → EffectsCut (reads_ahead s) x st effects was.told was.written now.told now.written → ExecutesSo x st effects was (Err (short_error s)) st' now
-    by short.ReadFault c = (early true c, none)
-    by short.WriteFault c = (early false c, none)
-    by short.Memory c = inl (early true c, none)
+    by : (s : Short) → IsCutEarly (reads_ahead s) x st effects was now → ExecutesSo x st effects was (Err (short_error s)) st' now
+    by short.ReadFault c = (c, none)
+    by short.WriteFault c = (c, none)
+    by short.Memory c = inl (c, none)
 
-pub short_so : (x : Fixed) (st st' : State) (effects : List CallTree) (was now : Devices) (s : Short) (r : Result (Unit {0}) ExecError) → IsErrAnd r (λ e. e ≡ short_error s) → EffectsCut (reads_ahead s) x st effects was.told was.written now.told now.written → now.puts ≡ was.puts → st'.written ≡ st.written → ExecutesSo x st effects was r st' now
+pub short_so : (x : Fixed) (st st' : State) (effects : List CallTree) (was now : Devices) (s : Short) (r : Result (Unit {0}) ExecError) → IsErrAnd r (λ e. e ≡ short_error s) → IsCutEarly (reads_ahead s) x st effects was now → now.puts ≡ was.puts → st'.written ≡ st.written → ExecutesSo x st effects was r st' now
 short_so x st st' effects was now s (Ok u) is cut puts files = absurd is
 short_so x st st' effects was now s (Err e) is cut puts files = subst (λ (y : ExecError). ExecutesSo x st effects was (Err y) st' now) (sym is) (cut_so x st st' effects was now s cut puts files)
 
@@ -99,8 +96,16 @@ module _ (x : Fixed) (st st' st2 : State) (effects : List CallTree) (nodes : Lis
 
   early : IsCutEarly true x st effects was now
   early = record {
-    printed = ((execution (world_of x (kept_of st)) effects).printed, [], sym (append-nil _), are.printed);
-    told = front_all true was.told now.told _ [] _ told_all (sym (append-nil _));
+    whole = effects;
+    next = [];
+    rest = [];
+    all = sym (append-nil effects);
+    few = omega arith;
+    front = [];
+    left = [];
+    text = ap (printed_by x (kept_of st)) (append-nil effects) ∙ sym (append-nil (printed_by x (kept_of st) effects));
+    printed = subst (Grows was.written now.written) (sym (append-nil (printed_by x (kept_of st) effects))) are.printed;
+    told = inl (subst (λ cs. Adds was.told now.told (runs_by x (kept_of st) cs (begins (kept_of st)))) (sym (append-nil effects)) are.told);
   }
 
   none_put : ArePut was.puts now.puts st'.written.files st2.written.files [] → NonePut st was st2 now

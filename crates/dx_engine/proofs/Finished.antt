@@ -80,8 +80,8 @@ unput_is f (Ok u) is = absurd is
 unput_is f (Err e) is = ap Err is
 
 pub unput_cause : (f : ExportFail) (before now : ℕ) (made : Result (Unit {0}) ExportFail) (r : Result (Unit {0}) ExecError) → made ≡ Err f → r ≡ Err (export_error f) → Cause export.Fault before now made → Cause ExportFault before now r
-unput_cause export.Fault before now made r m is cause = record { later = cause.later; failed = λ e. cause.failed m }
-unput_cause export.Memory before now made r m is cause = record { later = cause.later; failed = λ e. absurd (subst is_memory (sym is ∙ e) tt) }
+unput_cause export.Fault before now made r m is cause = record { later = cause.later; failed = λ e. cause.failed m; otherwise = λ n. absurd (n is) }
+unput_cause export.Memory before now made r m is cause = record { later = cause.later; failed = λ e. absurd (subst is_memory (sym is ∙ e) tt); otherwise = λ n. cause.otherwise (λ e. absurd (cc (sym m ∙ e))) }
 
 pub unput_is_no_read : (f : ExportFail) (r : Result (Unit {0}) ExecError) → r ≡ Err (export_error f) → ¬ (r ≡ Err ReadFault)
 unput_is_no_read export.Fault r is e = subst is_export (sym is ∙ e) tt

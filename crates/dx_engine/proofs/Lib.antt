@@ -5,6 +5,7 @@ pub mod Begun
 pub mod FitsBehind
 pub mod ValuesBehind
 pub mod SoundBehind
+pub mod Faulted
 pub mod Finished
 pub mod LeftBehind
 pub mod Executed
@@ -14,3 +15,4 @@ pub mod Valued
 pub mod Performed
 pub mod Performs
 pub mod CutShort
+pub mod CutEarly

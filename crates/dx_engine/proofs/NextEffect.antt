@@ -1,5 +1,5 @@
 -- The next effect of an execution, and what fits behind it.
-use Rattle.std.proofs.Common.{false, ◌≡◌, ℕ, ◌+◌, ◌<◌, ◌≤◌, List, [], ◌∷◌, ◌++◌, length, map, drop, get_or, Option, Some, None, Bool, true, refl, sym, ap, ◌∙◌, subst}
+use Rattle.std.proofs.Common.{false, ◌≡◌, ℕ, ◌+◌, ◌<◌, ◌≤◌, List, [], ◌∷◌, ◌++◌, length, map, drop, get_or, Option, Some, None, true, refl, sym, ap, ◌∙◌, subst}
 use Rattle.std.proofs.lemmas.List.{at_drop_more, at_drop_all}
 use Rattle.std.proofs.Math.Logic.{∥∥₁_elim, ∥∥₁_map}
 use Rattle.std.proofs.Props.{props}
@@ -33,7 +33,8 @@ use Rattle.dx_engine.specs.Doing.{HoldingFits, DoneFits, PerformsSo, place_of_no
 use Rattle.dx_looking.specs.declared.cut.Cut.{Cut}
 use Rattle.dx_looking.specs.declared.cut.Cut.TheVariants as cut
 use Rattle.dx_engine.specs.Fronts.{reads_ahead}
-use Rattle.dx_engine.specs.Running.{ErrorFits, ChangesFit, GatheredFits, AreRun, AreCutShort, RunsSo}
+use Rattle.dx_engine.specs.Running.{ErrorFits, ChangesFit, GatheredFits, AreRun, RunsSo, from_state}
+use Rattle.dx_engine.specs.Stopping.{StopsIn}
 use Rattle.dx_engine.specs.Shortened.{cut_short}
 use Rattle.dx_engine.specs.declared.done.Done.{Done}
 use Rattle.dx_engine.specs.declared.done.Done.TheVariants as done
@@ -133,9 +134,9 @@ looking_reads_ahead : (c : Cut) → true ≡ reads_ahead (cut_short c)
 looking_reads_ahead cut.ReadFault = refl
 looking_reads_ahead cut.Memory = refl
 
-pub runs_cut : (setup : Setup) (x : Fixed) (k : Kept) (base : Told) (all : List CallTree) (s : State) (f : Formings) (before : Option (List ℕ)) (r : Result Gathered Short) (c : Cut) → IsErrAnd r (λ short. short ≡ cut_short c) → (at : Progress) (now : Told) (written : Option (List ℕ)) → AreCutShort true x k base all s f before now written → RunsSo setup x k base all s f before r at now written
+pub runs_cut : (setup : Setup) (x : Fixed) (k : Kept) (base : Told) (all : List CallTree) (s : State) (f : Formings) (before : Option (List ℕ)) (r : Result Gathered Short) (c : Cut) → IsErrAnd r (λ short. short ≡ cut_short c) → (at : Progress) (now : Told) (written : Option (List ℕ)) → StopsIn true x k all (from_state s f) base before now written → RunsSo setup x k base all s f before r at now written
 runs_cut setup x k base all s f before (Ok g) c e at now written h = absurd e
-runs_cut setup x k base all s f before (Err short) c e at now written h = subst (λ ahead. AreCutShort ahead x k base all s f before now written) (looking_reads_ahead c ∙ ap reads_ahead (sym e)) h
+runs_cut setup x k base all s f before (Err short) c e at now written h = subst (λ ahead. StopsIn ahead x k all (from_state s f) base before now written) (looking_reads_ahead c ∙ ap reads_ahead (sym e)) h
 
 pub are_run : (setup : Setup) (x : Fixed) (k : Kept) (base : Told) (all : List CallTree) (s : State) (f : Formings) (before : Option (List ℕ)) (g : Gathered) (at : Progress) (now : Told) (written : Option (List ℕ)) → IsDone setup x k base all s f before (gathers g) at now written → AreRun setup x k base all s f before g at now written
 are_run setup x k base all s f before g at now written d = record { printed = d.printed; exports = d.exports; error = d.error; sets = d.sets; stands = d.stands }

@@ -1,6 +1,6 @@
 -- What the effects of an execution come to, from what is kept.
-use Rattle.std.specs.Prelude.{◌≡◌, ◌<◌, ℕ, List, [], map, length, Option, Some, None, Bool, Result, Ok, Err}
-use Rattle.dx_io.specs.Devices.{FileMap as InputFiles, Grows, GrowsInto}
+use Rattle.std.specs.Prelude.{◌≡◌, ◌<◌, ℕ, List, [], map, length, Option, Some, None, Result, Ok, Err}
+use Rattle.dx_io.specs.Devices.{FileMap as InputFiles, Grows}
 use Rattle.dx_graph.specs.Graph.{Node}
 use Rattle.dx_macros.specs.Tree.{CallTree}
 use Rattle.dx_tags.specs.Closed.{heads_of}
@@ -13,8 +13,9 @@ use Rattle.dx_performing.specs.Execution.{execution}
 use Rattle.dx_performing.specs.Course.{Fixed, At, world_of, around_of, begins, course}
 use Rattle.dx_ending.specs.Terms.{set_terms_of}
 use Rattle.dx_looking.specs.Setting.{fixed}
-use Rattle.dx_engine.specs.Fronts.{AddsFront, reads_ahead}
+use Rattle.dx_engine.specs.Fronts.{reads_ahead}
 use Rattle.dx_engine.specs.Gathering.{gathers, error_of}
+use Rattle.dx_engine.specs.Stopping.{StopsIn}
 use Rattle.dx_engine.specs.Running.{ChangesFit}
 use Rattle.dx_engine.specs.Keeping.{kept_of, setting_of, IsSoundState}
 use Rattle.dx_engine.specs.declared.gathered.Gathered.{Gathered}
@@ -46,14 +47,9 @@ pub record EffectsAre (x : Fixed) (st : State) (effects : List CallTree) (nodes 
   pub right : EntriesRight (setting_of st') (world x.answer x.file) st'.at.work.cache.entries
   pub sound : IsSound (around_of x (kept_of st)) x.budget (course_of x st effects).state
 
--- a front was printed, and of the machine's runs a front was told
-pub record EffectsCut (ahead : Bool) (x : Fixed) (st : State) (effects : List CallTree) (base : Told) (before : Option (List ℕ)) (now : Told) (written : Option (List ℕ)) : Type 0 where
-  pub printed : GrowsInto before written (execution (world_of x (kept_of st)) effects).printed
-  pub told : AddsFront ahead base now (tasks_of (course_of x st effects).state.events)
-
 abbrev pub EffectsSo : Fixed → State → List CallTree → List Node → Told → Option (List ℕ) → Result Gathered Short → State → Told → Option (List ℕ) → Type 0
 EffectsSo x st effects nodes base before (Ok g) st' now written = EffectsAre x st effects nodes base before g st' now written
-EffectsSo x st effects nodes base before (Err short) st' now written = EffectsCut (reads_ahead short) x st effects base before now written
+EffectsSo x st effects nodes base before (Err short) st' now written = StopsIn (reads_ahead short) x (kept_of st) effects (begins (kept_of st)) base before now written
 
 -- ---- what fits at all times
 

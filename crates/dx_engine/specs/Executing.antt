@@ -1,17 +1,17 @@
 -- What one execution does, and what it leaves.
 use Rattle.std.specs.Prelude.{◌≡◌, ◌⊎◌, ℕ, List, map, Option, Some, None, Bool, true, false, Result, Ok, Err}
-use Rattle.dx_io.specs.Devices.{Grows, GrowsInto}
+use Rattle.dx_io.specs.Devices.{Grows}
 use Rattle.dx_macros.specs.Site.{Step, steps_text}
 use Rattle.dx_macros.specs.Tree.{CallTree}
 use Rattle.dx_machine.specs.Machine.{tasks_of}
 use Rattle.dx_getting.specs.Stands.{shown_event}
 use Rattle.dx_getting.specs.Told.{Told, Adds}
-use Rattle.dx_performing.specs.Course.{Fixed, world_of, executed}
+use Rattle.dx_performing.specs.Course.{Fixed, world_of, begins, executed}
 use Rattle.dx_performing.specs.Execution.{Error, Refused, Export, execution, behind}
 use Rattle.dx_performing.specs.Kept.{current}
 use Rattle.dx_engine.specs.Keeping.{kept_of, IsSoundState}
 use Rattle.dx_ending.specs.Putting.{ArePutBefore}
-use Rattle.dx_engine.specs.Fronts.{AddsFront}
+use Rattle.dx_engine.specs.Stopping.{StopsIn}
 use Rattle.dx_engine.specs.declared.exec_error.ExecError.{ExecError}
 use Rattle.dx_engine.specs.declared.exec_error.ExecError.TheVariants.{Module, ReadFault, WriteFault, ExportFault, Memory}
 use Rattle.dx_engine.specs.declared.state.State.{State}
@@ -43,11 +43,10 @@ pub record IsExecuted (x : Fixed) (st : State) (effects : List CallTree) (was : 
   pub current : current (kept_of st') ≡ behind (execution (world_of x (kept_of st)) effects) (current (kept_of st))
   pub sound : IsSoundState x st'
 
--- cut short before its first put: a front of its text was written, and a front of its runs was told, with one name more at most
--- where it may be read ahead
-pub record IsCutEarly (ahead : Bool) (x : Fixed) (st : State) (effects : List CallTree) (was now : Devices) : Type 0 where
-  pub printed : GrowsInto was.written now.written (execution (world_of x (kept_of st)) effects).printed
-  pub told : AddsFront ahead was.told now.told (tasks_of (executed x effects (kept_of st)).events)
+-- cut short before its first put, in one of its effects or behind them: the text of those before it was written and a front of
+-- its own, and a front of the runs up to it was told, with one name more at most where it may be read ahead
+abbrev pub IsCutEarly : Bool → Fixed → State → List CallTree → Devices → Devices → Type 0
+IsCutEarly ahead x st effects was now = StopsIn ahead x (kept_of st) effects (begins (kept_of st)) was.told was.written now.told now.written
 
 -- cut short at a put: all its text was written and all its runs were told; the files before this one were put, and it wasn't
 pub record IsCutLate (x : Fixed) (st : State) (effects : List CallTree) (was : Devices) (st' : State) (now : Devices) : Type 0 where

@@ -2,6 +2,7 @@ pub mod Shortened
 pub mod Gathering
 pub mod Doing
 pub mod Fronts
+pub mod Stopping
 pub mod Running
 pub mod Keeping
 pub mod Beginning

@@ -1,12 +1,12 @@
 -- What the effects of an execution come to, one behind the other.
-use Rattle.std.specs.Prelude.{◌≡◌, ◌<◌, ℕ, List, [], ◌∷◌, length, Option, Some, None, Bool, Result, Ok, Err}
+use Rattle.std.specs.Prelude.{◌≡◌, ◌<◌, ℕ, List, [], ◌∷◌, length, Option, Some, None, Result, Ok, Err}
 use Rattle.dx_base.specs.declared.code.Code.{Code}
-use Rattle.dx_io.specs.Devices.{Grows, GrowsInto}
+use Rattle.dx_io.specs.Devices.{Grows}
 use Rattle.dx_macros.specs.Tree.{CallTree}
 use Rattle.dx_tags.specs.Closed.{heads_of}
 use Rattle.dx_tags.specs.declared.term.Term.{Term}
 use Rattle.dx_links.specs.declared.held.Change.{Change}
-use Rattle.dx_machine.specs.Machine.{State, tasks_of}
+use Rattle.dx_machine.specs.Machine.{State}
 use Rattle.dx_getting.specs.Told.{Told}
 use Rattle.dx_meaning.specs.Forming.{Formings}
 use Rattle.dx_performing.specs.Execution.{execution}
@@ -18,8 +18,9 @@ use Rattle.dx_looking.specs.Looking.{StandsAt}
 use Rattle.dx_looking.specs.declared.setup.Setup.{Setup}
 use Rattle.dx_looking.specs.declared.progress.Progress.{Progress}
 use Rattle.dx_engine.specs.Doing.{HoldingFits}
-use Rattle.dx_engine.specs.Fronts.{AddsFront, reads_ahead}
+use Rattle.dx_engine.specs.Fronts.{reads_ahead}
 use Rattle.dx_engine.specs.Gathering.{gathers, error_of}
+use Rattle.dx_engine.specs.Stopping.{StopsIn}
 use Rattle.dx_engine.specs.declared.gathered.Gathered.{Gathered}
 use Rattle.dx_engine.specs.declared.short.Short.{Short}
 
@@ -35,14 +36,9 @@ pub record AreRun (setup : Setup) (x : Fixed) (k : Kept) (base : Told) (effects 
   pub sets : set_terms_of (heads_of at.tags) g.changes ≡ (course x k effects (from_state s f)).sets
   pub stands : StandsAt setup x k base at now (course x k effects (from_state s f)).state (course x k effects (from_state s f)).formings
 
--- a front was printed, and a front of the machine's runs was told
-pub record AreCutShort (ahead : Bool) (x : Fixed) (k : Kept) (base : Told) (effects : List CallTree) (s : State) (f : Formings) (before : Option (List ℕ)) (now : Told) (written : Option (List ℕ)) : Type 0 where
-  pub printed : GrowsInto before written (execution (world_of x k) effects).printed
-  pub told : AddsFront ahead base now (tasks_of (course x k effects (from_state s f)).state.events)
-
 abbrev pub RunsSo : Setup → Fixed → Kept → Told → List CallTree → State → Formings → Option (List ℕ) → Result Gathered Short → Progress → Told → Option (List ℕ) → Type 0
 RunsSo setup x k base effects s f before (Ok g) at now written = AreRun setup x k base effects s f before g at now written
-RunsSo setup x k base effects s f before (Err short) at now written = AreCutShort (reads_ahead short) x k base effects s f before now written
+RunsSo setup x k base effects s f before (Err short) at now written = StopsIn (reads_ahead short) x k effects (from_state s f) base before now written
 
 -- ---- what fits at all times
 

@@ -23,13 +23,13 @@ impl State {
     ///
     /// For files that tell their content and a sound state it is as meant: the text, the files that are put, the error by its site,
     /// the links and the written files behind it; the runs, the reads, the events and what is kept are those of the cache machine.
-    /// Where it is cut short, a front of all that happened, the links are those before, and no result stays cached. Whatever is
-    /// answered, what is kept is sound again.
+    /// Where it is cut short it stopped in one effect, with the text of those before it and no run of those behind it, or at a put;
+    /// the links are those before, and no result stays cached. Whatever is answered, what is kept is sound again.
     ///
     /// # Errors
     ///
     /// `Module`: exactly where the execution ends in the error of a call, with the site of the call and its code. `ReadFault`,
-    /// `WriteFault`, `ExportFault`: only where that device's count of faults rose. `Memory`: want of memory.
+    /// `WriteFault`, `ExportFault`: exactly where that device's count of faults rose. `Memory`: want of memory.
     pub fn execute<F: Files, X: Exports, O: Sink, L: Library>(
         &mut self,
         alloc: Global,

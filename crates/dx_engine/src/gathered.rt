@@ -22,7 +22,7 @@ pub struct Gathered {
 
 impl Gathered {
     /// Nothing was done yet, which takes no memory.
-    pub fn new(alloc: Global) -> Gathered
+    pub(crate) fn new(alloc: Global) -> Gathered
         ensures { gathers result ≡ nothing }
     {
         Gathered {
@@ -32,8 +32,14 @@ impl Gathered {
         }
     }
 
-    /// Prints what an effect prints, and keeps what it puts and sets. It answers whether the execution ends at it.
-    pub fn take<O: Sink>(&mut self, alloc: Global, done: Done, out: &mut O) -> Result<bool, Short>
+    /// Prints what an effect prints, and keeps what it puts and sets. It answers whether the execution ends at it. Where it fails, a
+    /// front of the text was printed, and what is kept then counts for nothing.
+    pub(crate) fn take<O: Sink>(
+        &mut self,
+        alloc: Global,
+        done: Done,
+        out: &mut O,
+    ) -> Result<bool, Short>
         ensures writes { Writes (O.written out.old) (O.written out.new) (text_in done) result }
         ensures gathered { OnOk result (gathers self.new ≡ gathered_with done (gathers self.old)) }
         ensures ends { IfOk result (λ ends. ends ≡ is_end done) }

@@ -36,7 +36,7 @@ fn effect_at(g: &Graph, n: u32) -> Effect
 ///
 /// For files that tell their content, links that are right and work that stands where a sound state of the machine is: what was
 /// printed, what is to be put and the error are those of the execution as meant, and the work and what is set are the machine's; or
-/// a front of the text was printed, and the work was cut short on the machine's way.
+/// it was cut short in one effect, with the text of those before it printed, and a front of its own behind all runs up to it.
 pub fn run_effects<F: Files, L: Library, O: Sink>(
     setup: &Setup,
     at: &mut Progress,

@@ -46,7 +46,7 @@ impl Known {
         self.table.get(&tag)
     }
 
-    /// Room for one more call.
+    /// Room for one more call. Where memory runs out the calls stay.
     pub fn reserve_one(&mut self) -> Result<(), AllocError>
         ensures calls { self.new.calls ≡ self.old.calls }
         ensures room { OnOk result (0 < self.new.room) }

@@ -189,7 +189,7 @@ fn work_off<S: Sites, F: Files, L: Library>(
 /// For files that tell their content, links that are right and work that stands where the machine's state is: after Ok
 /// the machine went well, and this is what the term denotes; a refusal is the machine's, with the tag of the call that
 /// refused; after a fault or want of memory the work was cut short on the machine's way. A fault is answered only where
-/// the files' count of faults has risen.
+/// the files' count of faults has risen; with any other answer the count stays.
 pub fn get_value<S: Sites, F: Files, L: Library>(
     t: ValueTag,
     scene: &Scene,

@@ -1,7 +1,7 @@
 -- What a call answers beside what its loading comes to.
 use Rattle.std.specs.Prelude.{◌≡◌, ℕ, ◌≤◌, List, Option, Result, Ok, Err, true, false}
 use Rattle.dx_base.specs.declared.token.SyntaxError.{SyntaxError}
-use Rattle.dx_io.specs.Devices.{Grows, GrowsInto, Rose}
+use Rattle.dx_io.specs.Devices.{Cause, Grows, GrowsInto}
 use Rattle.dx_ast.specs.declared.statements.Stmt.{Stmt}
 use Rattle.dx_cursor.specs.declared.fail.ParseFail.{ParseFail}
 use Rattle.dx_cursor.specs.declared.fail.ParseFail.TheVariants as parse
@@ -31,10 +31,9 @@ abbrev pub Loads : Loading → Result (List Stmt) LoadFail → Option (List Name
 Loads l (Ok statements) asked_old asked_new = (statements_of l.ends ≡ Ok statements) × Grows asked_old asked_new l.reads
 Loads l (Err why) asked_old asked_new = Refuses l why asked_old asked_new
 
--- a read fault is answered only where the count of the files' faults has risen
-pub record LoadCause {T : Type 0} (before now : ℕ) (result : Result T LoadFail) : Type 0 where
-  pub later : before ≤ now
-  pub failed : result ≡ Err fail.ReadFault → Rose before now
+-- a read fault is answered exactly where the count of the files' faults has risen: with any other answer it is as it was
+abbrev pub LoadCause : {T : Type 0} → ℕ → ℕ → Result T LoadFail → Type 0
+LoadCause before now result = Cause fail.ReadFault before now result
 
 -- of a call that parses
 abbrev pub ParseFails : Result (List Stmt) SyntaxError → ParseFail → Type 0

@@ -15,7 +15,7 @@ pub trait Exports {
     ghost faults: { Self → ℕ };
 
     /// Puts the content under a name, in place of what stood there. A put that fails completes nothing, and what then
-    /// stands under its own name is open. It answers `Fault` only where the count of faults has risen.
+    /// stands under its own name is open. It answers `Fault` exactly where the count of faults has risen.
     fn put(&mut self, alloc: Global, name: &Bytes, content: &[u8]) -> Result<(), ExportFail>
         ensures puts { Puts (puts self.old) (puts self.new) name.now content.now result }
         ensures cause { PutCause (faults self.old) (faults self.new) result };

@@ -17,8 +17,8 @@ pub trait Files {
     /// How often a read has failed.
     ghost faults: { Self → ℕ };
 
-    /// The bytes under a name, or nothing where there is no such file. A read changes no file. It answers `Fault` only
-    /// where the count of faults has risen.
+    /// The bytes under a name, or nothing where there is no such file. A read changes no file. It answers `Fault`
+    /// exactly where the count of faults has risen.
     fn read(&mut self, alloc: Global, name: &Bytes) -> Result<Option<Bytes>, FileFail>
         ensures found { (map : FileMap) → content self.old ≡ Some map →
             IfOk result (λ found. found ≡ map name.now) }

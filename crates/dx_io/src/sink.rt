@@ -13,7 +13,7 @@ pub trait Sink {
     ghost faults: { Self → ℕ };
 
     /// Takes a front of the piece and answers its length, which is above 0 where the piece isn't empty. A write that
-    /// fails takes nothing. It answers `Fault` only where the count of faults has risen.
+    /// fails takes nothing. It answers `Fault` exactly where the count of faults has risen.
     fn write(&mut self, piece: &[u8]) -> Result<usize, SinkFail>
         ensures within { IfOk result (λ n. n ≤ length piece.now) }
         ensures some { IfOk result (λ n. 0 < length piece.now → 0 < n) }

@@ -28,8 +28,9 @@ use dx_objects::Library;
 /// For files that tell their content, links that are right and work that stands where the machine's state is: what is answered is
 /// what looking by all values comes to, the machine got the selectors, and the terms that looking forms are there; or the last
 /// selector is refused; or the work was cut short on the machine's way. A fault is answered only where the files' count of faults
-/// has risen. Looking by what is told so far comes to the same. What is settled stays, and what comes to a value is settled. Where a
-/// selector is refused, looking by what is told stops at that of the node, and looking by all values at the same.
+/// has risen; with any other answer the count stays. Looking by what is told so far comes to the same. What is settled stays, and
+/// what comes to a value is settled. Where a selector is refused, looking by what is told stops at that of the node, and looking by
+/// all values at the same.
 pub fn look<F: Files, L: Library>(
     i: &Input,
     setup: &Setup,

@@ -1,5 +1,5 @@
 -- What an execution of a graph is, is made of its statement.
-use Rattle.std.proofs.Common.{◌≡◌, inl, inr, ℕ, List, [], true, Option, Some, None, refl, sym, ap, subst}
+use Rattle.std.proofs.Common.{◌≡◌, inl, inr, ℕ, List, [], Bool, true, false, Option, Some, None, refl, sym, ap, subst}
 use Rattle.std.specs.Prelude.{Result, Ok, Err, option_map}
 use Rattle.dx_ast.specs.declared.sequencing.Frames.{Frames}
 use Rattle.dx_ast.specs.Syntax.{Stmt}
@@ -16,30 +16,39 @@ use Rattle.dx_performing.specs.Course.{Fixed}
 use Rattle.dx_performing.specs.Execution as meant
 use Rattle.dx_engine.specs.Keeping.{kept_of, IsSoundState}
 use Rattle.dx_engine.specs.Executing.{Devices, ExecutesSo}
+use Rattle.dx_engine.specs.Executing as engine
 use Rattle.dx_engine.specs.declared.exec_error.ExecError.{ExecError}
 use Rattle.dx_engine.specs.declared.exec_error.ExecError.TheVariants as exec
 use Rattle.dx_engine.specs.declared.state.State.{State}
+use Rattle.dx_engine.proofs.CutEarly.{early_printed, early_told}
 use Rattle.dx_engine.proofs.Fronts.{front_all}
 use Rattle.dx_shown.specs.Made.{coursed, coursed_by, coursed_unless}
 use Rattle.dx_making.specs.Failing.{failing_of}
-use Rattle.dx_making.specs.Making.{MakesSo}
+use Rattle.dx_making.specs.Making.{IsCutEarly, MakesSo}
+use Rattle.dx_making.specs.declared.end.End.{End}
 use Rattle.dx_making.specs.declared.end.End.TheVariants as end
+use Rattle.dx_making.specs.declared.failing.Failing.{Failing}
 use Rattle.dx_making.specs.declared.failing.Failing.TheVariants.{Faulty}
 
 module _ (x : Fixed) (st st' : State) (was now : Devices) where
+  -- what all of it prints and runs, from where it was cut short
+  early : (ahead : Bool) (calls : List CallTree) → engine.IsCutEarly ahead x st calls was now → IsCutEarly ahead (coursed_by x calls (kept_of st)).0 was now
+  early ahead calls cut = record { printed = early_printed ahead x st calls was now cut; told = early_told ahead x st calls was now cut }
+
   by_effects : (calls : List CallTree) (r : Result (Unit {0}) ExecError) → ExecutesSo x st calls was r st' now → MakesSo x st (coursed_by x calls (kept_of st)) was (failing_of r) st' now
   by_effects calls (Ok u) e = record { printed = e.printed; puts = e.puts; error = e.error; told = e.told; events = e.events; kept = e.kept; sound = e.sound }
   by_effects calls (Err (exec.Module site code)) e = record { printed = e.printed; puts = e.puts; error = e.error; told = e.told; events = e.events; kept = e.kept; sound = e.sound }
-  by_effects calls (Err exec.ReadFault) e = (record { printed = e.0.printed; told = e.0.told }, e.1)
-  by_effects calls (Err exec.WriteFault) e = (record { printed = e.0.printed; told = e.0.told }, e.1)
+  by_effects calls (Err exec.ReadFault) e = (early true calls e.0, e.1)
+  by_effects calls (Err exec.WriteFault) e = (early false calls e.0, e.1)
   by_effects calls (Err exec.ExportFault) e = record { printed = e.printed; told = e.told; puts = e.puts }
-  by_effects calls (Err exec.Memory) (inl (early, none)) = inl (record { printed = early.printed; told = early.told }, none)
+  by_effects calls (Err exec.Memory) (inl (cut, none)) = inl (early true calls cut, none)
   by_effects calls (Err exec.Memory) (inr late) = inr (record { printed = late.printed; told = late.told; puts = late.puts })
 
-  pub made_so : (d : Dictionary) (frames : Frames) (s : Stmt) (calls : List CallTree) (r : Result (Unit {0}) ExecError) → first_fault d s ≡ None → calls ≡ effects d frames s → ExecutesSo x st calls was r st' now → MakesSo x st (coursed x d frames s (kept_of st)) was (failing_of r) st' now
-  made_so d frames s calls r none same e =
-      subst (λ (f : Option Fault). MakesSo x st (coursed_unless x f (effects d frames s) (kept_of st)) was (failing_of r) st' now) (sym none)
-      (subst (λ (cs : List CallTree). MakesSo x st (coursed_by x cs (kept_of st)) was (failing_of r) st' now) same (by_effects calls r e))
+  pub made_so : (d : Dictionary) (frames : Frames) (s : Stmt) (calls : List CallTree) (r : Result (Unit {0}) ExecError) (made : Result (Option Failing) End) → made ≡ failing_of r → first_fault d s ≡ None → calls ≡ effects d frames s → ExecutesSo x st calls was r st' now → MakesSo x st (coursed x d frames s (kept_of st)) was made st' now
+  made_so d frames s calls r made ends none same e =
+      subst (λ (f : Option Fault). MakesSo x st (coursed_unless x f (effects d frames s) (kept_of st)) was made st' now) (sym none)
+      (subst (λ (cs : List CallTree). MakesSo x st (coursed_by x cs (kept_of st)) was made st' now) same
+      (subst (λ (y : Result (Option Failing) End). MakesSo x st (coursed_by x calls (kept_of st)) was y st' now) (sym ends) (by_effects calls r e)))
 
 abbrev is_none : Option (List ℕ × StaticFault) → Type 0
 is_none None = Unit {0}

@@ -33,7 +33,7 @@ use std::alloc::Global;
 ///
 /// # Errors
 ///
-/// `ReadFault`, `WriteFault`, `ExportFault`: only where that device's count of faults rose. `Memory`: want of memory.
+/// `ReadFault`, `WriteFault`, `ExportFault`: exactly where that device's count of faults rose. `Memory`: want of memory.
 pub fn make<F: Files, X: Exports, O: Sink, L: Library>(
     alloc: Global,
     d: &CheckedDictionary,

@@ -1,4 +1,4 @@
--- A getting asks links alone whether they have a term.
+-- Of links, getting asks alone which results of calls are among their terms.
 use Rattle.std.specs.Prelude.{◌≡◌, ℕ, List}
 use Rattle.dx_tags.specs.Closed.{ValueTerm, ResultTerm, CallTerm, ValueTerms}
 use Rattle.dx_links.specs.Getting.{has_value}

@@ -103,6 +103,11 @@ pub fn run_dxi<F: Files, X: Exports, O: Sink, L: Library>(
     ensures read_fault { result ≡ 4 → Rose (F.faults files.old) (F.faults files.new) }
     ensures write_fault { result ≡ 5 → Rose (O.faults out.old) (O.faults out.new) }
     ensures export_fault { result ≡ 6 → Rose (X.faults exports.old) (X.faults exports.new) }
+
+    // With any other status its count stays, so that no fault is told as want of memory, or as another device's.
+    ensures no_read_fault { ¬ (result ≡ 4) → F.faults files.new ≡ F.faults files.old }
+    ensures no_write_fault { ¬ (result ≡ 5) → O.faults out.new ≡ O.faults out.old }
+    ensures no_export_fault { ¬ (result ≡ 6) → X.faults exports.new ≡ X.faults exports.old }
 {
     run(alloc, words, files, exports, out, lib)
 }
@@ -125,6 +130,9 @@ fn run<F: Files, X: Exports, O: Sink, L: Library>(
     ensures read_fault { result ≡ 4 → Rose (F.faults files.old) (F.faults files.new) }
     ensures write_fault { result ≡ 5 → Rose (O.faults out.old) (O.faults out.new) }
     ensures export_fault { result ≡ 6 → Rose (X.faults exports.old) (X.faults exports.new) }
+    ensures no_read_fault { ¬ (result ≡ 4) → F.faults files.new ≡ F.faults files.old }
+    ensures no_write_fault { ¬ (result ≡ 5) → O.faults out.new ≡ O.faults out.old }
+    ensures no_export_fault { ¬ (result ≡ 6) → X.faults exports.new ≡ X.faults exports.old }
 {
     exit_of(answer_words(alloc, words, files, exports, out, lib))
 }

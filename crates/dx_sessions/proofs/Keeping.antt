@@ -1,9 +1,8 @@
 -- What each call leaves in order, over calls one behind the other.
-use Rattle.std.proofs.Common.{◌≡◌, ◌+◌, ◌-◌, ◌^◌, ◌≤◌, min, ℕ, List, [], ◌∷◌, ◌++◌, Option, Bool, Result, Ok, Err, refl, sym, ap, subst, ◌∙◌, arith}
-use Rattle.std.proofs.Math.Nat.{min-le_left, min-le_right, le-min}
+use Rattle.std.proofs.Common.{◌≡◌, ℕ, List, [], ◌∷◌, ◌++◌, Option, Bool, Result, Ok, Err, refl, sym, ap, subst, ◌∙◌, arith}
 use Rattle.dx_io.specs.declared.fails.SinkFail.{SinkFail}
 use Rattle.dx_io.specs.declared.fails.SinkFail.TheVariants as sink
-use Rattle.dx_io.specs.Devices.{Cause, Rose, WriteCause}
+use Rattle.dx_io.specs.Devices.{Cause, WriteCause}
 use Rattle.dx_io.proofs.Growing.{grows_by_nothing, grows_on}
 use Rattle.dx_tags.specs.Files.{FileMap, file_put}
 use Rattle.dx_performing.specs.Execution.{Export, after_exports}
@@ -19,15 +18,9 @@ use Rattle.dx_sessions.specs.declared.ended.Ended.{Ended}
 
 -- ---- faults
 
-rose_from : (a b c : ℕ) → a ≤ b → Rose b c → Rose a c
-rose_from a b c before rose =
-    let left : min (a + 1) (2 ^ 64 - 1) ≤ b + 1 = (let l = min-le_left (a + 1) (2 ^ 64 - 1) in omega (arith, l, before)) in
-    let both : min (a + 1) (2 ^ 64 - 1) ≤ min (b + 1) (2 ^ 64 - 1) = le-min left (min-le_right (a + 1) (2 ^ 64 - 1)) in
-    omega (arith, both, rose)
-
--- a fault of a later call is one of the whole
-cause_after : {T : Type 0} (fault : End) (a b c : ℕ) (r : Result T End) → a ≤ b → Cause fault b c r → Cause fault a c r
-cause_after fault a b c r before cause = record { later = (let l = cause.later in omega (arith, before, l)); failed = λ e. rose_from a b c before (cause.failed e) }
+-- behind calls that left the count as it was
+cause_after : {T : Type 0} (fault : End) (a b c : ℕ) (r : Result T End) → b ≡ a → Cause fault b c r → Cause fault a c r
+cause_after fault a b c r stays cause = subst (λ (n : ℕ). Cause fault n c r) stays cause
 
 -- no device failed
 abbrev pub IsNoFault : {T : Type 0} → Result T End → Type 0
@@ -37,19 +30,23 @@ IsNoFault (Err WriteFault) = ⊥
 IsNoFault (Err ExportFault) = ⊥
 IsNoFault (Err Memory) = Unit {0}
 
-abbrev IsNoError : {T : Type 0} → Result T End → Type 0
+abbrev IsNoError : {T E : Type 0} → Result T E → Type 0
 IsNoError (Ok v) = Unit {0}
 IsNoError (Err e) = ⊥
 
-later_cause : {T : Type 0} (fault : End) (a b : ℕ) (r : Result T End) → (r ≡ Err fault → ⊥) → a ≤ b → Cause fault a b r
-later_cause fault a b r not later = record { later = later; failed = λ e. absurd (not e) }
+is_no_error : {T E : Type 0} (v : T) (e : E) → ¬ (Ok v ≡ Err e)
+is_no_error v e is = subst IsNoError is tt
+
+-- without that device's fault its count stays
+still_cause : {T : Type 0} (fault : End) (a b : ℕ) (r : Result T End) → ¬ (r ≡ Err fault) → b ≡ a → Cause fault a b r
+still_cause fault a b r not stays = record { later = omega (arith, stays); failed = λ e. absurd (not e); otherwise = λ _. stays }
 
 -- what ends well had no fault
-pub ok_cause : {T : Type 0} (fault : End) (a b : ℕ) (v : T) → a ≤ b → Cause fault a b (Ok v)
-ok_cause fault a b v later = later_cause fault a b (Ok v) (λ e. subst IsNoError e tt) later
+ok_cause : {T : Type 0} (fault : End) (a b : ℕ) (v : T) → b ≡ a → Cause fault a b (Ok v)
+ok_cause fault a b v stays = still_cause fault a b (Ok v) (is_no_error v fault) stays
 
 pub no_cause : {T : Type 0} (fault : End) (n : ℕ) (v : T) → Cause fault n n (Ok v)
-no_cause fault n v = ok_cause fault n n v (omega arith)
+no_cause fault n v = ok_cause fault n n v refl
 
 abbrev pub error_or : {T : Type 0} → End → Result T End → End
 error_or end (Ok v) = end
@@ -63,10 +60,24 @@ IsFault ExportFault = Unit {0}
 IsFault Memory = ⊥
 
 pub memory_cause : {T : Type 0} (fault : End) (n : ℕ) → IsFault fault → Cause {T = T} fault n n (Err Memory)
-memory_cause {T} fault n is = later_cause fault n n (Err Memory) (λ e. subst IsFault (sym (ap (λ (r : Result T End). error_or fault r) e)) is) (omega arith)
+memory_cause {T} fault n is = still_cause fault n n (Err Memory) (λ e. subst IsFault (sym (ap (λ (r : Result T End). error_or fault r) e)) is) refl
 
-cause_as : {S T : Type 0} (fault : End) (a b : ℕ) (r : Result S End) (other : Result T End) → (other ≡ Err fault → r ≡ Err fault) → Cause fault a b r → Cause fault a b other
-cause_as fault a b r other same cause = record { later = cause.later; failed = λ e. cause.failed (same e) }
+cause_as : {S T : Type 0} (fault : End) (a b : ℕ) (r : Result S End) (other : Result T End) → (other ≡ Err fault → r ≡ Err fault) → (r ≡ Err fault → other ≡ Err fault)
+    → Cause fault a b r → Cause fault a b other
+cause_as fault a b r other same back cause = record { later = cause.later; failed = λ e. cause.failed (same e); otherwise = λ no. cause.otherwise (λ e. no (back e)) }
+
+-- a text was written, or that was cut short
+pub written_cause : {S T : Type 0} (was now : ℕ) (u : S) (v : T) → WriteCause was now (Ok u) → Cause WriteFault was now (Ok v)
+written_cause was now u v cause = ok_cause WriteFault was now v (cause.otherwise (is_no_error u sink.Fault))
+
+abbrev IsWant : {T : Type 0} → Result T SinkFail → Type 0
+IsWant (Ok v) = ⊥
+IsWant (Err sink.Fault) = ⊥
+IsWant (Err sink.Memory) = Unit {0}
+
+cut_cause : {S T : Type 0} (was now : ℕ) (fail : SinkFail) → WriteCause {T = S} was now (Err fail) → Cause {T = T} WriteFault was now (Err (write_end fail))
+cut_cause was now sink.Fault cause = record { later = cause.later; failed = λ e. cause.failed refl; otherwise = λ no. absurd (no refl) }
+cut_cause was now sink.Memory cause = still_cause WriteFault was now (Err Memory) (λ e. subst IsNoFault e tt) (cause.otherwise (λ e. subst IsWant e tt))
 
 -- ---- what was put
 
@@ -96,38 +107,35 @@ keeps_of a b was now r same read write export fits written = record { same = sam
 pub keeps_still : {T : Type 0} (st : State) (was : Counts) (r : Result T End) → IsNoFault r → StateFits st → Keeps st st was was r
 keeps_still st was r quiet fits = record {
   same = refl;
-  read_cause = later_cause ReadFault was.reads was.reads r (λ e. subst IsNoFault e quiet) (omega arith);
-  write_cause = later_cause WriteFault was.writes was.writes r (λ e. subst IsNoFault e quiet) (omega arith);
-  export_cause = later_cause ExportFault was.exports was.exports r (λ e. subst IsNoFault e quiet) (omega arith);
+  read_cause = still_cause ReadFault was.reads was.reads r (λ e. subst IsNoFault e quiet) refl;
+  write_cause = still_cause WriteFault was.writes was.writes r (λ e. subst IsNoFault e quiet) refl;
+  export_cause = still_cause ExportFault was.exports was.exports r (λ e. subst IsNoFault e quiet) refl;
   fits = fits;
   written = none_put was.puts st.written.files;
 }
 
--- one call and then another
+-- one call that came to its end, and so left all counts as they were, and then another
 pub keeps_on : {S T : Type 0} (a b c : State) (was mid now : Counts) (v : S) (r : Result T End) → Keeps a b was mid (Ok v) → Keeps b c mid now r → Keeps a c was now r
 keeps_on a b c was mid now v r first second = record {
   same = second.same ∙ first.same;
-  read_cause = cause_after ReadFault was.reads mid.reads now.reads r first.read_cause.later second.read_cause;
-  write_cause = cause_after WriteFault was.writes mid.writes now.writes r first.write_cause.later second.write_cause;
-  export_cause = cause_after ExportFault was.exports mid.exports now.exports r first.export_cause.later second.export_cause;
+  read_cause = cause_after ReadFault was.reads mid.reads now.reads r (first.read_cause.otherwise (is_no_error v ReadFault)) second.read_cause;
+  write_cause = cause_after WriteFault was.writes mid.writes now.writes r (first.write_cause.otherwise (is_no_error v WriteFault)) second.write_cause;
+  export_cause = cause_after ExportFault was.exports mid.exports now.exports r (first.export_cause.otherwise (is_no_error v ExportFault)) second.export_cause;
   fits = second.fits;
   written = put_on was.puts mid.puts now.puts a.written.files b.written.files c.written.files first.written second.written;
 }
 
 -- with another answer, but the same end
-pub keeps_as : {S T : Type 0} (a b : State) (was now : Counts) (r : Result S End) (other : Result T End) → ((fault : End) → other ≡ Err fault → r ≡ Err fault) → Keeps a b was now r → Keeps a b was now other
-keeps_as a b was now r other same h = record {
+pub keeps_as : {S T : Type 0} (a b : State) (was now : Counts) (r : Result S End) (other : Result T End) → ((fault : End) → other ≡ Err fault → r ≡ Err fault) → ((fault : End) → r ≡ Err fault → other ≡ Err fault)
+    → Keeps a b was now r → Keeps a b was now other
+keeps_as a b was now r other same back h = record {
   same = h.same;
-  read_cause = cause_as ReadFault was.reads now.reads r other (same ReadFault) h.read_cause;
-  write_cause = cause_as WriteFault was.writes now.writes r other (same WriteFault) h.write_cause;
-  export_cause = cause_as ExportFault was.exports now.exports r other (same ExportFault) h.export_cause;
+  read_cause = cause_as ReadFault was.reads now.reads r other (same ReadFault) (back ReadFault) h.read_cause;
+  write_cause = cause_as WriteFault was.writes now.writes r other (same WriteFault) (back WriteFault) h.write_cause;
+  export_cause = cause_as ExportFault was.exports now.exports r other (same ExportFault) (back ExportFault) h.export_cause;
   fits = h.fits;
   written = h.written;
 }
-
-abbrev IsErr : {T : Type 0} → Result T End → Type 0
-IsErr (Ok v) = ⊥
-IsErr (Err e) = Unit {0}
 
 abbrev pub ends : (T : Type 0) → End → Result T End
 ends T end = Err end
@@ -136,14 +144,14 @@ pub same_end : (S T : Type 0) (end fault : End) → ends T end ≡ ends T fault 
 same_end S T end fault e = ap (λ (r : Result T End). ends S (error_or end r)) e
 
 pub no_end : {S T : Type 0} (v : T) (r : Result S End) (fault : End) → Ok v ≡ Err fault → r ≡ Err fault
-no_end v r fault e = absurd (subst IsErr (sym e) tt)
+no_end v r fault e = absurd (is_no_error v fault e)
 
 pub keeps_with : {S T : Type 0} {a b : State} {was now : Counts} {v : S} (other : T) → Keeps a b was now (Ok v) → Keeps a b was now (Ok other)
-keeps_with {S} {T} {a} {b} {was} {now} {v} other h = keeps_as a b was now (Ok v) (Ok other) (λ fault e. no_end other (Ok v) fault e) h
+keeps_with {S} {T} {a} {b} {was} {now} {v} other h = keeps_as a b was now (Ok v) (Ok other) (λ fault e. no_end other (Ok v) fault e) (λ fault e. no_end v (Ok other) fault e) h
 
 keeps_erred_of : (a b : State) (was now : Counts) (ended : Result Ended End) → Keeps a b was now ended → Keeps a b was now (erred_of ended)
 keeps_erred_of a b was now (Ok ended) h = keeps_with (is_error ended) h
-keeps_erred_of a b was now (Err end) h = keeps_as a b was now (Err end) (Err end) (λ fault e. same_end Ended Bool end fault e) h
+keeps_erred_of a b was now (Err end) h = keeps_as a b was now (Err end) (Err end) (λ fault e. same_end Ended Bool end fault e) (λ fault e. same_end Bool Ended end fault e) h
 
 pub keeps_erred : (a b : State) (was now : Counts) (ended : Result Ended End) (erred : Result Bool End) → erred ≡ erred_of ended → Keeps a b was now ended → Keeps a b was now erred
 keeps_erred a b was now ended erred same h = subst (λ (r : Result Bool End). Keeps a b was now r) (sym same) (keeps_erred_of a b was now ended h)
@@ -157,9 +165,9 @@ pub line_kept : {S T : Type 0} (st : State) (was : Counts) (writes : ℕ) (u : S
     → Keeps st st was (counts was.content was.reads writes was.exports was.puts) (Ok v)
 line_kept st was writes u v fits cause = record {
   same = refl;
-  read_cause = later_cause ReadFault was.reads was.reads (Ok v) (λ e. subst IsNoFault e tt) (omega arith);
-  write_cause = later_cause WriteFault was.writes writes (Ok v) (λ e. subst IsNoFault e tt) cause.later;
-  export_cause = later_cause ExportFault was.exports was.exports (Ok v) (λ e. subst IsNoFault e tt) (omega arith);
+  read_cause = no_cause ReadFault was.reads v;
+  write_cause = written_cause was.writes writes u v cause;
+  export_cause = no_cause ExportFault was.exports v;
   fits = fits;
   written = none_put was.puts st.written.files;
 }
@@ -175,19 +183,15 @@ write_ends : (T : Type 0) (fail : SinkFail) → IsWriteEnd (ends T (write_end fa
 write_ends T sink.Fault = tt
 write_ends T sink.Memory = tt
 
-cut_cause : {S T : Type 0} (was now : ℕ) (fail : SinkFail) → WriteCause {T = S} was now (Err fail) → Cause {T = T} WriteFault was now (Err (write_end fail))
-cut_cause was now sink.Fault cause = record { later = cause.later; failed = λ e. cause.failed refl }
-cut_cause was now sink.Memory cause = later_cause WriteFault was now (Err Memory) (λ e. subst IsNoFault e tt) cause.later
-
 pub line_cut : {S T : Type 0} (st : State) (was : Counts) (writes : ℕ) (fail : SinkFail) (end : End) → StateFits st → end ≡ write_end fail → WriteCause {T = S} was.writes writes (Err fail)
     → Keeps {T = T} st st was (counts was.content was.reads writes was.exports was.puts) (Err end)
 line_cut {S} {T} st was writes fail end fits is cause =
     subst (λ (e : End). Keeps {T = T} st st was (counts was.content was.reads writes was.exports was.puts) (Err e)) (sym is)
     (record {
       same = refl;
-      read_cause = later_cause ReadFault was.reads was.reads (Err (write_end fail)) (λ e. subst IsWriteEnd e (write_ends T fail)) (omega arith);
+      read_cause = still_cause ReadFault was.reads was.reads (Err (write_end fail)) (λ e. subst IsWriteEnd e (write_ends T fail)) refl;
       write_cause = cut_cause was.writes writes fail cause;
-      export_cause = later_cause ExportFault was.exports was.exports (Err (write_end fail)) (λ e. subst IsWriteEnd e (write_ends T fail)) (omega arith);
+      export_cause = still_cause ExportFault was.exports was.exports (Err (write_end fail)) (λ e. subst IsWriteEnd e (write_ends T fail)) refl;
       fits = fits;
       written = none_put was.puts st.written.files;
     })

@@ -19,8 +19,8 @@ pub record Counts : Type 0 where
 abbrev pub counts : Option InputFiles → ℕ → ℕ → ℕ → Option (List Export) → Counts
 counts content reads writes exports puts = record { content = content; reads = reads; writes = writes; exports = exports; puts = puts }
 
--- the files are the same; a device's fault is answered only where its count has risen; what is kept fits together, and written files are
--- those before with the files put since
+-- the files are the same; a device's fault is answered exactly where its count has risen, and with any other answer the count is as it
+-- was; what is kept fits together, and written files are those before with the files put since
 pub record Keeps {T : Type 0} (old new : State) (was now : Counts) (result : Result T End) : Type 0 where
   pub same : now.content ≡ was.content
   pub read_cause : Cause ReadFault was.reads now.reads result

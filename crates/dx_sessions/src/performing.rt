@@ -28,7 +28,8 @@ use std::alloc::Global;
 ///
 /// # Errors
 ///
-/// `ReadFault`, `WriteFault`, `ExportFault`: only where that device's count of faults rose. `Memory`: want of memory.
+/// `ReadFault`, `WriteFault`, `ExportFault`: only where that device's count of faults rose, which stays with any other answer.
+/// `Memory`: want of memory.
 pub fn perform<F: Files, X: Exports, O: Sink, L: Library>(
     alloc: Global,
     statements: Stmts,

@@ -37,7 +37,8 @@ impl Session {
     ///
     /// # Errors
     ///
-    /// `ReadFault`, `WriteFault`, `ExportFault`: only where that device's count of faults rose. `Memory`: want of memory.
+    /// `ReadFault`, `WriteFault`, `ExportFault`: only where that device's count of faults rose, which stays with any other answer.
+    /// `Memory`: want of memory.
     /// Executions before the one that was cut short are whole. The session can go on: macros, definitions and the sequence call are
     /// those before the statement, the sequencer stands behind the step that led to that execution, the links are those before it, and
     /// the files that were put by then are written files. Where that execution was made, and the write of what is told behind it was cut

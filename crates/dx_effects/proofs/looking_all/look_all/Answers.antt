@@ -1,6 +1,7 @@
 use Rattle.std.proofs.Common.{◌∙◌, ◌≤◌, ◌+◌, [], ◌∷◌, length, length-append, drop, refl, sym, ap, subst, arith}
 use Rattle.std.specs.Prelude.{Ok, Err}
 use Rattle.std.proofs.lemmas.Result.{err_from_is_err_and}
+use Rattle.dx_io.proofs.Faults.{well}
 use Rattle.dx_tags.proofs.Growth.{goes_on_same, goes_on_then}
 use Rattle.dx_getting.specs.Told.{told}
 use Rattle.dx_demand.specs.Terms.{AreArguments}
@@ -24,7 +25,7 @@ use Rattle.dx_effects.proofs.looking_all.look_all.Goals as goal
 pub loop-i-init : goal.loop-i-init
 loop-i-init g c = record {
   same = refl;
-  faults = omega arith;
+  faults = refl;
   budget = refl;
   looking = c.requires.looking;
   goes_on = goes_on_same c.args.at.now.tags;
@@ -142,13 +143,11 @@ returns-in-Refused-clause-looks g c =
 
 pub loop-i-preserved : goal.loop-i-preserved
 loop-i-preserved g c =
-    let later = c.look.ensures.cause.later in
-    let before = c.loop-i.invariant.faults in
     let on = c.in_ok-t.ensures.goes_on in
     let fits = subst (LookedFits c.args.setup.now c.look.new.at) c.in-Value.is c.in_ok-t.ensures.fits in
     record {
       same = c.look.ensures.same ∙ c.loop-i.invariant.same;
-      faults = omega (arith, later, before);
+      faults = well c.in_ok-t.ensures.cause ∙ c.loop-i.invariant.faults;
       budget = c.look.ensures.budget ∙ c.loop-i.invariant.budget;
       looking = c.in_ok-t.ensures.looking;
       goes_on = goes_on_then c.args.at.now.tags c.loop-i.at.tags c.look.new.at.tags c.loop-i.invariant.goes_on on;

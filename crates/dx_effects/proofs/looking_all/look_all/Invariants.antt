@@ -1,4 +1,4 @@
-use Rattle.std.proofs.Common.{◌≡◌, ◌≤◌, drop, length}
+use Rattle.std.proofs.Common.{◌≡◌, drop, length}
 use Rattle.dx_tags.specs.Closed.{GoesOn}
 use Rattle.dx_getting.specs.Told.{told}
 use Rattle.dx_demand.specs.Terms.{AreArguments}
@@ -14,7 +14,7 @@ use Rattle.dx_effects.proofs.looking_all.look_all.Given as goal
 abbrev pub invariant-loop-i : goal.invariant-loop-i
 invariant-loop-i g l = record {
   same : g.F.Files.content l.files ≡ g.F.Files.content l.fn.files;
-  faults : g.F.Files.faults l.fn.files ≤ g.F.Files.faults l.files;
+  faults : g.F.Files.faults l.files ≡ g.F.Files.faults l.fn.files;
   budget : l.at.work.cache.budget ≡ l.fn.at.work.cache.budget;
   looking : IsLooking l.setup l.at;
   goes_on : GoesOn l.fn.at.tags l.at.tags;

@@ -12,5 +12,5 @@ invariant-loop-put g l = record {
   len : into_iter_len l.put-iterator ≡ length (into_iter_items l.put-iterator);
   room : length (into_iter_items l.put-iterator) ≤ l.written.room;
   so_far : ArePutSoFar (g.X.Exports.puts l.fn.exports) (g.X.Exports.puts l.exports) l.fn.written.files l.written.files (exports_of l.fn.puts.items) (exports_of (into_iter_items l.put-iterator));
-  faults : g.X.Exports.faults l.fn.exports ≤ g.X.Exports.faults l.exports;
+  faults : g.X.Exports.faults l.exports ≡ g.X.Exports.faults l.fn.exports;
 }

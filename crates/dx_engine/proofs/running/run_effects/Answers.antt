@@ -1,4 +1,4 @@
-use Rattle.std.proofs.Common.{◌<◌, ◌≤◌, ◌+◌, ◌∙◌, arith, sym, ap, subst, refl, length, get_or}
+use Rattle.std.proofs.Common.{◌<◌, ◌≤◌, ◌+◌, ◌∙◌, sym, ap, subst, refl, length, get_or}
 use Rattle.dx_graph.specs.GraphView.{graph_of}
 use Rattle.dx_graph.specs.Unfolding.{unfolded}
 use Rattle.dx_tags.proofs.Growth.{goes_on_same, goes_on_then}
@@ -6,6 +6,7 @@ use Rattle.dx_getting.specs.Told.{told}
 use Rattle.dx_looking.specs.Setting.{fixed}
 use Rattle.dx_engine.specs.Gathering.{Gathering, gathers}
 use Rattle.dx_engine.specs.Running.{ChangesFit}
+use Rattle.dx_engine.proofs.Faulted.{none_failed}
 use Rattle.dx_engine.proofs.Coursing.{OnCourse, IsDone, begun, cut_there, cut_printing, goes_on, done_so, ends_there}
 use Rattle.dx_engine.proofs.NextEffect.{effect_node, rest_from, next_effect, no_effect, changes_more, no_error_yet, gathered_fits, runs_cut, are_run, PerformsHere}
 use Rattle.dx_effects.proofs.NextInput.{by_budget}
@@ -14,8 +15,8 @@ use Rattle.dx_engine.proofs.running.run_effects.Goals as goal
 pub loop-n-init : goal.loop-n-init
 loop-n-init g c = record {
   same = refl;
-  reads = omega arith;
-  writes = omega arith;
+  reads = refl;
+  writes = refl;
   budget = refl;
   looking = c.requires.looking;
   goes_on = goes_on_same c.args.at.now.tags;
@@ -125,14 +126,10 @@ returns-clause-runs g c = λ map ec k right base s f st.
 
 pub loop-n-preserved : goal.loop-n-preserved
 loop-n-preserved g c =
-    let reads = c.loop-n.invariant.reads in
-    let reads' = c.perform.ensures.cause.later in
-    let writes = c.loop-n.invariant.writes in
-    let writes' = c.take.ensures.cause.later in
     record {
       same = c.perform.ensures.same ∙ c.loop-n.invariant.same;
-      reads = omega (arith, reads, reads');
-      writes = omega (arith, writes, writes');
+      reads = none_failed _ _ _ c.perform.result c.in_ok-done.done c.in_ok-done.was c.perform.ensures.cause ∙ c.loop-n.invariant.reads;
+      writes = none_failed _ _ _ c.take.result c.in-Ok.ends c.in-Ok.is c.take.ensures.cause ∙ c.loop-n.invariant.writes;
       budget = c.perform.ensures.budget ∙ c.loop-n.invariant.budget;
       looking = c.in_ok-done.ensures.looking;
       goes_on = goes_on_then c.args.at.now.tags c.loop-n.at.tags c.perform.new.at.tags c.loop-n.invariant.goes_on c.in_ok-done.ensures.goes_on;

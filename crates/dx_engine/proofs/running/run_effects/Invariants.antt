@@ -1,4 +1,4 @@
-use Rattle.std.proofs.Common.{◌≡◌, ◌≤◌, None, drop, map}
+use Rattle.std.proofs.Common.{◌≡◌, None, drop, map}
 use Rattle.dx_graph.specs.GraphView.{graph_of}
 use Rattle.dx_graph.specs.Unfolding.{unfolded, calls_of, call_at}
 use Rattle.dx_tags.specs.Closed.{GoesOn}
@@ -13,8 +13,8 @@ use Rattle.dx_engine.proofs.running.run_effects.Given as goal
 abbrev pub invariant-loop-n : goal.invariant-loop-n
 invariant-loop-n g l = record {
   same : g.F.Files.content l.files ≡ g.F.Files.content l.fn.files;
-  reads : g.F.Files.faults l.fn.files ≤ g.F.Files.faults l.files;
-  writes : g.O.Sink.faults l.fn.out ≤ g.O.Sink.faults l.out;
+  reads : g.F.Files.faults l.files ≡ g.F.Files.faults l.fn.files;
+  writes : g.O.Sink.faults l.out ≡ g.O.Sink.faults l.fn.out;
   budget : l.at.work.cache.budget ≡ l.fn.at.work.cache.budget;
   looking : IsLooking l.setup l.at;
   goes_on : GoesOn l.fn.at.tags l.at.tags;

@@ -66,11 +66,9 @@ returns-in_err-push-clause-gets g c =
 pub loop-arg-preserved : goal.loop-arg-preserved
 loop-arg-preserved g c =
     let at : slice_get c.args.args.now c.loop-arg.arg-index ≡ Some (get_or c.args.args.now c.loop-arg.arg-index (record { tag = 0; result = 0 })) = slice_get-get_or c.args.args.now c.loop-arg.arg-index (record { tag = 0; result = 0 }) c.loop-arg-test.true in
-    let later = c.get_value.ensures.cause.later in
-    let before = c.loop-arg.invariant.faults in
     record {
       same = c.get_value.ensures.same ∙ c.loop-arg.invariant.same;
-      faults = omega (arith, later, before);
+      faults = c.in_ok-value.ensures.cause.otherwise (λ e. absurd cc) ∙ c.loop-arg.invariant.faults;
       budget = c.get_value.ensures.budget ∙ c.loop-arg.invariant.budget;
       calls = λ h. c.get_value.ensures.calls (c.loop-arg.invariant.calls h);
       count = ap length c.in_ok-push.ensures.ok ∙ length-append c.loop-arg.values _ ∙ ap (λ n. n + 1) c.loop-arg.invariant.count;

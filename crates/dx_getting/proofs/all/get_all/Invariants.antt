@@ -1,4 +1,4 @@
-use Rattle.std.proofs.Common.{◌≡◌, ◌≤◌, ℕ, length, take, Option, Some, None, List}
+use Rattle.std.proofs.Common.{◌≡◌, ℕ, length, take, Option, Some, None, List}
 use Rattle.std.specs.Prelude.{Ok}
 use Rattle.dx_tags.specs.Closed.{heads_of, value_terms}
 use Rattle.dx_links.specs.Denotes.{all_denote}
@@ -12,7 +12,7 @@ use Rattle.dx_getting.proofs.all.get_all.Given as goal
 abbrev pub invariant-loop-arg : goal.invariant-loop-arg
 invariant-loop-arg g l = record {
   same : g.F.Files.content l.files ≡ g.F.Files.content l.fn.files;
-  faults : g.F.Files.faults l.fn.files ≤ g.F.Files.faults l.files;
+  faults : g.F.Files.faults l.files ≡ g.F.Files.faults l.fn.files;
   budget : l.work.cache.budget ≡ l.fn.work.cache.budget;
   calls : AreCalls l.scene.tags.now l.fn.work.cache.entries → AreCalls l.scene.tags.now l.work.cache.entries;
   count : length l.values ≡ l.arg-index;

@@ -1,4 +1,4 @@
-use Rattle.std.proofs.Common.{◌≡◌, ◌∙◌, ◌<◌, ◌≤◌, ◌+◌, ℕ, List, [], ◌∷◌, ◌++◌, length, sym, ap, ap₂, subst, Option, Some, None, refl, arith, is_some, true, false}
+use Rattle.std.proofs.Common.{◌≡◌, ◌∙◌, ◌<◌, ◌≤◌, ◌+◌, ℕ, List, [], ◌∷◌, ◌++◌, length, sym, ap, ap₂, subst, Option, Some, None, refl, is_some, true, false}
 use Rattle.std.specs.Prelude.{slice_get, nat_eq, Ok, Err, Result}
 use Rattle.std.proofs.lemmas.Result.{err_from_is_err_and}
 use Rattle.dx_objects.specs.Values.{value_of}
@@ -17,7 +17,7 @@ pub stack-init : goal.stack-init
 stack-init g c =
     rw (c.new.ensures, c.new-below.ensures.items) (record {
       same = refl;
-      faults = omega arith;
+      faults = refl;
       budget = refl;
       calls = λ h. h;
       stack = (open_of (setting_of c.args.scene.now (g.S.Sites.formed c.args.sites.now)) c.args.t c.requires.may (slice_get c.args.scene.now.tags.now c.args.t.tag) refl, tt);
@@ -45,11 +45,9 @@ returns-then-branch-clause-gets g c =
 pub stack-preserved : goal.stack-preserved
 stack-preserved g c =
     let sp : IsStepped (setting_of c.args.scene.now (g.S.Sites.formed c.args.sites.now)) c.step.new.work (left_of c.args.scene.now.tags.now c.stack.below.items c.stack.top) (lowest c.stack.below.items c.stack.top) c.step.new.below.items c.step.new.top = rw c.if-branch.false at c.in_ok-step.ensures.stepped in
-    let later = c.step.ensures.cause.later in
-    let before = c.stack.invariant.faults in
     record {
       same = c.step.ensures.same ∙ c.stack.invariant.same;
-      faults = omega (arith, later, before);
+      faults = c.in_ok-step.ensures.cause.otherwise (λ e. absurd cc) ∙ c.stack.invariant.faults;
       budget = c.step.ensures.budget ∙ c.stack.invariant.budget;
       calls = λ h. c.step.ensures.calls (c.stack.invariant.calls h);
       stack = sp.stack;

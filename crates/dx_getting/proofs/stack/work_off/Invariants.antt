@@ -1,4 +1,4 @@
-use Rattle.std.proofs.Common.{◌≡◌, ◌<◌, ◌≤◌, ℕ, Option, Some, None, List}
+use Rattle.std.proofs.Common.{◌≡◌, ◌<◌, ℕ, Option, Some, None, List}
 use Rattle.std.specs.Prelude.{slice_get}
 use Rattle.dx_tags.specs.Closed.{heads_of}
 use Rattle.dx_machine.specs.Machine.{State}
@@ -12,7 +12,7 @@ use Rattle.dx_getting.proofs.stack.work_off.Given as goal
 abbrev pub invariant-stack : goal.invariant-stack
 invariant-stack g l = record {
   same : g.F.Files.content l.files ≡ g.F.Files.content l.fn.files;
-  faults : g.F.Files.faults l.fn.files ≤ g.F.Files.faults l.files;
+  faults : g.F.Files.faults l.files ≡ g.F.Files.faults l.fn.files;
   budget : l.work.cache.budget ≡ l.fn.work.cache.budget;
   calls : AreCalls l.scene.tags.now l.fn.work.cache.entries → AreCalls l.scene.tags.now l.work.cache.entries;
   stack : IsStack (setting_of l.scene (g.S.Sites.formed l.sites)) l.below.items l.top;

@@ -65,7 +65,7 @@ splice-each-preserved-in-Continue-1 g t c =
       lawful = one.lawful;
       lawful_rest = lawful_tail (into_iter_items at.statement-iterator) c.in-Some.statement (into_iter_items c.next.new.self) steps at.invariant.lawful_rest;
       same = one.same ∙ at.invariant.same;
-      later = omega (arith, at.invariant.later, one.cause.later);
+      faults = one.cause.otherwise (λ e. absurd cc) ∙ at.invariant.faults;
       so_far = λ map told.
           let adds = one.adds map (at.invariant.same ∙ told) in
           goes_on_include (load_within c.args.levels map) (splice (load_within c.args.levels map) c.args.statements c.args.loaded.now) (into_iter_items at.statement-iterator) (into_iter_items c.next.new.self) c.in-Include.name at.loaded c.load_file.new.loaded _ _ _
@@ -94,7 +94,7 @@ splice-each-preserved g t c =
       lawful = rw c.in_ok-push-in_default.ensures.ok (lawful_push at.loaded.statements c.in-Some.statement at.invariant.lawful (lawful_head (into_iter_items at.statement-iterator) c.in-Some.statement (into_iter_items c.next.new.self) steps at.invariant.lawful_rest));
       lawful_rest = lawful_tail (into_iter_items at.statement-iterator) c.in-Some.statement (into_iter_items c.next.new.self) steps at.invariant.lawful_rest;
       same = at.invariant.same;
-      later = at.invariant.later;
+      faults = at.invariant.faults;
       so_far = λ map told.
           goes_on_other (load_within c.args.levels map) (splice (load_within c.args.levels map) c.args.statements c.args.loaded.now) (into_iter_items at.statement-iterator) (into_iter_items c.next.new.self) c.in-Some.statement at.loaded _ _ _
           steps c.in_default.not-Include (ap (λ (statements : List Stmt). record { statements = statements; bytes = at.loaded.bytes }) c.in_ok-push-in_default.ensures.ok) (at.invariant.so_far map told);

@@ -22,7 +22,7 @@ invariant-splice-each g l = record {
   lawful : AreLawful (plain_stmts l.loaded.statements);
   lawful_rest : AreLawful (plain_stmts (into_iter_items l.statement-iterator));
   same : g.F.Files.content l.files ≡ g.F.Files.content l.initial.files;
-  later : g.F.Files.faults l.initial.files ≤ g.F.Files.faults l.files;
+  faults : g.F.Files.faults l.files ≡ g.F.Files.faults l.initial.files;
   so_far : (map : FileMap) → g.F.Files.content l.initial.files ≡ Some map
       → SoFar (load_within l.levels map) (splice (load_within l.levels map) l.fn.statements l.initial.loaded) (into_iter_items l.statement-iterator) l.loaded (g.F.Files.asked l.initial.files) (g.F.Files.asked l.files);
 }

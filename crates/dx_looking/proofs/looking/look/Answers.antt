@@ -1,4 +1,4 @@
-use Rattle.std.proofs.Common.{refl, ◌≡◌, ◌<◌, ◌∙◌, sym, ap, subst, arith, length}
+use Rattle.std.proofs.Common.{refl, ◌≡◌, ◌<◌, ◌∙◌, sym, ap, subst, length}
 use Rattle.std.specs.Prelude.{Ok}
 use Rattle.std.specs.Map.{lookup}
 use Rattle.std.specs.Result.{IsErr}
@@ -175,7 +175,7 @@ look-preserved g c = record {
   first = subst (λ (y : Seen). Kept (formed_of c.args.at.now.seen.memo) (formed_of y.memo)) (sym c.in_ok-refusal-in-Need.ensures.seen) (λ t n e. c.in_ok-resolved.ensures.first t n (c.look.invariant.first t n e));
   budget = c.in_ok-refusal-in-Need.ensures.budget ∙ ap (λ y. y.cache.budget) c.in_ok-resolved.ensures.work ∙ c.look.invariant.budget;
   same = c.in_ok-refusal-in-Need.ensures.same ∙ c.look.invariant.same;
-  later = (let a = c.look.invariant.later in let b = c.in_ok-refusal-in-Need.ensures.cause.later in omega (arith, a, b));
+  faults = c.in_ok-refusal-in-Need.ensures.cause.otherwise (λ e. absurd cc) ∙ c.look.invariant.faults;
   way = λ map ec k right base s f st.
       let setup = c.args.setup.now in
       let at1 = c.resolve_told.new.at in

@@ -1,4 +1,4 @@
-use Rattle.std.proofs.Common.{◌≡◌, ◌≤◌, length}
+use Rattle.std.proofs.Common.{◌≡◌, length}
 use Rattle.dx_tags.specs.Closed.{GoesOn}
 use Rattle.dx_getting.specs.Told.{told}
 use Rattle.dx_demand.specs.Memo.{KeepsAnswers, answers_of, formed_of}
@@ -21,6 +21,6 @@ invariant-look g l = record {
   first : Kept (formed_of l.fn.at.seen.memo) (formed_of l.at.seen.memo);
   budget : l.at.work.cache.budget ≡ l.fn.at.work.cache.budget;
   same : g.F.Files.content l.files ≡ g.F.Files.content l.fn.files;
-  later : g.F.Files.faults l.fn.files ≤ g.F.Files.faults l.files;
+  faults : g.F.Files.faults l.files ≡ g.F.Files.faults l.fn.files;
   way : FromHere l.setup g.L.Library.answer (g.F.Files.content l.fn.files) l.fn.at (told (g.L.Library.done l.fn.lib) (g.F.Files.asked l.fn.files)) (λ x k base s f. OnTheWay l.setup x k base (input_tree l.setup l.i) s f l.at (told (g.L.Library.done l.lib) (g.F.Files.asked l.files)));
 }

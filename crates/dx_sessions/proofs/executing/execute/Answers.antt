@@ -49,7 +49,7 @@ returns-in-Ok-clause-executes g c = λ x answers files sound.
 pub returns-clause-keeps : goal.returns-clause-keeps
 returns-clause-keeps g c =
     let made = c.in-Err.ensures in
-    keeps_as c.args.state.now c.make.new.state _ _ (Err c.in-Err.end) (Err c.in-Err.end) (λ fault e. same_end (Option Failing) Ended c.in-Err.end fault e)
+    keeps_as c.args.state.now c.make.new.state _ _ (Err c.in-Err.end) (Err c.in-Err.end) (λ fault e. same_end (Option Failing) Ended c.in-Err.end fault e) (λ fault e. same_end Ended (Option Failing) c.in-Err.end fault e)
     (keeps_of c.args.state.now c.make.new.state _ _ (Err c.in-Err.end) made.same made.read_cause made.write_cause made.export_cause made.fits made.written)
 
 pub returns-in-Ok-tell_behind-clause-keeps : goal.returns-in-Ok-tell_behind-clause-keeps

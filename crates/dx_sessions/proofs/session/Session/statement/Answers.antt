@@ -20,7 +20,7 @@ use Rattle.dx_making.specs.declared.end.End.TheVariants.{ReadFault, WriteFault, 
 use Rattle.dx_sessions.specs.Keeping.{counts}
 use Rattle.dx_sessions.specs.Left.{LeavesSequencer}
 use Rattle.dx_sessions.proofs.Doing.{call_does, defining_cut, defining_stays, silently_done, statement_does}
-use Rattle.dx_sessions.proofs.Keeping.{keeps_erred, keeps_same, keeps_still, line_cut, memory_cause, no_cause, ok_cause}
+use Rattle.dx_sessions.proofs.Keeping.{keeps_erred, keeps_same, keeps_still, line_cut, memory_cause, no_cause, written_cause}
 use Rattle.dx_sessions.proofs.Staying.{on_err_with, stays_by_others, stays_same}
 use Rattle.dx_sessions.proofs.Refusing.{set_cut_from}
 use Rattle.dx_sessions.proofs.Statements.{assign_is, call_is, macro_is, setting_is, word_is, sequence_is}
@@ -155,7 +155,7 @@ pub returns-in-Ok-clause-read_cause : goal.returns-in-Ok-clause-read_cause
 returns-in-Ok-clause-read_cause g c = no_cause ReadFault (g.F.Files.faults c.args.files.now) c.in-Ok.refused
 
 pub returns-in-Ok-clause-write_cause : goal.returns-in-Ok-clause-write_cause
-returns-in-Ok-clause-write_cause g c = ok_cause WriteFault (g.O.Sink.faults c.args.out.now) (g.O.Sink.faults c.set.new.out) c.in-Ok.refused c.in-Ok.ensures.cause.later
+returns-in-Ok-clause-write_cause g c = written_cause (g.O.Sink.faults c.args.out.now) (g.O.Sink.faults c.set.new.out) c.in-Ok.refused c.in-Ok.refused c.in-Ok.ensures.cause
 
 pub returns-in-Ok-clause-export_cause : goal.returns-in-Ok-clause-export_cause
 returns-in-Ok-clause-export_cause g c = no_cause ExportFault (g.X.Exports.faults c.args.exports.now) c.in-Ok.refused
