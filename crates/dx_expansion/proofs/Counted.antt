@@ -16,8 +16,8 @@ use Rattle.dx_macros.specs.Walk.{walk_by, walk_of, read_in, definitions_read, fa
 use Rattle.dx_macros.specs.declared.dictionary.Dictionary.{Dictionary as CodeDictionary}
 use Rattle.dx_macros.proofs.BudgetLaw.{goes_of}
 use Rattle.dx_expansion.specs.Driving.{SameWorld}
-use Rattle.dx_expansion.specs.Expanding.{dictionary_in}
-use Rattle.dx_expansion.specs.declared.text.World.{World}
+use Rattle.dx_texts.specs.Expanding.{dictionary_in}
+use Rattle.dx_texts.specs.declared.text.World.{World}
 use Rattle.dx_expansion.proofs.Marked.{ArePositionsOf, marked_at, flag_is, next_below}
 
 -- the calls of the marked definitions before a position

@@ -25,18 +25,18 @@ use Rattle.dx_macros.specs.Expansion.{Scope, only, Expanded, top_spot, scope_wit
 use Rattle.dx_macros.specs.declared.dictionary.Dictionary.{Dictionary}
 use Rattle.dx_graph.specs.Graph as plain
 use Rattle.dx_graph.specs.Graph.{Node}
-use Rattle.dx_graph.specs.Unfolding.{call_at, calls_of, unfolded}
+use Rattle.dx_graph.specs.Unfolding.{unfolded}
 use Rattle.dx_graph.specs.GraphView.{graph_of}
 use Rattle.dx_graph.specs.Operands.{Means, Gives, meaning, scope_with}
-use Rattle.dx_expansion.specs.Expanding.{Setting, Expands, Remembers, Starts, expr_in, dictionary_in, top_scope, top_results}
+use Rattle.dx_texts.specs.Expanding.{Setting, Expands, Remembers, Starts, expr_in, dictionary_in, top_scope, top_results}
 use Rattle.dx_expansion.specs.Driving.{top_setting, top_expanded, effects_in, SameWorld, Rests}
-use Rattle.dx_expansion.specs.Marks.{Memo}
+use Rattle.dx_texts.specs.Marks.{Memo}
 use Rattle.dx_graph.specs.declared.graph.Graph.{Graph}
 use Rattle.dx_graph.specs.declared.operand.Operand.{Operand}
 use Rattle.dx_graph.specs.declared.operand.Results.{Results}
 use Rattle.dx_graph.specs.declared.operand.Results.TheVariants as results
-use Rattle.dx_expansion.specs.declared.text.World.{World}
-use Rattle.dx_expansion.proofs.Standing.{remembers_later}
+use Rattle.dx_texts.specs.declared.text.World.{World}
+use Rattle.dx_texts.proofs.Standing.{remembers_later}
 
 -- ---- a text without own names
 
@@ -165,9 +165,6 @@ last_effects w v position t same here =
     ∙ ap₂ (λ (d : Dictionary) (f : Frames). effects_at t d f position) same.dictionary same.frames
     ∙ ap (effects_at t w.dictionary.now w.frames) here
     ∙ plain_at t w.dictionary.now w.frames
-
-pub no_effects : (g : plain.Graph) → g.effects ≡ [] → unfolded g ≡ []
-no_effects g e = ap (map (call_at (calls_of g.nodes))) e
 
 -- ---- where nothing is expanded yet
 

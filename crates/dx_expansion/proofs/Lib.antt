@@ -1,15 +1,3 @@
-pub mod Named
-pub mod Scopes
-pub mod TopLevel
-pub mod Marks
-pub mod Parts
-pub mod Standing
-pub mod Spots
-pub mod Adding
-pub mod LawfulParts
-pub mod Expansions
-pub mod Measures
-pub mod Numbering
 pub mod Driving
 pub mod Marked
 pub mod Counted

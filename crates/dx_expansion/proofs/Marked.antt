@@ -17,14 +17,14 @@ use Rattle.dx_macros.specs.Dictionary.{top_text}
 use Rattle.dx_definitions.specs.TopTexts.{TopText, definition}
 use Rattle.dx_macros.specs.Walk.{Goes, walk_text, walk_of, walk_by, walk_begins, reader_at, reader_of, read_in, definitions_read, fault_of_text, first_fault}
 use Rattle.dx_macros.proofs.BudgetLaw.{goes_of, none_marked}
-use Rattle.dx_expansion.proofs.Marks.{text_marks, reader_marks}
+use Rattle.dx_texts.proofs.Marks.{text_marks, reader_marks}
 use Rattle.dx_macros.specs.DictionaryView.{dictionary_of}
 use Rattle.dx_base.specs.Places.{Marks, flags}
-use Rattle.dx_expansion.specs.Driving.{SameWorld, Learned}
-use Rattle.dx_expansion.specs.Expanding.{dictionary_in}
-use Rattle.dx_expansion.specs.Marks.{Memo, Grown, IsWalked, WalkedWithin, top_reader, TopWalked, AreWalked, HaveResults, definition_walk}
+use Rattle.dx_expansion.specs.Driving.{AreWalked, HaveResults, SameWorld, Learned}
+use Rattle.dx_texts.specs.Expanding.{dictionary_in}
+use Rattle.dx_texts.specs.Marks.{Memo, Grown, IsWalked, WalkedWithin, top_reader, TopWalked, definition_walk}
 use Rattle.dx_graph.specs.declared.operand.Results.{Results}
-use Rattle.dx_expansion.specs.declared.text.World.{World}
+use Rattle.dx_texts.specs.declared.text.World.{World}
 
 -- ---- the places of a list
 

@@ -13,10 +13,10 @@ use Rattle.dx_macros.specs.Dictionary.{Macros, callee}
 use Rattle.dx_macros.specs.Expansion.{is_effect, effects_among, top_spot}
 use Rattle.dx_definitions.specs.TopTexts.{TopText}
 use Rattle.dx_signatures.specs.Callees.{Unknown, CallsMacro, CallsFunction}
-use Rattle.dx_expansion.specs.Expanding.{dictionary_in, top_scope}
+use Rattle.dx_texts.specs.Expanding.{dictionary_in, top_scope}
 use Rattle.dx_expansion.specs.Driving.{effects_in}
 use Rattle.dx_expansion.specs.Silence.{IsSilentExpr, IsSilentCall, AreSilentArgs, IsSilentCallee, IsSilentStatement, IsSilentBody}
-use Rattle.dx_expansion.specs.declared.text.World.{World}
+use Rattle.dx_texts.specs.declared.text.World.{World}
 
 module _ (macros : Macros) (left : ℕ) where
   -- ---- calls

@@ -1,16 +1,17 @@
 -- The texts of the top level, and what an expansion remembers of them.
-use Rattle.std.specs.Prelude.{◌≡◌, ℕ, List, [], Option, Some, None, length, slice_set}
+use Rattle.std.specs.Prelude.{◌≡◌, ℕ, List, [], Option, Some, None, Bool, true, false, is_some, length, slice_index_or, slice_set}
 use Rattle.dx_ast.specs.Limits.{max_macro_steps}
 use Rattle.dx_macros.specs.Site.{Spot}
 use Rattle.dx_macros.specs.Tree.{CallTree}
 use Rattle.dx_definitions.specs.TopTexts.{TopText}
+use Rattle.dx_macros.specs.Walk.{Walk}
 use Rattle.dx_macros.specs.Expansion.{Expanded, under_top, expand_within, effects_among}
 use Rattle.dx_graph.specs.GraphView.{graph_of}
-use Rattle.dx_expansion.specs.Expanding.{Setting, Remembers, dictionary_in, top_scope}
-use Rattle.dx_expansion.specs.Marks.{Memo}
+use Rattle.dx_texts.specs.Expanding.{Setting, Remembers, dictionary_in, top_scope}
+use Rattle.dx_texts.specs.Marks.{Memo, IsMarked, WalkedWithin}
 use Rattle.dx_graph.specs.declared.graph.Graph.{Graph}
 use Rattle.dx_graph.specs.declared.operand.Results.{Results}
-use Rattle.dx_expansion.specs.declared.text.World.{World}
+use Rattle.dx_texts.specs.declared.text.World.{World}
 
 -- ---- a text of the top level
 
@@ -24,6 +25,19 @@ top_expanded w position t = expand_within max_macro_steps (dictionary_in w).macr
 abbrev pub effects_in : Option TopText → World → ℕ → List CallTree
 effects_in None w position = []
 effects_in (Some t) w position = effects_among (top_expanded w position t).kept
+
+-- ---- the definitions that are read
+
+-- the marks of a walk: each definition that has one was walked
+pub record AreWalked (w : World) (marks : List Bool) : Type 0 where
+  pub walk : Walk
+  pub is : walk.read ≡ marks
+  pub count : length marks ≡ length (dictionary_in w).definitions
+  pub all : (i : ℕ) → IsMarked walk i → WalkedWithin (dictionary_in w).macros (dictionary_in w).definitions walk i
+
+-- each definition with a mark has its results
+abbrev pub HaveResults : Memo → List Bool → Type 0
+HaveResults memo marks = (i : ℕ) → slice_index_or marks i false ≡ true → is_some (slice_index_or memo i None) ≡ true
 
 -- ---- what is remembered
 

@@ -1,5 +1,2 @@
-pub mod Expanding
-pub mod Marks
 pub mod Driving
 pub mod Silence
-pub mod Numbering

@@ -16,21 +16,20 @@ ghost use Rattle.dx_graph.specs.Trails.{IsTrail, spot_under};
 ghost use Rattle.dx_graph.specs.Graph.{no_nodes};
 ghost use Rattle.dx_graph.specs.Unfolding.{unfolded};
 ghost use Rattle.dx_graph.specs.GraphView.{graph_of, spots_in};
-ghost use Rattle.dx_expansion.specs.Expanding.{Remembers, Ready, Grows, Expands, setting, dictionary_in, top_results};
+ghost use Rattle.dx_texts.specs.Expanding.{Remembers, Ready, Grows, Expands, setting, dictionary_in, top_results};
 ghost use Rattle.dx_graph.specs.Operands.{Gives};
-ghost use Rattle.dx_expansion.specs.Driving.{top_setting, top_expanded, effects_in, SameWorld, Rests, Learned};
-ghost use Rattle.dx_expansion.specs.Numbering.{HasNumbers, Adds, expr_calls};
+ghost use Rattle.dx_expansion.specs.Driving.{top_setting, top_expanded, effects_in, AreWalked, HaveResults, SameWorld, Rests, Learned};
+ghost use Rattle.dx_texts.specs.Numbering.{HasNumbers, Adds, expr_calls};
 ghost use Rattle.dx_counting.specs.Counting.{count_text, count_in, count_marked};
-ghost use Rattle.dx_expansion.specs.Marks.{ExprWalked, TopWalked, AreWalked, HaveResults};
+ghost use Rattle.dx_texts.specs.Marks.{ExprWalked, TopWalked};
 ghost use Rattle.dx_graph.specs.declared.graph.Graph.{Graph};
 
-use crate::expansion::{expand_call, expand_expr};
 use crate::silent::is_silent;
-use crate::text::{Text, World, top_meaning};
 use dx_ast::{Assign, Call, Expr, Frames, Stmt};
 use dx_base::{Bytes, Names, Sparse};
 use dx_graph::{Graph, Results};
 use dx_macros::{CheckFail, Dictionary, MAX_STEPS};
+use dx_texts::{Text, World, expand_call, expand_expr, top_meaning};
 use indexmap::IndexMap;
 use std::alloc::{AllocError, Global};
 

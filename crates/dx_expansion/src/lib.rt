@@ -2,10 +2,6 @@
 #![tactic(auto)]
 
 mod driver;
-mod expansion;
-mod own;
 mod silent;
-mod text;
 
 pub use driver::{check_and_expand, expand, expand_silent};
-pub use expansion::call_function;

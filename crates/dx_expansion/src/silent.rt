@@ -5,13 +5,13 @@ ghost use Rattle.dx_ast.specs.Plain.{plain_expr, plain_call, plain_args, plain_s
 ghost use Rattle.dx_macros.specs.Dictionary.{top_text, callee};
 ghost use Rattle.dx_macros.specs.Expansion.{is_effect};
 ghost use Rattle.dx_expansion.specs.Driving.{effects_in};
-ghost use Rattle.dx_expansion.specs.Expanding.{dictionary_in};
+ghost use Rattle.dx_texts.specs.Expanding.{dictionary_in};
 ghost use Rattle.dx_expansion.specs.Silence.{IsSilentExpr, IsSilentCall, AreSilentArgs, IsSilentCallee, IsSilentStatement, IsSilentBody};
 
-use crate::text::World;
 use dx_ast::{Arg, Call, Expr, Stmt};
 use dx_base::Function;
 use dx_macros::{Callee, MAX_STEPS, called};
+use dx_texts::World;
 
 fn is_effect(f: Function) -> bool
     ensures { result ≡ is_effect f }

@@ -25,10 +25,10 @@ use Rattle.dx_macros.specs.Tree.{Tree, CallTree, ConstantTree}
 use Rattle.dx_macros.specs.Walk.{Walk, Walked, Goes, and_then, walked_by, Reader, WalkUnder, pick, walk_expr, walk_args, walk_text, walk_at_top, enter_callee, read_definition, reader_at, reader_of, walk_begins, walk_of, fault_in}
 use Rattle.dx_signatures.specs.Callees.{Callee, CallsFunction}
 use Rattle.dx_signatures.specs.Faults.{arg_names, fault_of_call}
-use Rattle.dx_expansion.specs.Expanding.{last_target, function_call, function_expanded}
+use Rattle.dx_texts.specs.Expanding.{last_target, function_call, function_expanded}
 use Rattle.dx_flat.specs.Flat.{IsFlat, AreFlat}
-use Rattle.dx_expansion.proofs.Named.{name_called}
-use Rattle.dx_expansion.proofs.Scopes.{not_assigned, assigned_named}
+use Rattle.dx_texts.proofs.Named.{name_called}
+use Rattle.dx_texts.proofs.Scopes.{not_assigned, assigned_named}
 
 -- ---- one target
 

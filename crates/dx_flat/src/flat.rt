@@ -3,7 +3,7 @@ ghost use Rattle.std.specs.Prelude.{◌≡◌, ◌≤◌, [], List, None, Some, 
 ghost use Rattle.dx_ast.specs.Limits.{max_macro_steps};
 ghost use Rattle.dx_ast.specs.Lawful.{IsLawful, IsLawfulExpr, IsLawfulCall, AreLawfulArgs};
 ghost use Rattle.dx_ast.specs.Plain.{plain_expr, plain_call, plain_args, plain_stmt};
-ghost use Rattle.dx_expansion.specs.Expanding.{function_call, function_expanded};
+ghost use Rattle.dx_texts.specs.Expanding.{function_call, function_expanded};
 ghost use Rattle.dx_flat.specs.Flat.{IsFlat, AreFlat};
 ghost use Rattle.dx_graph.specs.Graph.{Node, no_nodes};
 ghost use Rattle.dx_graph.specs.GraphView.{graph_of, spots_in};
@@ -18,10 +18,10 @@ ghost use Rattle.dx_signatures.specs.Faults.{arg_names, fault_of_call};
 
 use dx_ast::{Arg, Call, Expr, Frames, Stmt};
 use dx_base::{Few, Function};
-use dx_expansion::call_function;
 use dx_graph::{Given, Graph, Operand, frame_value};
 use dx_macros::{Callee, Dictionary, MAX_STEPS, called};
 use dx_signatures::fault_of_call;
+use dx_texts::call_function;
 use std::alloc::Global;
 
 /// What an expression comes to that is a constant, a variable of the sequencer, or a name that means a constant.

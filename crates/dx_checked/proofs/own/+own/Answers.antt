@@ -7,8 +7,8 @@ use Rattle.dx_macros.specs.DictionaryView.{dictionary_of}
 use Rattle.dx_signatures.specs.Callees.{Callee}
 use Rattle.dx_signatures.specs.CalleeView.{plain_callee}
 use Rattle.dx_signatures.specs.Faults.{arg_names, fault_of_call}
-use Rattle.dx_expansion.proofs.LawfulParts.{known_macro}
-use Rattle.dx_expansion.proofs.Measures.{in_args, in_body, in_call, expr_call, expr_name}
+use Rattle.dx_texts.proofs.LawfulParts.{known_macro}
+use Rattle.dx_texts.proofs.Measures.{in_args, in_body, in_call, expr_call, expr_name}
 use Rattle.dx_checked.specs.Own.{ExprFits, ArgsFit, CalleeFits, StatementFits, BodyFits}
 use Rattle.dx_checked.proofs.Measures.{in_macro, one_less}
 use Rattle.dx_checked.proofs.Parts as parts

@@ -7,7 +7,8 @@ use Rattle.dx_base.specs.Places.{flags}
 use Rattle.dx_ast.specs.Plain.{plain_stmt}
 use Rattle.dx_macros.specs.Dictionary.{top_text}
 use Rattle.dx_graph.specs.GraphView.{graph_of}
-use Rattle.dx_expansion.proofs.Driving.{first_rests, last_effects, no_effects}
+use Rattle.dx_texts.proofs.Adding.{no_effects}
+use Rattle.dx_expansion.proofs.Driving.{first_rests, last_effects}
 use Rattle.dx_expansion.proofs.Marked.{of_dictionary, reads_of}
 use Rattle.dx_expansion.proofs.driver.check_and_expand.Goals as goal
 

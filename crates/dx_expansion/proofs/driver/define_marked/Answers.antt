@@ -8,7 +8,7 @@ use Rattle.std.proofs.lemmas.Map.Iter.{iter_turn, iter_end}
 use Rattle.dx_expansion.proofs.Driving.{same_on}
 use Rattle.dx_base.specs.Places.{flags}
 use Rattle.dx_graph.specs.GraphView.{graph_of}
-use Rattle.dx_expansion.specs.Expanding.{dictionary_in}
+use Rattle.dx_texts.specs.Expanding.{dictionary_in}
 use Rattle.dx_expansion.proofs.Counted.{AreCounted, next_few, next_counted, all_are_counted, same_calls}
 use Rattle.dx_expansion.proofs.Marked.{AreDone, ArePositionsOf, got, next_below, next_walked, one_done, all_done}
 use Rattle.dx_expansion.proofs.driver.define_marked.Goals as goal

@@ -2,7 +2,7 @@ use Rattle.std.proofs.Common.{length}
 use Rattle.dx_expansion.specs.Driving.{SameWorld, Rests}
 use Rattle.dx_base.specs.Places.{flags}
 use Rattle.dx_graph.specs.GraphView.{graph_of}
-use Rattle.dx_expansion.specs.Expanding.{dictionary_in}
+use Rattle.dx_texts.specs.Expanding.{dictionary_in}
 use Rattle.dx_expansion.proofs.Marked.{AreDone}
 use Rattle.dx_expansion.proofs.Counted.{AreCounted}
 use Rattle.dx_expansion.proofs.driver.define_marked.Given as goal

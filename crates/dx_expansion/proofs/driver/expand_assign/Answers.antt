@@ -2,12 +2,12 @@ use Rattle.std.proofs.Common.{◌∙◌, List, All, length, ap, subst, sym, arit
 use Rattle.dx_ast.specs.Classes.{Text}
 use Rattle.dx_ast.specs.Lawful.{IsName}
 use Rattle.dx_graph.specs.GraphView.{spots_in}
-use Rattle.dx_expansion.proofs.Spots.{top_spot_lawful}
+use Rattle.dx_texts.proofs.Spots.{top_spot_lawful}
 use Rattle.dx_graph.specs.Graph.{Graph}
-use Rattle.dx_expansion.specs.Expanding.{Remembers}
+use Rattle.dx_texts.specs.Expanding.{Remembers}
 use Rattle.dx_definitions.specs.Index.{text_of}
 use Rattle.dx_macros.specs.Expansion.{top_spot}
-use Rattle.dx_expansion.proofs.Standing.{grows_on}
+use Rattle.dx_texts.proofs.Standing.{grows_on}
 use Rattle.dx_graph.proofs.Growing.{if_ok, on_ok}
 use Rattle.dx_expansion.proofs.Driving.{at_top}
 use Rattle.dx_expansion.proofs.driver.expand_assign.Goals as goal

@@ -3,11 +3,11 @@ use Rattle.dx_ast.specs.Syntax as syntax
 use Rattle.dx_ast.specs.Plain.{plain_expr}
 use Rattle.dx_definitions.specs.Index.{text_of}
 use Rattle.dx_graph.specs.GraphView.{graph_of}
-use Rattle.dx_expansion.specs.Marks.{TopWalked}
+use Rattle.dx_texts.specs.Marks.{TopWalked}
 use Rattle.dx_graph.proofs.Growing.{if_ok}
 use Rattle.dx_expansion.proofs.Driving.{value_lawful, names_lawful, defined, renamed}
-use Rattle.dx_expansion.proofs.Measures.{expr_name}
-use Rattle.dx_expansion.proofs.Parts.{top_name}
+use Rattle.dx_texts.proofs.Measures.{expr_name}
+use Rattle.dx_texts.proofs.Parts.{top_name}
 use Rattle.dx_expansion.proofs.driver.expand_definition.Goals as goal
 
 pub expand_assign-requires-clause-lawful : goal.expand_assign-requires-clause-lawful

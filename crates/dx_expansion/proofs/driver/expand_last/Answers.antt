@@ -15,8 +15,8 @@ use Rattle.dx_macros.proofs.Doing.{stmt_call, stmt_assign, no_text}
 use Rattle.dx_graph.specs.GraphView.{graph_of}
 use Rattle.dx_graph.specs.Unfolding.{unfolded}
 use Rattle.dx_expansion.specs.Driving.{effects_in}
-use Rattle.dx_expansion.specs.Expanding.{dictionary_in}
-use Rattle.dx_expansion.specs.Numbering.{HasNumbers}
+use Rattle.dx_texts.specs.Expanding.{dictionary_in}
+use Rattle.dx_texts.specs.Numbering.{HasNumbers}
 use Rattle.dx_expansion.proofs.driver.expand_last.Goals as goal
 
 is_call : (s : Stmt) (c : Call) → s ≡ stmt.Call c → top_text (plain_stmt s) ≡ Some (of_call (plain_call c))

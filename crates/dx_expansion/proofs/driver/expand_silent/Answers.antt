@@ -6,7 +6,8 @@ use Rattle.dx_macros.specs.DictionaryView.{dictionary_of}
 use Rattle.dx_macros.specs.Dictionary.{top_text}
 use Rattle.dx_macros.specs.Expansion.{effects}
 use Rattle.dx_graph.specs.GraphView.{graph_of}
-use Rattle.dx_expansion.proofs.Driving.{last_effects, no_effects}
+use Rattle.dx_texts.proofs.Adding.{no_effects}
+use Rattle.dx_expansion.proofs.Driving.{last_effects}
 use Rattle.dx_expansion.proofs.driver.expand_silent.Goals as goal
 
 pub returns : goal.returns

@@ -3,7 +3,7 @@ use Rattle.dx_ast.specs.Plain.{plain_call}
 use Rattle.dx_macros.specs.Dictionary.{of_call}
 use Rattle.dx_graph.proofs.Sites.{no_steps_lawful}
 use Rattle.dx_expansion.proofs.Driving.{at_top}
-use Rattle.dx_expansion.proofs.Parts.{expr_call}
+use Rattle.dx_texts.proofs.Parts.{expr_call}
 use Rattle.dx_ast.specs.Syntax.{CallOf}
 use Rattle.dx_expansion.proofs.driver.expand_top_call.Goals as goal
 

@@ -10,9 +10,10 @@ use Rattle.dx_graph.specs.Graph.{Graph}
 use Rattle.dx_graph.specs.GraphView.{graph_of}
 use Rattle.dx_graph.specs.Unfolding.{unfolded}
 use Rattle.dx_expansion.specs.Driving.{effects_in}
-use Rattle.dx_expansion.specs.Expanding.{dictionary_in}
+use Rattle.dx_texts.specs.Expanding.{dictionary_in}
 use Rattle.dx_expansion.proofs.Counted.{all_few, same_text_calls}
-use Rattle.dx_expansion.proofs.Driving.{last_effects, no_effects}
+use Rattle.dx_texts.proofs.Adding.{no_effects}
+use Rattle.dx_expansion.proofs.Driving.{last_effects}
 use Rattle.dx_expansion.proofs.Marked.{all_walked, last_walked}
 use Rattle.dx_expansion.proofs.driver.expand_walked.Goals as goal
 

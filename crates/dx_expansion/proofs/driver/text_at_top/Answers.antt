@@ -2,9 +2,9 @@ use Rattle.std.proofs.Common.{ap, refl}
 use Rattle.dx_macros.specs.Expansion.{Scope, under_top}
 use Rattle.dx_graph.specs.Trails.{spot_under}
 use Rattle.dx_graph.specs.GraphView.{graph_of, spots_in}
-use Rattle.dx_expansion.specs.Expanding.{Setting, dictionary_in, top_scope}
+use Rattle.dx_texts.specs.Expanding.{Setting, dictionary_in, top_scope}
 use Rattle.dx_expansion.proofs.Driving.{scope_none}
-use Rattle.dx_expansion.proofs.Parts.{at_top_walked}
+use Rattle.dx_texts.proofs.Parts.{at_top_walked}
 use Rattle.dx_expansion.proofs.driver.text_at_top.Goals as goal
 
 pub returns-clause-setting : goal.returns-clause-setting

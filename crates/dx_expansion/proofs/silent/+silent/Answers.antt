@@ -2,10 +2,10 @@ use Rattle.std.proofs.Common.{◌≡◌, ◌∙◌, ◌+◌, ◌-◌, ℕ, suc, 
 use Rattle.dx_ast.specs.Plain.{plain_expr, plain_call, plain_args, plain_macro, plain_stmt, plain_stmts}
 use Rattle.dx_ast.specs.Syntax as syntax
 use Rattle.dx_macros.proofs.Doing.{stmt_call, stmt_assign}
-use Rattle.dx_expansion.specs.Expanding.{dictionary_in}
+use Rattle.dx_texts.specs.Expanding.{dictionary_in}
 use Rattle.dx_expansion.specs.Silence.{IsSilentExpr, AreSilentArgs, IsSilentCallee, IsSilentStatement, IsSilentBody}
-use Rattle.dx_expansion.proofs.LawfulParts as lawful
-use Rattle.dx_expansion.proofs.Measures as measures
+use Rattle.dx_texts.proofs.LawfulParts as lawful
+use Rattle.dx_texts.proofs.Measures as measures
 use Rattle.dx_expansion.proofs.Silence as silence
 use Rattle.dx_expansion.proofs.silent.+silent.Goals as goal
 

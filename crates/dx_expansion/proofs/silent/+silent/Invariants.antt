@@ -1,9 +1,9 @@
 use Rattle.std.proofs.Common.{◌+◌, ◌*◌, [], drop}
 use Rattle.dx_ast.specs.Plain.{plain_expr, plain_call, plain_args, plain_stmt, plain_stmts}
 use Rattle.dx_macros.specs.Weight.{expr_weight, call_weight, args_weight, statement_weight, body_weight}
-use Rattle.dx_expansion.specs.Expanding.{dictionary_in}
+use Rattle.dx_texts.specs.Expanding.{dictionary_in}
 use Rattle.dx_expansion.specs.Silence.{AreSilentArgs, IsSilentBody}
-use Rattle.dx_expansion.proofs.Measures.{cap}
+use Rattle.dx_texts.proofs.Measures.{cap}
 use Rattle.dx_expansion.proofs.silent.+silent.Given as goal
 
 abbrev pub decreases-is_silent_expr : goal.decreases-is_silent_expr

@@ -3,7 +3,7 @@ use Rattle.dx_macros.specs.DictionaryView.{dictionary_of}
 use Rattle.dx_graph.proofs.Taking.{all_push}
 use Rattle.dx_graph.specs.Operands.{GivenFits}
 use Rattle.dx_flat.proofs.FlatCalls.{flat_step, flat_done}
-use Rattle.dx_expansion.proofs.LawfulParts.{arg_lawful}
+use Rattle.dx_texts.proofs.LawfulParts.{arg_lawful}
 use Rattle.dx_flat.proofs.flat.flat_args.Goals as goal
 
 pub flat_operand-requires : goal.flat_operand-requires

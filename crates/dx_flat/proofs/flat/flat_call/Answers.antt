@@ -17,10 +17,10 @@ use Rattle.dx_macros.specs.Walk.{fault_in, walk_of}
 use Rattle.dx_signatures.specs.Callees.{Callee, CallsFunction}
 use Rattle.dx_signatures.specs.CalleeView.{plain_callee}
 use Rattle.dx_signatures.specs.Faults.{arg_names, fault_of_call}
-use Rattle.dx_expansion.specs.Expanding.{function_call, function_expanded}
+use Rattle.dx_texts.specs.Expanding.{function_call, function_expanded}
 use Rattle.dx_flat.specs.Flat.{AreFlat}
 use Rattle.dx_flat.proofs.FlatCalls.{call_goes, call_effects}
-use Rattle.dx_expansion.proofs.LawfulParts.{call_args, call_cache}
+use Rattle.dx_texts.proofs.LawfulParts.{call_args, call_cache}
 use Rattle.dx_flat.proofs.flat.flat_call.Goals as goal
 
 pub flat_args-requires : goal.flat_args-requires

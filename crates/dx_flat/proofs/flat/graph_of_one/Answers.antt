@@ -5,8 +5,8 @@ use Rattle.dx_graph.specs.GraphView.{graph_of}
 use Rattle.dx_graph.specs.Operands.{GivenFits, given_of}
 use Rattle.dx_macros.specs.Expansion.{effects_among, top_spot}
 use Rattle.dx_macros.specs.Tree.{CallTree}
-use Rattle.dx_expansion.specs.Expanding.{function_call, function_expanded}
-use Rattle.dx_expansion.proofs.Driving.{no_effects}
+use Rattle.dx_texts.specs.Expanding.{function_call, function_expanded}
+use Rattle.dx_texts.proofs.Adding.{no_effects}
 use Rattle.dx_flat.proofs.flat.graph_of_one.Goals as goal
 
 pub call_function-requires-clause-given : goal.call_function-requires-clause-given

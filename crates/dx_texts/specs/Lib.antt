@@ -1,0 +1,3 @@
+pub mod Expanding
+pub mod Marks
+pub mod Numbering
