@@ -28,7 +28,7 @@ use std::alloc::Global;
 ///
 /// # Errors
 ///
-/// `ReadFault`, `WriteFault`, `ExportFault`: only where that device's count of faults rose, which stays with any other answer.
+/// `ReadFault`, `WriteFault`, `ExportFault`: exactly where that device's count of faults rose; with any other answer it stays.
 /// `Memory`: want of memory.
 pub fn perform<F: Files, X: Exports, O: Sink, L: Library>(
     alloc: Global,

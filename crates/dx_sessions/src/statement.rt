@@ -37,7 +37,7 @@ impl Session {
     ///
     /// # Errors
     ///
-    /// `ReadFault`, `WriteFault`, `ExportFault`: only where that device's count of faults rose, which stays with any other answer.
+    /// `ReadFault`, `WriteFault`, `ExportFault`: exactly where that device's count of faults rose; with any other answer it stays.
     /// `Memory`: want of memory.
     /// Executions before the one that was cut short are whole. The session can go on: macros, definitions and the sequence call are
     /// those before the statement, the sequencer stands behind the step that led to that execution, the links are those before it, and
